@@ -3,9 +3,9 @@
 
 pub mod bindings;
 pub mod chord;
+pub mod chord_laws;
 pub mod laws;
+pub mod matcher;
 pub mod names;
 pub mod numbers;
 pub mod press;
-#[cfg(test)]
-mod tests;

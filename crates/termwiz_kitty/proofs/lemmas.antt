@@ -3,4 +3,5 @@ pub mod legacy
 pub mod PortKeys
 pub mod PushedFields
 pub mod read_back
+pub mod SentPresses
 pub mod typed

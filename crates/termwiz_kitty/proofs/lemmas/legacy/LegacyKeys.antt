@@ -61,7 +61,7 @@ abbrev press : KeyCode → ℕ → Press
 press key held = record { key = key; modifiers = record { 0 = held }; modes = xterm_modes }
 
 -- what the port reads back needs no flush, where it doesn't begin a sequence
-is_read : (reading : Reading) (key : KeyCode) (held : ℕ) (text : List ℕ) (more : Bool) → DoesReadBack (press key held) → Sends key held text
+pub is_read : (reading : Reading) (key : KeyCode) (held : ℕ) (text : List ℕ) (more : Bool) → DoesReadBack (press key held) → Sends key held text
     → (more ≡ true → ¬ Contains held_that_wait (key, held)) → IsRead reading text (key_with key held) more
 is_read reading key held text more back sends apart' = record {
   flushed = flushed;

@@ -90,7 +90,7 @@ characters_mean reading text more utf8 none =
     (characters_no_escape (chars text) are) (plain_text_alone (chars text) more are)))
 
 -- one character
-chars_of_one : (c : ℕ) → IsScalar c → chars (encode_utf8 c) ≡ c ∷ []
+pub chars_of_one : (c : ℕ) → IsScalar c → chars (encode_utf8 c) ≡ c ∷ []
 chars_of_one c scalar =
     ap chars (sym (append-nil (encode_utf8 c))) ∙ chars-encodes (c ∷ []) (let is : IsScalar c = scalar in rw is refl)
 

@@ -84,7 +84,7 @@ or_itself : (c : ℕ) (o : Option ℕ) → IsShown c → IsShownOrMissing o → 
 or_itself c None is o = is
 or_itself c (Some d) is o = o
 
-shown_is : (c bits : ℕ) (other : Option ℕ) → IsShown c → IsScalarOrMissing other → IsShown (shown c bits other)
+pub shown_is : (c bits : ℕ) (other : Option ℕ) → IsShown c → IsScalarOrMissing other → IsShown (shown c bits other)
 shown_is c bits other is o = go (is_shifted bits)
   where
     go : (v : Bool) → IsShown (if v then unwrap_or (with_shift c other) c else c)
@@ -148,7 +148,7 @@ by_itself_means reading (Named Backspace) r more is k e =
 by_itself_means reading (Named key) r more is k e = absurd (cc (e))
 by_itself_means reading (Functional n) r more is k e = absurd (cc (e))
 
-by_itself : (at_most text character control bare : Bool) → text ≡ false
+pub by_itself : (at_most text character control bare : Bool) → text ≡ false
     → ((at_most && (text || character)) || (control && bare)) ≡ true → (character || control) ≡ true
 by_itself a t true s b e h = refl
 by_itself a t false true b e h = refl
@@ -181,7 +181,7 @@ typed_by_rule false false true d false sent e = cc (e)
 typed_by_rule false false false true false sent e = cc (e)
 typed_by_rule false false false false false sent e = absurd (other_rule sent e)
 
-types_it : (r : KeyReport) (flags : ℕ) → telling r flags ≡ Typed → types (told_key r flags) r ≡ true
+pub types_it : (r : KeyReport) (flags : ℕ) → telling r flags ≡ Typed → types (told_key r flags) r ≡ true
 unfolding telling
 types_it r flags e =
     (and_parts (types (told_key r flags) r) (not (is_release r.kind))

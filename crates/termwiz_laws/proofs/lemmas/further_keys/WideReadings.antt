@@ -86,7 +86,7 @@ wide_rows c =
     single_bytes ++ alt_letters_rows ++ alt_bracket_rows ++ edit_keys_rows ++ modified_edit_keys_rows
     ++ code_rows c ++ code_rows (c - 32) ++ code_rows 8 ++ code_rows 127
 
-wide_rows_are : (c : ℕ) → c < 128 → AreRows (wide_rows c)
+pub wide_rows_are : (c : ℕ) → c < 128 → AreRows (wide_rows c)
 unfolding rows
 wide_rows_are c small = both_are _ _ (both_are _ _ (both_are _ _ (both_are _ _ (both_are _ _ (both_are _ _
     (both_are _ _ (both_are _ _ single_bytes_are
@@ -118,7 +118,7 @@ zero_key (b ∷ c ∷ []) = if (b == 27) && (c == 0) then Some (with_alt (plain 
 zero_key text = None
 
 -- the one key that a whole text stands for, by these rows, also a byte alone
-abbrev wide_reading : List TableRow → List ℕ → Option KeyEvent
+abbrev pub wide_reading : List TableRow → List ℕ → Option KeyEvent
 wide_reading part text = option_or (reading part text) (option_or (ascii_key text) (zero_key text))
 
 ascii_alone : (text : List ℕ) (k : KeyEvent) → ascii_key text ≡ Some k → Means text false (Key k ∷ []) []
@@ -160,7 +160,7 @@ zero_alone (b ∷ c ∷ []) k e = go ((b == 27) && (c == 0)) refl
         (subst (λ x. Means (27 ∷ x ∷ []) false (Key (with_alt (plain 0)) ∷ []) []) (sym (eqb-true c 0 parts.1))
         (alt_means 0 [] (Character 0) (plain 0) (inl (omega arith)) zero_head refl (encode_ascii 0 (omega arith)))))
 
-wide_means : (part : List TableRow) (text : List ℕ) (k : KeyEvent) → AreRows part → wide_reading part text ≡ Some k
+pub wide_means : (part : List TableRow) (text : List ℕ) (k : KeyEvent) → AreRows part → wide_reading part text ≡ Some k
     → Means text false (Key k ∷ []) []
 wide_means part text k are e = go (reading part text) refl
   where

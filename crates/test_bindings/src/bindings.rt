@@ -1,12 +1,12 @@
 // Each call of bindings that takes memory on its happy path, and what the others answer after it.
 ghost use Rattle.std.specs.Prelude.{◌<◌};
 
-use crate::bindings::{BindError, Bindings};
-use crate::chord::{Chord, MAX_KEYS};
-use crate::press::KeyPress;
 use std::alloc::{AllocError, Global};
 use std::process::Abort;
 use std::test::Fail;
+use termwiz_bindings::bindings::{BindError, Bindings};
+use termwiz_bindings::chord::{Chord, MAX_KEYS};
+use termwiz_bindings::press::KeyPress;
 use termwiz_extended_events::types::ReportedKey;
 use termwiz_keymap::keymap::Found;
 use termwiz_keys::types::KeyCode;

@@ -1,0 +1,17 @@
+pub mod AsciiPresses
+pub mod BeginKey
+pub mod ComputedPresses
+pub mod EncodedKeys
+pub mod KittyPresses
+pub mod KittyReports
+pub mod KittyTyped
+pub mod LegacyReading
+pub mod ModeClasses
+pub mod NamedPresses
+pub mod NewlineEnters
+pub mod OtherCodes
+pub mod OwnTwins
+pub mod PortPresses
+pub mod SameTexts
+pub mod WideCharacters
+pub mod WidePresses

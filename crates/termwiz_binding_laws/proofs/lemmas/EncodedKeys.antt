@@ -1,0 +1,202 @@
+-- Every key is read as the press of its twin: by the key, its modifiers and the modes.
+use Rattle.std.proofs.Common.{◌≡◌, ◌≢◌, ◌∙◌, ◌⊎◌, inl, inr, ⊎_elim, ℕ, ◌≤◌, ◌<◌, Bool, true, false, not, List, [], ◌∷◌, map, Option, Some, refl, sym, subst, arith, Contains, lit<, ◌&&◌, ◌||◌}
+use Rattle.std.specs.List.{list_all}
+use Rattle.std.proofs.lemmas.Bool.{or_cases}
+use Rattle.std.proofs.lemmas.List.Sums.{AllPass-from_list_all}
+use Rattle.std.proofs.lemmas.List.Elements.{All-contains, Contains-append_left, Contains-append_right}
+use Rattle.termwiz_keys.specs.declared.types.KeyCode.{KeyCode}
+use Rattle.termwiz_keys.specs.declared.types.KeyCode.TheVariants.{Char, Backspace, Tab, Enter, Escape, End, Home, LeftArrow, RightArrow, UpArrow, DownArrow, Insert, Delete, PageUp, PageDown, KeyPadHome, KeyPadEnd, KeyPadPageUp, KeyPadPageDown, KeyPadBegin, ApplicationLeftArrow, ApplicationRightArrow, ApplicationUpArrow, ApplicationDownArrow, Function, Numpad0, Numpad1, Numpad2, Numpad3, Numpad4, Numpad5, Numpad6, Numpad7, Numpad8, Numpad9, Decimal}
+use Rattle.termwiz_keys.specs.declared.encode.KeyCodeEncodeModes.{KeyCodeEncodeModes}
+use Rattle.termwiz_keys.specs.Encoding.{enc, key_text, normal_key, named_key, keypad_text, keypad_number_text, keypad_letter_text}
+use Rattle.termwiz_keys.specs.Keys.{SHIFT, CTRL}
+use Rattle.termwiz_keys.specs.KeyCodes.{holds, shifted}
+use Rattle.termwiz_grammar.specs.Table.{numbers}
+use Rattle.termwiz_grammar.proofs.lemmas.lists.ListMembers.{pairs, in_map, in_pairs, same_on}
+use Rattle.termwiz_grammar.proofs.lemmas.read_back.RuleReader.{AreRows, rows_for_are}
+use Rattle.termwiz_laws.proofs.lemmas.further_keys.ComputedReadings.{mode, chars}
+use Rattle.termwiz_laws.proofs.lemmas.further_keys.FurtherReadings.{bits}
+use Rattle.termwiz_laws.proofs.lemmas.further_keys.OtherKeys.{function_range}
+use Rattle.termwiz_laws.proofs.lemmas.further_keys.SingleKey.{among, among_contains}
+use Rattle.termwiz_kitty.proofs.lemmas.PortKeys.{at_number}
+use Rattle.termwiz_binding_laws.specs.Twins.{twin}
+use Rattle.termwiz_binding_laws.specs.EncodedPresses.{any_of_four, IsCovered, is_newline, IsReadAsKey, PressesOfEncodedKeys}
+use Rattle.termwiz_binding_laws.proofs.lemmas.AsciiPresses as ascii
+use Rattle.termwiz_binding_laws.proofs.lemmas.AsciiPresses.{printable}
+use Rattle.termwiz_binding_laws.proofs.lemmas.BeginKey.{begin_is_read}
+use Rattle.termwiz_binding_laws.proofs.lemmas.ComputedPresses.{AllTold, part_of_key}
+use Rattle.termwiz_binding_laws.proofs.lemmas.ModeClasses.{InEveryClass}
+use Rattle.termwiz_binding_laws.proofs.lemmas.NamedPresses as named
+use Rattle.termwiz_binding_laws.proofs.lemmas.NamedPresses.{function_keys, functions, steady_keys, steady, cursor_keys, cursor, coded_keys, coded, enters, with_shift_or_ctrl, without_shift_and_ctrl}
+use Rattle.termwiz_binding_laws.proofs.lemmas.PortPresses.{told_key, told_in_all, rows_of_tab, rows_of_enter, rows_of_escape, rows_of_backspace, rows_of_character}
+use Rattle.termwiz_binding_laws.proofs.lemmas.WidePresses.{wide_is_read}
+
+printable_told : (n : Bool) → InEveryClass (λ m. AllTold m printable) n
+printable_told n = record {
+  xterm_off = λ a. ascii.printable_xterm_off a n;
+  xterm_zero = λ a. ascii.printable_xterm_zero a n;
+  xterm_one = λ a. ascii.printable_xterm_one a n;
+  xterm_two = λ a. ascii.printable_xterm_two a n;
+  csi_off = λ a. ascii.printable_csi_off a n;
+  csi_zero = λ a. ascii.printable_csi_zero a n;
+  csi_one = λ a. ascii.printable_csi_one a n;
+  csi_two = λ a. ascii.printable_csi_two a n;
+}
+
+coded_told : (n : Bool) → InEveryClass (λ m. AllTold m coded) n
+coded_told n = record {
+  xterm_off = λ a. named.coded_xterm_off a n;
+  xterm_zero = λ a. named.coded_xterm_zero a n;
+  xterm_one = λ a. named.coded_xterm_one a n;
+  xterm_two = λ a. named.coded_xterm_two a n;
+  csi_off = λ a. named.coded_csi_off a n;
+  csi_zero = λ a. named.coded_csi_zero a n;
+  csi_one = λ a. named.coded_csi_one a n;
+  csi_two = λ a. named.coded_csi_two a n;
+}
+
+enters_told : InEveryClass (λ m. AllTold m enters) false
+enters_told = record {
+  xterm_off = named.enters_xterm_off;
+  xterm_zero = named.enters_xterm_zero;
+  xterm_one = named.enters_xterm_one;
+  xterm_two = named.enters_xterm_two;
+  csi_off = named.enters_csi_off;
+  csi_zero = named.enters_csi_zero;
+  csi_one = named.enters_csi_one;
+  csi_two = named.enters_csi_two;
+}
+
+-- a set of modifiers is of one of two lists, where a test says so of all
+pub parted : (all xs ys : List ℕ) → list_all (λ n. among xs n || among ys n) all ≡ true → (n : ℕ) → Contains all n
+    → Contains xs n ⊎ Contains ys n
+parted all xs ys test n here = ⊎_elim
+    (λ (a : among xs n ≡ true). inl (among_contains xs n a))
+    (λ (b : among ys n ≡ true). inr (among_contains ys n b))
+    (or_cases (among xs n) (among ys n) (All-contains (λ (m : ℕ). (among xs m || among ys m) ≡ true) all n
+    (AllPass-from_list_all (λ m. among xs m || among ys m) all test) here))
+
+-- Enter that isn't a newline has SHIFT or CTRL, or newline mode is off
+no_newline : (b c : Bool) → c ≡ true → (b && c) ≡ false → b ≡ false
+no_newline true true e f = absurd (cc (f))
+no_newline true false e f = absurd (cc (e))
+no_newline false c e f = refl
+
+plain_sets : map (λ held. not (holds held SHIFT || holds held CTRL)) without_shift_and_ctrl ≡ map (λ held. true) without_shift_and_ctrl
+plain_sets = refl
+
+empty_text : (text : List ℕ) (o : Option (List ℕ)) → o ≡ Some [] → o ≡ Some text → text ≡ []
+empty_text text o a b = (let e : Some text ≡ Some [] = sym b ∙ a in cc (e))
+
+module _ (held : ℕ) (modes : KeyCodeEncodeModes) (text : List ℕ) (here : Contains any_of_four held) where
+  abbrev Sends : KeyCode → Type 0
+  Sends key = enc key (bits held) modes ≡ Some text
+
+  abbrev Read : KeyCode → Type 0
+  Read key = IsReadAsKey text (twin key held modes)
+
+  steady_read : (key : KeyCode) → Contains steady_keys key → AreRows (part_of_key key) → Sends key → Read key
+  steady_read key k are sends =
+      told_key modes steady key held text (named.steady_told _ _ _ _) (in_pairs steady_keys any_of_four key held k here) are sends
+
+  function_read : (n : ℕ) → Sends (Function n) → Read (Function n)
+  function_read n sends =
+      let range = function_range n (bits held) modes text sends in
+      told_key modes functions (Function n) held text (named.functions_told _ _ _ _)
+      (in_pairs function_keys any_of_four (Function n) held
+      (in_map (λ m. Function m) (numbers 1 24) n (at_number 1 24 n range.0 (omega (arith, range.1)))) here)
+      (rows_for_are (Function n)) sends
+
+  cursor_read : (key : KeyCode) → Contains cursor_keys key → AreRows (part_of_key key) → Sends key → Read key
+  cursor_read key k are sends = go modes.application_cursor_keys refl
+    where
+      Told : Bool → Type 0
+      Told a = AllTold (mode modes.encoding a modes.newline_mode modes.modify_other_keys) cursor
+
+      by : Told modes.application_cursor_keys → Read key
+      by test = told_key modes cursor key held text test (in_pairs cursor_keys any_of_four key held k here) are sends
+
+      go : (a : Bool) → modes.application_cursor_keys ≡ a → Read key
+      go true e = by (subst Told (sym e) (named.cursor_on_told _ _ _))
+      go false e = by (subst Told (sym e) (named.cursor_off_told _ _ _))
+
+  coded_read : (key : KeyCode) → Contains coded_keys key → AreRows (part_of_key key) → Sends key → Read key
+  coded_read key k are sends =
+      told_in_all coded modes (coded_told modes.newline_mode) key held text
+      (Contains-append_left (pairs coded_keys any_of_four) (pairs (Enter ∷ []) with_shift_or_ctrl) (key, held)
+      (in_pairs coded_keys any_of_four key held k here)) are sends
+
+  enter_read : is_newline Enter held modes ≡ false → Sends Enter → Read Enter
+  enter_read newline sends = ⊎_elim
+      (λ (a : Contains with_shift_or_ctrl held).
+      told_in_all coded modes (coded_told modes.newline_mode) Enter held text
+      (Contains-append_right (pairs coded_keys any_of_four) (pairs (Enter ∷ []) with_shift_or_ctrl) (Enter, held)
+      (in_pairs (Enter ∷ []) with_shift_or_ctrl Enter held (0, lit< tt, refl) a)) rows_of_enter sends)
+      (λ (b : Contains without_shift_and_ctrl held).
+      told_in_all enters modes (subst (InEveryClass (λ m. AllTold m enters)) (sym (off b)) enters_told) Enter held text
+      (in_pairs (Enter ∷ []) without_shift_and_ctrl Enter held (0, lit< tt, refl) b) rows_of_enter sends)
+      (parted any_of_four with_shift_or_ctrl without_shift_and_ctrl refl held here)
+    where
+      off : Contains without_shift_and_ctrl held → modes.newline_mode ≡ false
+      off b = no_newline modes.newline_mode (not (holds held SHIFT || holds held CTRL))
+          (same_on (λ h. not (holds h SHIFT || holds h CTRL)) (λ h. true) without_shift_and_ctrl held plain_sets b) newline
+
+  character_read : (c : ℕ) → IsCovered (Char c) → Sends (Char c) → Read (Char c)
+  character_read c covered sends = go (below_or_not 128)
+    where
+      below_or_not : (n : ℕ) → (c < n) ⊎ (n ≤ c)
+      below_or_not n = grind arith
+
+      go : (c < 128) ⊎ (128 ≤ c) → Read (Char c)
+      go (inl small) = told_in_all printable modes (printable_told modes.newline_mode) (Char c) held text
+          (in_pairs (chars (numbers 32 95)) any_of_four (Char c) held
+          (in_map (λ d. Char d) (numbers 32 95) c (at_number 32 95 c covered.1 (omega (arith, covered.2)))) here)
+          (rows_of_character c small) sends
+      go (inr high) = wide_is_read c held modes text covered.0 high here sends
+
+  by_key : (key : KeyCode) → IsCovered key → is_newline key held modes ≡ false → Sends key → text ≢ [] → Read key
+  unfolding enc key_text normal_key named_key shifted keypad_text keypad_number_text keypad_letter_text
+  by_key (Char c) covered newline sends some = character_read c covered sends
+  by_key Tab covered newline sends some = coded_read Tab (0, lit< tt, refl) rows_of_tab sends
+  by_key Escape covered newline sends some = coded_read Escape (1, lit< tt, refl) rows_of_escape sends
+  by_key Backspace covered newline sends some = coded_read Backspace (2, lit< tt, refl) rows_of_backspace sends
+  by_key Enter covered newline sends some = enter_read newline sends
+  by_key UpArrow covered newline sends some = cursor_read UpArrow (0, lit< tt, refl) (rows_for_are UpArrow) sends
+  by_key DownArrow covered newline sends some = cursor_read DownArrow (1, lit< tt, refl) (rows_for_are DownArrow) sends
+  by_key RightArrow covered newline sends some = cursor_read RightArrow (2, lit< tt, refl) (rows_for_are RightArrow) sends
+  by_key LeftArrow covered newline sends some = cursor_read LeftArrow (3, lit< tt, refl) (rows_for_are LeftArrow) sends
+  by_key Home covered newline sends some = cursor_read Home (4, lit< tt, refl) (rows_for_are Home) sends
+  by_key End covered newline sends some = cursor_read End (5, lit< tt, refl) (rows_for_are End) sends
+  by_key KeyPadHome covered newline sends some = cursor_read KeyPadHome (6, lit< tt, refl) (rows_for_are KeyPadHome) sends
+  by_key KeyPadEnd covered newline sends some = cursor_read KeyPadEnd (7, lit< tt, refl) (rows_for_are KeyPadEnd) sends
+  by_key ApplicationLeftArrow covered newline sends some =
+      steady_read ApplicationLeftArrow (0, lit< tt, refl) (rows_for_are ApplicationLeftArrow) sends
+  by_key ApplicationRightArrow covered newline sends some =
+      steady_read ApplicationRightArrow (1, lit< tt, refl) (rows_for_are ApplicationRightArrow) sends
+  by_key ApplicationUpArrow covered newline sends some =
+      steady_read ApplicationUpArrow (2, lit< tt, refl) (rows_for_are ApplicationUpArrow) sends
+  by_key ApplicationDownArrow covered newline sends some =
+      steady_read ApplicationDownArrow (3, lit< tt, refl) (rows_for_are ApplicationDownArrow) sends
+  by_key Insert covered newline sends some = steady_read Insert (4, lit< tt, refl) (rows_for_are Insert) sends
+  by_key Delete covered newline sends some = steady_read Delete (5, lit< tt, refl) (rows_for_are Delete) sends
+  by_key PageUp covered newline sends some = steady_read PageUp (6, lit< tt, refl) (rows_for_are PageUp) sends
+  by_key PageDown covered newline sends some = steady_read PageDown (7, lit< tt, refl) (rows_for_are PageDown) sends
+  by_key KeyPadPageUp covered newline sends some = steady_read KeyPadPageUp (8, lit< tt, refl) (rows_for_are KeyPadPageUp) sends
+  by_key KeyPadPageDown covered newline sends some = steady_read KeyPadPageDown (9, lit< tt, refl) (rows_for_are KeyPadPageDown) sends
+  by_key (Function n) covered newline sends some = function_read n sends
+  by_key KeyPadBegin covered newline sends some = begin_is_read held modes text here sends
+  by_key Numpad0 covered newline sends some = absurd covered
+  by_key Numpad1 covered newline sends some = absurd covered
+  by_key Numpad2 covered newline sends some = absurd covered
+  by_key Numpad3 covered newline sends some = absurd covered
+  by_key Numpad4 covered newline sends some = absurd covered
+  by_key Numpad5 covered newline sends some = absurd covered
+  by_key Numpad6 covered newline sends some = absurd covered
+  by_key Numpad7 covered newline sends some = absurd covered
+  by_key Numpad8 covered newline sends some = absurd covered
+  by_key Numpad9 covered newline sends some = absurd covered
+  by_key Decimal covered newline sends some = absurd covered
+  -- nothing is sent for any other key
+  by_key key covered newline sends some = absurd (some (empty_text text (enc key (bits held) modes) (cc) sends))
+
+pub presses_of_encoded_keys : PressesOfEncodedKeys
+presses_of_encoded_keys key held modes text covered here newline sends some = by_key held modes text here key covered newline sends some

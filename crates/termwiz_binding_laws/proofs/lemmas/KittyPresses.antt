@@ -1,0 +1,46 @@
+-- What is written under Kitty's protocol is read as the press of its report.
+use Rattle.std.proofs.Common.{◌≡◌, ◌≢◌, ◌∙◌, ℕ, Bool, true, false, not, List, [], ◌∷◌, Option, Some, refl, sym, ap, subst, ◌&&◌}
+use Rattle.std.specs.Prelude.{option_map, if◌then◌else◌}
+use Rattle.std.proofs.lemmas.Bool.{and_right}
+use Rattle.termwiz_extended_events.specs.declared.types.KeyReport.{KeyReport}
+use Rattle.termwiz_extended_events.specs.declared.types.ExtendedEvent.TheVariants.{Key}
+use Rattle.termwiz_extended_grammar.specs.ExtendedGrammar.{Means}
+use Rattle.termwiz_kitty.specs.Telling.{is_legacy, tells_all_keys, types, reported}
+use Rattle.termwiz_kitty.proofs.lemmas.SentPresses.{Sent, sent}
+use Rattle.termwiz_kitty.proofs.lemmas.SentPresses.Sent.{as_text, as_report}
+use Rattle.termwiz_bindings.specs.declared.press.KeyPress.{KeyPress}
+use Rattle.termwiz_bindings.specs.Presses.{canonical}
+use Rattle.termwiz_binding_laws.specs.KittyPresses.{space_alone, is_sent_as_text, told_of, IsPressed, IsReadWith, IsReadAsTold, KittyTellsPresses, KittyKeepsPresses}
+use Rattle.termwiz_binding_laws.proofs.lemmas.KittyReports.{report_tells, reports_keys, all_told}
+use Rattle.termwiz_binding_laws.proofs.lemmas.KittyTyped.{text_keeps}
+
+-- the key is sent as its report
+not_as_text : (all typed : Bool) → (all ≡ false → typed ≡ false) → (not all && typed) ≡ false
+not_as_text true typed h = refl
+not_as_text false typed h = h refl
+
+-- by what is sent, where the press of a report that isn't a text is known
+read_as_told : (r : KeyReport) (flags : ℕ) (p : Option KeyPress) → IsPressed r → is_legacy flags ≡ false
+    → ((tells_all_keys flags ≡ false → types r.key r ≡ false) → canonical (told_of r flags) ≡ p) → IsReadAsTold r flags p
+read_as_told r flags p is reports tells reading text more kitty writes some within =
+    go (sent reading r flags text more kitty is.report is.kept reports writes some within)
+  where
+    go : Sent reading r flags text more
+        → IsReadWith reading text more (if is_sent_as_text r flags then option_map space_alone (canonical r) else p)
+    go (as_text all typed is_text means) =
+        let kept = text_keeps r is text typed is_text in
+        let told : is_sent_as_text r flags ≡ true = rw (all, typed) refl in
+        (kept.0, subst (λ events. Means reading text more events []) kept.1 means,
+        kept.2 ∙ ap (λ b. if b then option_map space_alone (canonical r) else p) (sym told))
+    go (as_report unless means) =
+        let told : is_sent_as_text r flags ≡ false = not_as_text (tells_all_keys flags) (types r.key r) unless in
+        (Key (reported r flags), means,
+        report_tells r flags is reports ∙ tells unless
+        ∙ ap (λ b. if b then option_map space_alone (canonical r) else p) (sym told))
+
+pub kitty_tells_presses : KittyTellsPresses
+kitty_tells_presses r flags is reports = read_as_told r flags (canonical (told_of r flags)) is reports (λ unless. refl)
+
+pub kitty_keeps_presses : KittyKeepsPresses
+kitty_keeps_presses r flags is asks =
+    read_as_told r flags (canonical r) is (reports_keys flags asks) (λ unless. all_told r flags is asks unless)

@@ -1,0 +1,208 @@
+-- A twin is its own twin.
+use Rattle.std.proofs.Common.{◌≡◌, ◌∙◌, ◌⊎◌, inl, inr, ℕ, ◌≤◌, ◌<◌, Bool, true, false, List, [], ◌∷◌, map, Some, refl, sym, ap, subst, arith, Contains, lit<, ◌&&◌, nat_le, nat_lt}
+use Rattle.std.specs.Char.{IsScalar}
+use Rattle.std.proofs.Math.Utf8.{low_scalar}
+use Rattle.std.proofs.lemmas.Bool.{and_parts, ltb-true, leb-true}
+use Rattle.termwiz_keys.specs.declared.types.KeyCode.{KeyCode}
+use Rattle.termwiz_keys.specs.declared.types.KeyCode.TheVariants.{Char, Backspace, Tab, Enter, Escape}
+use Rattle.termwiz_keys.specs.declared.types.KeyEvent.{KeyEvent}
+use Rattle.termwiz_keys.specs.declared.encode.KeyCodeEncodeModes.{KeyCodeEncodeModes}
+use Rattle.termwiz_keys.specs.Keys.{key_with}
+use Rattle.termwiz_grammar.specs.Table.{numbers}
+use Rattle.termwiz_grammar.proofs.lemmas.lists.ListMembers.{pairs, in_map, in_pairs, same_on}
+use Rattle.termwiz_laws.proofs.lemmas.further_keys.AlikeModes.{Alike}
+use Rattle.termwiz_laws.proofs.lemmas.further_keys.ComputedReadings.{Held, chars}
+use Rattle.termwiz_laws.proofs.lemmas.further_keys.SingleKey.{among, among_contains}
+use Rattle.termwiz_kitty.proofs.lemmas.PortKeys.{at_number}
+use Rattle.termwiz_binding_laws.specs.Twins.{SUPER, dropping, is_on, twin}
+use Rattle.termwiz_binding_laws.specs.EncodedPresses.{any_of_four, IsCovered, IsReadAsPress, IsReadAsKey, IsOwnTwin, TwinsAreTheirOwn, TwinsReadAlike}
+use Rattle.termwiz_binding_laws.proofs.lemmas.AsciiPresses.{printable}
+use Rattle.termwiz_binding_laws.proofs.lemmas.ComputedPresses.{twin_of}
+use Rattle.termwiz_binding_laws.proofs.lemmas.EncodedKeys.{presses_of_encoded_keys}
+use Rattle.termwiz_binding_laws.proofs.lemmas.ModeClasses.{twin_same, InEveryClass, in_all_modes}
+use Rattle.termwiz_binding_laws.proofs.lemmas.WideCharacters.{wide_held, wide_twin_is}
+
+-- the keys that twins of characters and of some named keys may have
+abbrev is_covered : KeyCode → Bool
+is_covered (Char c) = nat_le 32 c && nat_lt c 127
+is_covered Backspace = true
+is_covered Tab = true
+is_covered Enter = true
+is_covered Escape = true
+is_covered key = false
+
+covered_is : (key : KeyCode) → is_covered key ≡ true → IsCovered key
+covered_is (Char c) e =
+    let parts = and_parts (nat_le 32 c) (nat_lt c 127) e in
+    let high = ltb-true c 127 parts.1 in
+    (low_scalar c (omega (arith, high)), leb-true 32 c parts.0, (λ same. omega (arith, high, same)))
+covered_is Backspace e = tt
+covered_is Tab e = tt
+covered_is Enter e = tt
+covered_is Escape e = tt
+covered_is key e = absurd (cc (e))
+
+-- the twin of a twin, and whether the twin is such a key
+abbrev again : KeyCodeEncodeModes → Held → KeyEvent × Bool
+again modes p = (
+  twin (twin_of modes p).key (twin_of modes p).modifiers.0 modes,
+  is_covered (twin_of modes p).key && among any_of_four (twin_of modes p).modifiers.0,
+)
+
+abbrev settled : KeyCodeEncodeModes → Held → KeyEvent × Bool
+settled modes p = (twin_of modes p, true)
+
+abbrev AllOwn : List Held → KeyCodeEncodeModes → Type 0
+AllOwn cases modes = map (again modes) cases ≡ map (settled modes) cases
+
+abbrev named : List Held
+named = pairs (Tab ∷ Enter ∷ Escape ∷ Backspace ∷ []) any_of_four
+
+printable_own : (n : Bool) → InEveryClass (AllOwn printable) n
+unfolding twin numbers
+printable_own n = record {
+  xterm_off = λ a. refl;
+  xterm_zero = λ a. refl;
+  xterm_one = λ a. refl;
+  xterm_two = λ a. refl;
+  csi_off = λ a. refl;
+  csi_zero = λ a. refl;
+  csi_one = λ a. refl;
+  csi_two = λ a. refl;
+}
+
+named_own : (n : Bool) → InEveryClass (AllOwn named) n
+unfolding twin
+named_own n = record {
+  xterm_off = λ a. refl;
+  xterm_zero = λ a. refl;
+  xterm_one = λ a. refl;
+  xterm_two = λ a. refl;
+  csi_off = λ a. refl;
+  csi_zero = λ a. refl;
+  csi_one = λ a. refl;
+  csi_two = λ a. refl;
+}
+
+-- what was computed of a list of keys
+by_list : (cases : List Held) (key : KeyCode) (held : ℕ) (modes : KeyCodeEncodeModes) → Contains cases (key, held) → AllOwn cases modes
+    → IsOwnTwin (twin key held modes) modes
+by_list cases key held modes here test =
+    let both = same_on (again modes) (settled modes) cases (key, held) test here in
+    let k : KeyEvent = twin key held modes in
+    let parts = and_parts (is_covered k.key) (among any_of_four k.modifiers.0) (ap (λ x. x.1) both) in
+    record {
+      covered = covered_is k.key parts.0;
+      set = among_contains any_of_four k.modifiers.0 parts.1;
+      own = ap (λ x. x.0) both;
+    }
+
+own_alike : (key : KeyCode) (held : ℕ) (a b : KeyCodeEncodeModes) → Alike a b → IsOwnTwin (twin key held b) b
+    → IsOwnTwin (twin key held a) a
+own_alike key held a b alike own =
+    let k : KeyEvent = twin key held b in
+    subst (λ j. IsOwnTwin j a) (sym (twin_same a b alike key held))
+    (record { covered = own.covered; set = own.set; own = twin_same a b alike k.key k.modifiers.0 ∙ own.own })
+
+in_modes : (cases : List Held) (key : KeyCode) (held : ℕ) (modes : KeyCodeEncodeModes) → Contains cases (key, held)
+    → InEveryClass (AllOwn cases) modes.newline_mode → IsOwnTwin (twin key held modes) modes
+in_modes cases key held modes here all =
+    in_all_modes (AllOwn cases) (λ m. IsOwnTwin (twin key held m) m) (λ m test. by_list cases key held m here test)
+    (own_alike key held) modes all
+
+-- what a twin beyond ASCII holds
+wide_again_on : map (λ held. wide_held true (wide_held true held)) any_of_four ≡ map (wide_held true) any_of_four
+wide_again_on = refl
+
+wide_again_off : map (λ held. wide_held false (wide_held false held)) any_of_four ≡ map (wide_held false) any_of_four
+wide_again_off = refl
+
+wide_sets_on : map (λ held. among any_of_four (wide_held true held)) any_of_four ≡ map (λ held. true) any_of_four
+wide_sets_on = refl
+
+wide_sets_off : map (λ held. among any_of_four (wide_held false held)) any_of_four ≡ map (λ held. true) any_of_four
+wide_sets_off = refl
+
+-- what a key holds without SUPER
+again_without_super : map (λ held. dropping (dropping held SUPER) SUPER) any_of_four ≡ map (λ held. dropping held SUPER) any_of_four
+again_without_super = refl
+
+sets_without_super : map (λ held. among any_of_four (dropping held SUPER)) any_of_four ≡ map (λ held. true) any_of_four
+sets_without_super = refl
+
+wide_own : (c held : ℕ) (modes : KeyCodeEncodeModes) → IsScalar c → 128 ≤ c → Contains any_of_four held
+    → IsOwnTwin (twin (Char c) held modes) modes
+wide_own c held modes scalar high here = go (is_on modes) refl
+  where
+    at : (on : Bool) → is_on modes ≡ on → wide_held on (wide_held on held) ≡ wide_held on held
+        → among any_of_four (wide_held on held) ≡ true → IsOwnTwin (twin (Char c) held modes) modes
+    at on e same set =
+        let k : twin (Char c) held modes ≡ key_with (Char c) (wide_held on held) =
+        wide_twin_is c held modes high ∙ ap (λ o. key_with (Char c) (wide_held o held)) e in
+        subst (λ j. IsOwnTwin j modes) (sym k) (record {
+          covered = (scalar, omega arith, (λ del. omega arith));
+          set = among_contains any_of_four (wide_held on held) set;
+          own = wide_twin_is c (wide_held on held) modes high ∙ ap (λ o. key_with (Char c) (wide_held o (wide_held on held))) e
+              ∙ ap (λ h. key_with (Char c) h) same;
+        })
+
+    go : (b : Bool) → is_on modes ≡ b → IsOwnTwin (twin (Char c) held modes) modes
+    go true e = at true e (same_on (λ h. wide_held true (wide_held true h)) (wide_held true) any_of_four held wide_again_on here)
+        (same_on (λ h. among any_of_four (wide_held true h)) (λ h. true) any_of_four held wide_sets_on here)
+    go false e = at false e (same_on (λ h. wide_held false (wide_held false h)) (wide_held false) any_of_four held wide_again_off here)
+        (same_on (λ h. among any_of_four (wide_held false h)) (λ h. true) any_of_four held wide_sets_off here)
+
+character_own : (c held : ℕ) (modes : KeyCodeEncodeModes) → IsCovered (Char c) → Contains any_of_four held
+    → IsOwnTwin (twin (Char c) held modes) modes
+character_own c held modes covered here = go (below_or_not 128)
+  where
+    below_or_not : (n : ℕ) → (c < n) ⊎ (n ≤ c)
+    below_or_not n = grind arith
+
+    go : (c < 128) ⊎ (128 ≤ c) → IsOwnTwin (twin (Char c) held modes) modes
+    go (inl small) = in_modes printable (Char c) held modes
+        (in_pairs (chars (numbers 32 95)) any_of_four (Char c) held
+        (in_map (λ d. Char d) (numbers 32 95) c (at_number 32 95 c covered.1 (omega (arith, covered.2)))) here)
+        (printable_own modes.newline_mode)
+    go (inr high) = wide_own c held modes covered.0 high here
+
+-- a key whose twin loses SUPER alone
+steady_own : (key : KeyCode) (held : ℕ) (modes : KeyCodeEncodeModes) → IsCovered key → Contains any_of_four held
+    → ((h : ℕ) → twin key h modes ≡ key_with key (dropping h SUPER)) → IsOwnTwin (twin key held modes) modes
+steady_own key held modes covered here loses =
+    subst (λ k. IsOwnTwin k modes) (sym (loses held)) (record {
+      covered = covered;
+      set = among_contains any_of_four (dropping held SUPER)
+          (same_on (λ h. among any_of_four (dropping h SUPER)) (λ h. true) any_of_four held sets_without_super here);
+      own = loses (dropping held SUPER) ∙ ap (λ h. key_with key h)
+          (same_on (λ h. dropping (dropping h SUPER) SUPER) (λ h. dropping h SUPER) any_of_four held again_without_super here);
+    })
+
+pub twins_are_their_own : TwinsAreTheirOwn
+unfolding twin
+twins_are_their_own (Char c) held modes covered here = character_own c held modes covered here
+twins_are_their_own Tab held modes covered here =
+    in_modes named Tab held modes (in_pairs (Tab ∷ Enter ∷ Escape ∷ Backspace ∷ []) any_of_four Tab held (0, lit< tt, refl) here)
+    (named_own modes.newline_mode)
+twins_are_their_own Enter held modes covered here =
+    in_modes named Enter held modes (in_pairs (Tab ∷ Enter ∷ Escape ∷ Backspace ∷ []) any_of_four Enter held (1, lit< tt, refl) here)
+    (named_own modes.newline_mode)
+twins_are_their_own Escape held modes covered here =
+    in_modes named Escape held modes (in_pairs (Tab ∷ Enter ∷ Escape ∷ Backspace ∷ []) any_of_four Escape held (2, lit< tt, refl) here)
+    (named_own modes.newline_mode)
+twins_are_their_own Backspace held modes covered here =
+    in_modes named Backspace held modes
+    (in_pairs (Tab ∷ Enter ∷ Escape ∷ Backspace ∷ []) any_of_four Backspace held (3, lit< tt, refl) here)
+    (named_own modes.newline_mode)
+twins_are_their_own key held modes covered here = steady_own key held modes covered here (λ h. refl)
+
+pub twins_read_alike : TwinsReadAlike
+twins_read_alike key held modes text other covered here newline twin_newline sends sends_too some some_too =
+    let k : KeyEvent = twin key held modes in
+    let own = twins_are_their_own key held modes covered here in
+    let one = presses_of_encoded_keys key held modes text covered here newline sends some in
+    let too = subst (λ j. IsReadAsKey other j) own.own
+    (presses_of_encoded_keys k.key k.modifiers.0 modes other own.covered own.set twin_newline sends_too some_too) in
+    let e : Some too.0 ≡ Some one.0 = sym too.1 ∙ one.1 in
+    let same : too.0 ≡ one.0 = cc (e) in
+    (one.0, one.2, subst (λ p. IsReadAsPress other p) same too.2)

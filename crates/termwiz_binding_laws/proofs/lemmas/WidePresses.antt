@@ -1,0 +1,156 @@
+-- Characters beyond ASCII are read as the presses of their twins.
+use Rattle.std.proofs.Common.{◌≡◌, ◌∙◌, ℕ, ◌+◌, ◌-◌, ◌≤◌, Bool, true, false, List, [], ◌∷◌, ◌++◌, map, Some, refl, sym, ap, subst, arith, Contains, ◌==◌, bit_and, decimal}
+use Rattle.std.specs.Prelude.{if◌then◌else◌}
+use Rattle.std.specs.Char.{IsScalar, encode_utf8}
+use Rattle.std.proofs.lemmas.Bool.{eqb-true}
+use Rattle.termwiz_base.specs.Modifiers.{xterm_number}
+use Rattle.termwiz_keys.specs.declared.types.KeyCode.TheVariants.{Char}
+use Rattle.termwiz_keys.specs.declared.types.InputEvent.TheVariants as input
+use Rattle.termwiz_keys.specs.declared.encode.KeyCodeEncodeModes.{KeyCodeEncodeModes}
+use Rattle.termwiz_keys.specs.Encoding.{enc, sideless, escape_if_alt, other_keys_form}
+use Rattle.termwiz_keys.specs.Introducers.{ESC}
+use Rattle.termwiz_keys.specs.Keys.{NONE, ALT, key_with}
+use Rattle.termwiz_keys.specs.KeyCodes.{holds}
+use Rattle.termwiz_grammar.specs.Grammar as port
+use Rattle.termwiz_grammar.proofs.lemmas.lists.ListMembers.{same_on}
+use Rattle.termwiz_grammar.proofs.lemmas.read_back.WholeTexts.{char_means}
+use Rattle.termwiz_laws.specs.FurtherKeys.ReadsBackToo.{alt_beyond_ascii}
+use Rattle.termwiz_laws.proofs.lemmas.further_keys.FurtherReadings.{bits, further_keys_read_back}
+use Rattle.termwiz_laws.proofs.lemmas.further_keys.OtherKeys.{on_false}
+use Rattle.termwiz_extended_events.specs.declared.types.ExtendedEvent.{ExtendedEvent}
+use Rattle.termwiz_extended_events.specs.declared.types.ExtendedEvent.TheVariants.{Input, Key}
+use Rattle.termwiz_extended_events.specs.declared.types.KeyEventKind.TheVariants.{Press}
+use Rattle.termwiz_extended_events.specs.declared.types.ReportedKey.TheVariants.{Named}
+use Rattle.termwiz_extended_events.specs.KeyReports.{report_of}
+use Rattle.termwiz_extended_grammar.specs.ExtendedGrammar.{Means}
+use Rattle.termwiz_kitty.proofs.lemmas.read_back.SequenceForms.{written}
+use Rattle.termwiz_bindings.specs.Presses.{kitty_bits, character_press, without_shift, all_but_locks}
+use Rattle.termwiz_binding_laws.specs.Twins.{is_on, twin}
+use Rattle.termwiz_binding_laws.specs.EncodedPresses.{at_first, any_of_four, press_of_key, press_of_event, IsReadAsKey}
+use Rattle.termwiz_binding_laws.proofs.lemmas.BeginKey.{small_number}
+use Rattle.termwiz_binding_laws.proofs.lemmas.LegacyReading.{port_key_read}
+use Rattle.termwiz_binding_laws.proofs.lemmas.OtherCodes.{form_is, code_means}
+use Rattle.termwiz_binding_laws.proofs.lemmas.WideCharacters.{wide_press, wide_held, wide_twin_is, sent_alone, sent_by_code, sent_plainly}
+
+-- what the port reads of the modifiers: ALT alone
+abbrev read_bits : ℕ → ℕ
+read_bits held = if holds held ALT then ALT else NONE
+
+-- the modifiers of the presses
+abbrev told_bits : ℕ → ℕ
+told_bits bits' = without_shift (bit_and bits' all_but_locks)
+
+abbrev twin_bits : Bool → ℕ → ℕ
+twin_bits on held = told_bits (kitty_bits (wide_held on held))
+
+bits_plain : map (λ held. told_bits (xterm_number (read_bits held))) any_of_four ≡ map (twin_bits false) any_of_four
+unfolding kitty_bits
+bits_plain = refl
+
+bits_by_code : map (λ held. told_bits (xterm_number held)) any_of_four ≡ map (twin_bits true) any_of_four
+unfolding kitty_bits
+bits_by_code = refl
+
+no_bits_on : told_bits (xterm_number NONE) ≡ twin_bits true NONE
+unfolding kitty_bits
+no_bits_on = refl
+
+no_bits_off : told_bits (xterm_number NONE) ≡ twin_bits false NONE
+unfolding kitty_bits
+no_bits_off = refl
+
+no_sides : map sideless any_of_four ≡ map (λ held. held) any_of_four
+no_sides = refl
+
+module _ (c held : ℕ) (modes : KeyCodeEncodeModes) (text : List ℕ) (scalar : IsScalar c) (high : 128 ≤ c)
+    (here : Contains any_of_four held) (sends : enc (Char c) (bits held) modes ≡ Some text) where
+  sides : sideless held ≡ held
+  sides = same_on sideless (λ h. h) any_of_four held no_sides here
+
+  -- the press of the twin
+  twin_press : (on : Bool) → is_on modes ≡ on → press_of_key (twin (Char c) held modes) ≡ Some (character_press c (twin_bits on held))
+  twin_press on e =
+      ap press_of_key (wide_twin_is c held modes high)
+      ∙ wide_press c (kitty_bits (wide_held (is_on modes) held)) high
+      ∙ ap (λ o. Some (character_press c (twin_bits o held))) e
+
+  -- an event of this press, which is the whole text
+  read_as : (on : Bool) (t : List ℕ) (event : ExtendedEvent) → is_on modes ≡ on → enc (Char c) (bits held) modes ≡ Some t
+      → Means at_first t false (event ∷ []) [] → press_of_event event ≡ Some (character_press c (twin_bits on held))
+      → IsReadAsKey text (twin (Char c) held modes)
+  read_as on t event e sent means is =
+      let same : t ≡ text = (let s : Some t ≡ Some text = sym sent ∙ sends in cc (s)) in (
+        character_press c (twin_bits on held),
+        twin_press on e,
+        (event, subst (λ u. Means at_first u false (event ∷ []) []) same means, is),
+      )
+
+  -- a key of the port
+  by_port : (on : Bool) (t : List ℕ) (k : ℕ) → is_on modes ≡ on → enc (Char c) (bits held) modes ≡ Some t
+      → port.Means t false (input.Key (key_with (Char c) k) ∷ []) [] → told_bits (xterm_number k) ≡ twin_bits on held
+      → IsReadAsKey text (twin (Char c) held modes)
+  by_port on t k e sent means same =
+      read_as on t (Input (input.Key (key_with (Char c) k))) e sent (port_key_read t (key_with (Char c) k) means)
+      (wide_press c (xterm_number k) high ∙ ap (λ n. Some (character_press c n)) same)
+
+  plain_means : port.Means (encode_utf8 c) false (input.Key (key_with (Char c) NONE) ∷ []) []
+  plain_means = char_means c scalar (omega arith) (λ e. omega arith)
+
+  alone : held ≡ NONE → IsReadAsKey text (twin (Char c) held modes)
+  alone none = go (is_on modes) refl
+    where
+      sent : enc (Char c) (bits held) modes ≡ Some (encode_utf8 c)
+      sent = subst (λ h. enc (Char c) (bits h) modes ≡ Some (encode_utf8 c)) (sym none) (sent_alone c modes high)
+
+      go : (b : Bool) → is_on modes ≡ b → IsReadAsKey text (twin (Char c) held modes)
+      go true e = by_port true (encode_utf8 c) NONE e sent plain_means
+          (subst (λ h. told_bits (xterm_number NONE) ≡ twin_bits true h) (sym none) no_bits_on)
+      go false e = by_port false (encode_utf8 c) NONE e sent plain_means
+          (subst (λ h. told_bits (xterm_number NONE) ≡ twin_bits false h) (sym none) no_bits_off)
+
+  by_code : (held == 0) ≡ false → is_on modes ≡ true → IsReadAsKey text (twin (Char c) held modes)
+  by_code some on =
+      let small = small_number held here in
+      let means = code_means (1 + xterm_number held) c (omega arith) (omega arith) high scalar in
+      read_as true (other_keys_form c held) (Key (report_of (Named (Char c)) (record { modifiers = xterm_number held; kind = Press })))
+      on (sent_by_code c held modes high sides some on)
+      (subst (λ t. Means at_first t false (Key (report_of (Named (Char c)) (record { modifiers = xterm_number held; kind = Press })) ∷ []) [])
+      (sym (form_is c held (omega arith)))
+      (subst (λ n. Means at_first (written (50 ∷ 55 ∷ 59 ∷ (48 + (1 + xterm_number held)) ∷ 59 ∷ decimal c) 126) false
+      (Key (report_of (Named (Char c)) (record { modifiers = n; kind = Press })) ∷ []) [])
+      (let e : 1 + xterm_number held - 1 ≡ xterm_number held = omega arith in e) means))
+      (wide_press c (xterm_number held) high
+      ∙ ap (λ n. Some (character_press c n)) (same_on (λ h. told_bits (xterm_number h)) (twin_bits true) any_of_four held bits_by_code here))
+
+  plainly : (held == 0) ≡ false → is_on modes ≡ false → IsReadAsKey text (twin (Char c) held modes)
+  plainly some off = go (holds held ALT) refl
+    where
+      sent : enc (Char c) (bits held) modes ≡ Some (escape_if_alt held ++ encode_utf8 c)
+      sent = sent_plainly c held modes high sides some off
+
+      same : told_bits (xterm_number (read_bits held)) ≡ twin_bits false held
+      same = same_on (λ h. told_bits (xterm_number (read_bits h))) (twin_bits false) any_of_four held bits_plain here
+
+      escaped : port.Means (ESC ++ encode_utf8 c) false (input.Key (key_with (Char c) ALT) ∷ []) []
+      escaped =
+          let back = further_keys_read_back (Char c) (bits ALT) modes
+          (alt_beyond_ascii c modes (on_false modes.modify_other_keys off) scalar high) in
+          let e : Some back.0 ≡ Some (ESC ++ encode_utf8 c) = sym back.1 ∙ sent_plainly c ALT modes high refl refl off in
+          let t : back.0 ≡ ESC ++ encode_utf8 c = cc (e) in
+          subst (λ u. port.Means u false (input.Key (key_with (Char c) ALT) ∷ []) []) t back.2
+
+      go : (b : Bool) → holds held ALT ≡ b → IsReadAsKey text (twin (Char c) held modes)
+      go true alt = by_port false (ESC ++ encode_utf8 c) ALT off
+          (sent ∙ ap (λ (b : Bool). Some ((if b then ESC else []) ++ encode_utf8 c)) alt) escaped
+          (sym (ap (λ (b : Bool). told_bits (xterm_number (if b then ALT else NONE))) alt) ∙ same)
+      go false none = by_port false (encode_utf8 c) NONE off
+          (sent ∙ ap (λ (b : Bool). Some ((if b then ESC else []) ++ encode_utf8 c)) none) plain_means
+          (sym (ap (λ (b : Bool). told_bits (xterm_number (if b then ALT else NONE))) none) ∙ same)
+
+  pub wide_is_read : IsReadAsKey text (twin (Char c) held modes)
+  wide_is_read = go (held == 0) refl (is_on modes) refl
+    where
+      go : (b : Bool) → (held == 0) ≡ b → (o : Bool) → is_on modes ≡ o → IsReadAsKey text (twin (Char c) held modes)
+      go true e o on = alone (eqb-true held 0 e)
+      go false e true on = by_code e on
+      go false e false off = plainly e off

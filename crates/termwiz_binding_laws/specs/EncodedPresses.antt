@@ -1,0 +1,112 @@
+-- What is read of the texts of keys, as presses.
+use Rattle.std.specs.Prelude.{◌≡◌, ◌≢◌, ⊤, ◌+◌, ◌≤◌, ℕ, Bool, true, false, not, ◌&&◌, ◌||◌, List, [], ◌∷◌, ◌++◌, map, Option, Some, option_and_then, Contains}
+use Rattle.std.specs.Char.{IsScalar}
+use Rattle.termwiz_keys.specs.declared.types.KeyCode.{KeyCode}
+use Rattle.termwiz_keys.specs.declared.types.KeyCode.TheVariants.{Char, Backspace, Tab, Enter, Numpad0, Numpad1, Numpad2, Numpad3, Numpad4, Numpad5, Numpad6, Numpad7, Numpad8, Numpad9, Decimal}
+use Rattle.termwiz_keys.specs.declared.types.KeyEvent.{KeyEvent}
+use Rattle.termwiz_keys.specs.declared.types.InputEvent.TheVariants as input
+use Rattle.termwiz_keys.specs.declared.encode.KeyCodeEncodeModes.{KeyCodeEncodeModes}
+use Rattle.termwiz_keys.specs.Encoding.{enc}
+use Rattle.termwiz_keys.specs.Keys.{NONE, SHIFT, CTRL, key_with}
+use Rattle.termwiz_keys.specs.KeyCodes.{holds}
+use Rattle.termwiz_grammar.specs.Listed.{any_of_three}
+use Rattle.termwiz_extended_events.specs.declared.types.ExtendedEvent.{ExtendedEvent}
+use Rattle.termwiz_extended_events.specs.declared.types.ExtendedEvent.TheVariants.{Input}
+use Rattle.termwiz_extended_events.specs.declared.types.Protocol.TheVariants.{Legacy}
+use Rattle.termwiz_extended_events.specs.declared.types.Reading.{Reading}
+use Rattle.termwiz_extended_events.specs.EventKeys.{key_of_event}
+use Rattle.termwiz_extended_grammar.specs.ExtendedGrammar.{Means}
+use Rattle.termwiz_extended_grammar.specs.Readings.{first_reading}
+use Rattle.termwiz_bindings.specs.declared.press.KeyPress.{KeyPress}
+use Rattle.termwiz_bindings.specs.Presses.{canonical, event_report}
+use Rattle.termwiz_binding_laws.specs.Twins.{SUPER, only_alt, twin}
+
+-- a parser as it begins, before Kitty's protocol: X10 mouse reports aren't read, and no question is open
+abbrev pub at_first : Reading
+at_first = first_reading Legacy
+
+-- the press of a key event
+abbrev pub press_of_key : KeyEvent → Option KeyPress
+press_of_key k = canonical (event_report k)
+
+-- the press of an event, if it is a key that has one
+abbrev pub press_of_event : ExtendedEvent → Option KeyPress
+press_of_event event = option_and_then canonical (key_of_event event)
+
+-- With no more to come, the text is one event, a key with this press, and nothing waits.
+abbrev pub IsReadAsPress : List ℕ → KeyPress → Type 0
+IsReadAsPress text p = (event : ExtendedEvent) × Means at_first text false (event ∷ []) [] × (press_of_event event ≡ Some p)
+
+-- the text is read as one key, whose press is that of this key
+abbrev pub IsReadAsKey : List ℕ → KeyEvent → Type 0
+IsReadAsKey text k = (p : KeyPress) × (press_of_key k ≡ Some p) × IsReadAsPress text p
+
+-- the sets of SHIFT, ALT, CTRL and SUPER
+abbrev pub any_of_four : List ℕ
+any_of_four = any_of_three ++ map (λ held. held + SUPER) any_of_three
+
+-- The keys that the laws speak of: any but the keys of the keypad that are sent as keys of the editing block, and control characters of ASCII.
+abbrev pub IsCovered : KeyCode → Type 0
+IsCovered (Char c) = IsScalar c × (32 ≤ c) × (c ≢ 127)
+IsCovered Numpad0 = ⊥
+IsCovered Numpad1 = ⊥
+IsCovered Numpad2 = ⊥
+IsCovered Numpad3 = ⊥
+IsCovered Numpad4 = ⊥
+IsCovered Numpad5 = ⊥
+IsCovered Numpad6 = ⊥
+IsCovered Numpad7 = ⊥
+IsCovered Numpad8 = ⊥
+IsCovered Numpad9 = ⊥
+IsCovered Decimal = ⊥
+IsCovered key = ⊤
+
+-- Enter in newline mode, without SHIFT and CTRL: it sends a carriage return and a line feed
+abbrev pub is_newline : KeyCode → ℕ → KeyCodeEncodeModes → Bool
+is_newline Enter held modes = modes.newline_mode && not (holds held SHIFT || holds held CTRL)
+is_newline key held modes = false
+
+-- What a key sends is read as one key, which has the press of its twin.
+abbrev pub PressesOfEncodedKeys : Type 0
+PressesOfEncodedKeys = (key : KeyCode) (held : ℕ) (modes : KeyCodeEncodeModes) (text : List ℕ) → IsCovered key → Contains any_of_four held
+    → is_newline key held modes ≡ false → enc key (record { 0 = held }) modes ≡ Some text → text ≢ []
+    → IsReadAsKey text (twin key held modes)
+
+-- Enter in newline mode is read as Enter twice, the second time without ALT.
+abbrev pub NewlinesAreTwoEnters : Type 0
+NewlinesAreTwoEnters = (held : ℕ) (modes : KeyCodeEncodeModes) (text : List ℕ) → Contains any_of_four held
+    → is_newline Enter held modes ≡ true → enc Enter (record { 0 = held }) modes ≡ Some text
+    → Means at_first text false (Input (input.Key (key_with Enter (only_alt held))) ∷ Input (input.Key (key_with Enter NONE)) ∷ []) []
+
+-- A key that the laws speak of, with such modifiers, that is its own twin.
+pub record IsOwnTwin (k : KeyEvent) (modes : KeyCodeEncodeModes) : Type 0 where
+  pub covered : IsCovered k.key
+  pub set : Contains any_of_four k.modifiers.0
+  pub own : twin k.key k.modifiers.0 modes ≡ k
+
+-- Every twin is such a key.
+abbrev pub TwinsAreTheirOwn : Type 0
+TwinsAreTheirOwn = (key : KeyCode) (held : ℕ) (modes : KeyCodeEncodeModes) → IsCovered key → Contains any_of_four held
+    → IsOwnTwin (twin key held modes) modes
+
+-- What a key sends and what its twin sends are read as the same press, where neither is a newline.
+abbrev pub TwinsReadAlike : Type 0
+TwinsReadAlike = (key : KeyCode) (held : ℕ) (modes : KeyCodeEncodeModes) (text other : List ℕ) → IsCovered key → Contains any_of_four held
+    → is_newline key held modes ≡ false
+    → is_newline (twin key held modes).key (twin key held modes).modifiers.0 modes ≡ false
+    → enc key (record { 0 = held }) modes ≡ Some text
+    → enc (twin key held modes).key (twin key held modes).modifiers modes ≡ Some other
+    → text ≢ [] → other ≢ [] → (p : KeyPress) × IsReadAsPress text p × IsReadAsPress other p
+
+-- keys that are sent in more than one way: backspace as 127 and 8, Enter as 13 and 10, Tab as its byte and, with ALT, by its code
+abbrev pub has_more_texts : KeyCode → Bool
+has_more_texts Backspace = true
+has_more_texts Enter = true
+has_more_texts Tab = true
+has_more_texts key = false
+
+-- Without SUPER a key sends the very bytes of its twin, but where that is Backspace, Enter or Tab.
+abbrev pub TwinsSendTheSame : Type 0
+TwinsSendTheSame = (key : KeyCode) (held : ℕ) (modes : KeyCodeEncodeModes) → IsCovered key → Contains any_of_three held
+    → has_more_texts (twin key held modes).key ≡ false
+    → enc (twin key held modes).key (twin key held modes).modifiers modes ≡ enc key (record { 0 = held }) modes

@@ -1,0 +1,3 @@
+pub mod EncodedPresses
+pub mod KittyPresses
+pub mod Twins

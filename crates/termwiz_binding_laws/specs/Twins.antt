@@ -1,0 +1,129 @@
+-- Keys that a terminal's text doesn't tell apart: what is read in place of a key with modifiers. Each such key is its twin.
+use Rattle.std.specs.Prelude.{◌==◌, ◌&&◌, ◌||◌, ℕ, Bool, not, List, [], ◌∷◌, Option, option_map, unwrap_or, is_some, codes, bit_and, bit_or, nat_le, if◌then◌else◌}
+use Rattle.std.specs.Char.{is_ascii_uppercase, is_ascii_lowercase, to_ascii_lowercase}
+use Rattle.std.specs.List.{find, list_any}
+use Rattle.bitflags.specs.Sets.{without}
+use Rattle.termwiz_keys.specs.declared.types.KeyCode.{KeyCode}
+use Rattle.termwiz_keys.specs.declared.types.KeyCode.TheVariants.{Char, Backspace, Tab, Enter, Escape}
+use Rattle.termwiz_keys.specs.declared.types.KeyEvent.{KeyEvent}
+use Rattle.termwiz_keys.specs.declared.encode.KeyCodeEncodeModes.{KeyCodeEncodeModes}
+use Rattle.termwiz_keys.specs.Encoding.{is_csi_u, is_level}
+use Rattle.termwiz_keys.specs.Keys.{NONE, SHIFT, ALT, CTRL, key_with}
+use Rattle.termwiz_keys.specs.KeyCodes.{holds}
+
+-- the bit of SUPER
+abbrev pub SUPER : ℕ
+SUPER = 16
+
+-- the modifiers without one of them, and ALT alone of them
+abbrev pub dropping : ℕ → ℕ → ℕ
+dropping held flag = without 16 held flag
+
+abbrev pub only_alt : ℕ → ℕ
+only_alt held = bit_and held ALT
+
+-- characters are sent in the form of CSI u
+abbrev pub in_csi_u : KeyCodeEncodeModes → Bool
+in_csi_u modes = is_csi_u modes.encoding
+
+-- modifyOtherKeys is on, and on at this level
+abbrev pub is_on : KeyCodeEncodeModes → Bool
+is_on modes = is_some modes.modify_other_keys
+
+abbrev pub at_level : KeyCodeEncodeModes → ℕ → Bool
+at_level modes n = is_level modes.modify_other_keys n
+
+-- most keys are told by their codes, with their modifiers
+abbrev pub tells_codes : KeyCodeEncodeModes → Bool
+tells_codes modes = in_csi_u modes || is_on modes
+
+-- the character is one of these
+abbrev pub is_among : List ℕ → ℕ → Bool
+is_among characters c = list_any (λ d. d == c) characters
+
+-- What is read in place of CTRL and a character: in each row the characters, and the key that is read, with its modifiers. The space is
+-- 32, and 92 to 95 are the backslash, ], ^ and _.
+abbrev pub control_rows : List (List ℕ × (KeyCode × ℕ))
+control_rows =
+    (codes "h8?", (Backspace, NONE)) ∷ (codes "i", (Tab, NONE)) ∷ (codes "jm", (Enter, NONE)) ∷ (codes "[3{", (Escape, NONE))
+    ∷ (codes "@2`", (Char 32, CTRL)) ∷ (codes "4|", (Char 92, CTRL)) ∷ (codes "5}", (Char 93, CTRL))
+    ∷ (codes "6~", (Char 94, CTRL)) ∷ (codes "7/", (Char 95, CTRL)) ∷ []
+
+-- the key of the character's row
+abbrev pub control_row : ℕ → Option (KeyCode × ℕ)
+control_row c = option_map (λ row. row.1) (find (λ row. is_among row.0 c) control_rows)
+
+-- those that the form of CSI u tells from the key of their row
+abbrev pub told_in_csi_u : List ℕ
+told_in_csi_u = codes "im[@{"
+
+-- CTRL and this character are what a control character is read as
+abbrev pub has_control : ℕ → Bool
+has_control c = is_ascii_lowercase c || is_among (32 ∷ 92 ∷ codes "]^_") c
+
+-- CTRL and a character that has no row: a control character tells it, or its code, which isn't sent where ALT is held too. Else CTRL is lost.
+abbrev pub unpaired_twin : ℕ → ℕ → KeyCodeEncodeModes → KeyEvent
+unpaired_twin c held modes =
+    if has_control c || (tells_codes modes && not (holds held ALT)) then key_with (Char c) held
+    else key_with (Char c) (only_alt held)
+
+-- the key of a row, with ALT too if that is held
+abbrev pub row_twin : ℕ → KeyCode × ℕ → KeyEvent
+row_twin held row = key_with row.0 (bit_or row.1 (only_alt held))
+
+-- CTRL and a character of ASCII that isn't a capital letter
+abbrev pub control_twin : ℕ → ℕ → KeyCodeEncodeModes → KeyEvent
+control_twin c held modes =
+    if in_csi_u modes && is_among told_in_csi_u c then key_with (Char c) held
+    else unwrap_or (option_map (row_twin held) (control_row c)) (unpaired_twin c held modes)
+
+-- a letter is a capital, or SHIFT makes it one
+abbrev pub is_capital : ℕ → ℕ → Bool
+is_capital c held = is_ascii_uppercase c || (is_ascii_lowercase c && holds held SHIFT)
+
+-- CTRL and a character of ASCII. At level 2 all are told. A capital letter is read as the small one, and the space loses SHIFT.
+abbrev pub ascii_twin : ℕ → ℕ → KeyCodeEncodeModes → KeyEvent
+ascii_twin c held modes =
+    if at_level modes 2 then key_with (Char c) held
+    else (if is_capital c held && tells_codes modes then key_with (Char c) held
+    else (if is_capital c held then control_twin (to_ascii_lowercase c) (dropping held SHIFT) modes
+    else (if c == 32 then key_with (Char c) (dropping held SHIFT)
+    else control_twin c held modes)))
+
+-- CTRL and a character beyond ASCII: only its code tells of CTRL
+abbrev pub wide_twin : ℕ → ℕ → KeyCodeEncodeModes → KeyEvent
+wide_twin c held modes = if is_on modes then key_with (Char c) held else key_with (Char c) (dropping held CTRL)
+
+-- a character without CTRL: only its code tells the space with SHIFT from the space
+abbrev pub typed_twin : ℕ → ℕ → KeyCodeEncodeModes → KeyEvent
+typed_twin c held modes =
+    if (c == 32) && not (tells_codes modes) then key_with (Char c) (dropping held SHIFT) else key_with (Char c) held
+
+-- a character
+abbrev pub character_twin : ℕ → ℕ → KeyCodeEncodeModes → KeyEvent
+character_twin c held modes =
+    if not (holds held CTRL) then typed_twin c held modes
+    else (if nat_le 128 c then wide_twin c held modes
+    else ascii_twin c held modes)
+
+-- SHIFT and CTRL with Enter, Escape and Backspace are told by codes alone, at level 1 only with Enter
+abbrev pub told_or_plain : Bool → KeyCode → ℕ → KeyEvent
+told_or_plain told key held = if told then key_with key held else key_with key (only_alt held)
+
+abbrev pub tells_escape : KeyCodeEncodeModes → Bool
+tells_escape modes = in_csi_u modes || (is_on modes && not (at_level modes 1))
+
+-- the twin of a key without SUPER
+abbrev pub twin_without_super : KeyCode → ℕ → KeyCodeEncodeModes → KeyEvent
+twin_without_super (Char c) held modes = character_twin c held modes
+twin_without_super Enter held modes = told_or_plain (tells_codes modes) Enter held
+twin_without_super Escape held modes = told_or_plain (tells_escape modes) Escape held
+twin_without_super Backspace held modes = told_or_plain (tells_escape modes) Backspace held
+twin_without_super key held modes = key_with key held
+
+-- The twin of a key that is pressed while modifiers of these bits are held. Nothing tells of SUPER. Tab loses SHIFT and CTRL with it, where
+-- modifyOtherKeys is off.
+unfoldable pub twin : KeyCode → ℕ → KeyCodeEncodeModes → KeyEvent
+twin Tab held modes =
+    if holds held SUPER && not (is_on modes) then key_with Tab (only_alt held) else key_with Tab (dropping held SUPER)
+twin key held modes = twin_without_super key (dropping held SUPER) modes

@@ -1,0 +1,31 @@
+//! Laws of presses and the port's encoder: what a key sends is read as the press of its twin.
+ghost use Rattle.termwiz_binding_laws.specs.EncodedPresses.{NewlinesAreTwoEnters, PressesOfEncodedKeys, TwinsAreTheirOwn, TwinsReadAlike, TwinsSendTheSame};
+
+/// What a key sends is read as exactly one key, and this has the press of the key's twin. So it is for every set of SHIFT, ALT, CTRL and
+/// SUPER, in all modes and encodings of `KeyCode::encode`, with no more bytes to come. The parser is as it begins, before Kitty's
+/// protocol.
+///
+/// `twin` is the key itself, but for the keys that the terminal's bytes don't tell apart. Enter in newline mode is read as two keys. The
+/// law leaves out U+0000 to U+001F and U+007F as characters, and `Numpad0` to `Numpad9` and `Decimal`, which are sent as keys of the
+/// editing block.
+pub fn presses_of_encoded_keys()
+    ensures { PressesOfEncodedKeys }
+{}
+
+/// Enter in newline mode, without SHIFT and CTRL, is read as Enter twice, the second time without ALT.
+pub fn newlines_are_two_enters()
+    ensures { NewlinesAreTwoEnters }
+{}
+
+/// A twin is its own twin in the same modes (`own`). So what a key sends and what its twin sends are read as the same press, where
+/// neither is Enter in newline mode (`alike`). No program can bind the two to different commands.
+pub fn twins_read_alike()
+    ensures own { TwinsAreTheirOwn }
+    ensures alike { TwinsReadAlike }
+{}
+
+/// Without SUPER a key sends the very bytes of its twin, but where the twin is Backspace, Enter or Tab. Those have more than one text:
+/// ctrl+h sends the byte 8, and Backspace 127.
+pub fn twins_send_the_same()
+    ensures { TwinsSendTheSame }
+{}
