@@ -908,6 +908,156 @@ enum hed_printed {
  * HED_CHORD_MOST. */
 uint32_t hed_key_print(const hed_key_press *keys, size_t count, uint8_t *out, size_t len, size_t *name_len);
 
+/* Bindings, or none: a map from chords to numbers, by which a program tells what it does at which keys. One chord may begin another one. Its
+ * fields are the library's, and it may be moved as a hed_parser may. */
+typedef struct hed_bindings {
+  bool live;
+  void *state;
+} hed_bindings;
+
+/* The value of a hed_bindings that is none. */
+#define HED_BINDINGS_NONE \
+  { false, NULL }
+
+/* What the calls of bindings return. */
+enum hed_bound {
+  /* numbers.txt: bound c */
+  HED_BOUND_NONE = 0, /* There is no such chord. */
+  HED_BOUND_VALUE = 1, /* The chord has a value: it was set, written or taken away. */
+  HED_BOUND_NO_MEMORY = 2, /* Memory was refused. Nothing changed, and the call may be made again. */
+  HED_BOUND_BAD_NUMBER = 3, /* The numbers of a key are those of no press, there are more than 32 keys, or a chord has none. */
+  HED_BOUND_NO_BINDINGS = 4 /* There are no bindings: they weren't made yet, or they were freed. */
+  /* numbers.txt: end */
+};
+
+/* Makes bindings of no chord. If there were some, they are freed. The caller owes a hed_bindings_free.
+ *
+ * Returns false if memory is refused: then the bindings are unchanged. */
+bool hed_bindings_init(hed_bindings *bindings);
+
+/* Frees what the bindings own, and leaves HED_BINDINGS_NONE. If there are none, it does nothing, so it may be called twice. */
+void hed_bindings_free(hed_bindings *bindings);
+
+/* Sets the value of a chord of count presses, 1 to HED_CHORD_MOST, in place of the one that it has, if any. The presses are those that
+ * hed_key_read reads, or that hed_key_of_event and hed_key_of_report tell, and are copied. Every other chord keeps its value, also one that
+ * begins with this one.
+ *
+ * Returns HED_BOUND_VALUE. Otherwise the bindings are unchanged: HED_BOUND_NO_MEMORY if memory is refused, HED_BOUND_BAD_NUMBER if the
+ * numbers of a press are those of none, or count isn't 1 to HED_CHORD_MOST, and HED_BOUND_NO_BINDINGS if there are no bindings. */
+uint32_t hed_bindings_bind(hed_bindings *bindings, const hed_key_press *keys, size_t count, uint64_t value);
+
+/* Takes the value of a chord away. Every other chord keeps its value. No memory is needed, here and in the next four calls.
+ *
+ * Returns HED_BOUND_VALUE, and *value is the value that it had. Otherwise *value isn't written and the bindings are unchanged: HED_BOUND_NONE
+ * if the chord has no value, HED_BOUND_BAD_NUMBER and HED_BOUND_NO_BINDINGS as above. */
+uint32_t hed_bindings_unbind(hed_bindings *bindings, const hed_key_press *keys, size_t count, uint64_t *value);
+
+/* Finds the value of a chord. A program that reads keys as chords takes a hed_matcher.
+ *
+ * Returns HED_BOUND_VALUE, and *value is the chord's value. Otherwise *value isn't written: HED_BOUND_NONE if the chord has no value,
+ * HED_BOUND_BAD_NUMBER and HED_BOUND_NO_BINDINGS as above. */
+uint32_t hed_bindings_lookup(const hed_bindings *bindings, const hed_key_press *keys, size_t count, uint64_t *value);
+
+/* Returns the number of chords that have a value, 0 if there are no bindings. */
+size_t hed_bindings_len(const hed_bindings *bindings);
+
+/* Shows the chord at a place and its value. The places are 0 up to hed_bindings_len. Chords are ordered by their presses, and a press by its
+ * key, its detail and held: one that begins another comes before it. A call that binds or unbinds moves them.
+ *
+ * Returns HED_BOUND_VALUE: *count is the number of the chord's presses, keys has as many of them as room says, and *value is its value. A
+ * keys with room for HED_CHORD_MOST has room for all. Otherwise *count is 0, and keys and *value aren't written: HED_BOUND_NONE if the place
+ * is past the last chord, and HED_BOUND_NO_BINDINGS if there are no bindings. */
+uint32_t hed_bindings_entry(const hed_bindings *bindings, size_t place, hed_key_press *keys, size_t room, size_t *count, uint64_t *value);
+
+/* Tells which chords begin with count presses, at most HED_CHORD_MOST, and are longer, as for a menu of the keys that may follow. They stand
+ * next to each other: at the places from *first up to, but without, *end. For count 0 they are all chords.
+ *
+ * Returns HED_BOUND_VALUE if there are such chords. Otherwise *first and *end are 0: HED_BOUND_NONE if there are none, HED_BOUND_BAD_NUMBER if
+ * the numbers of a press are those of none, or there are more, and HED_BOUND_NO_BINDINGS if there are no bindings. */
+uint32_t hed_bindings_continuations(const hed_bindings *bindings, const hed_key_press *keys, size_t count, size_t *first, size_t *end);
+
+/* A matcher: it reads presses as chords and as single keys, and holds those that aren't decided yet. All zero, as HED_MATCHER_NONE, it holds
+ * none. It owns no memory, and may be copied.
+ *
+ * The bindings are passed to each call. So a program may keep several, as for its modes, and change them at any time: what is pending is read
+ * by those of the call. For each key a program calls hed_matcher_press, and then hed_matcher_next until that returns HED_OUTCOME_NONE. */
+typedef struct hed_matcher {
+  size_t count; /* the number of presses that are pending */
+  hed_key_press keys[HED_CHORD_MOST]; /* these presses; what is behind them doesn't count */
+} hed_matcher;
+
+/* The value of a hed_matcher with nothing pending. */
+#define HED_MATCHER_NONE \
+  { 0, {{0, 0, 0}} }
+
+/* What the first of the pending presses do. What an outcome has no use for is 0. */
+typedef struct hed_outcome {
+  size_t keys; /* how many presses it takes: 1 with HED_OUTCOME_UNBOUND */
+  uint64_t value; /* HED_OUTCOME_BOUND: the value of the chord */
+  hed_key_press press; /* HED_OUTCOME_UNBOUND: the press, whose text a program may insert */
+} hed_outcome;
+
+/* What hed_matcher_press and hed_matcher_press_either return. */
+enum hed_pressed {
+  /* numbers.txt: pressed c */
+  HED_PRESSED_KEY = 0, /* The press is pending. */
+  HED_PRESSED_FULL = 1, /* 32 presses are pending, and the press isn't. Nothing changed. */
+  HED_PRESSED_BAD_NUMBER = 2, /* The numbers are those of no press, or those of the matcher are. Nothing changed. */
+  HED_PRESSED_NO_BINDINGS = 3 /* There are no bindings: they weren't made yet, or they were freed. Nothing changed. */
+  /* numbers.txt: end */
+};
+
+/* What hed_matcher_next and hed_matcher_on_pause return. */
+enum hed_outcome_kind {
+  /* numbers.txt: outcome c */
+  HED_OUTCOME_NONE = 0, /* Nothing is pending, or more may come, and the presses may become a longer chord. */
+  HED_OUTCOME_BOUND = 1, /* A chord was pressed. */
+  HED_OUTCOME_UNBOUND = 2, /* The first press begins no chord that was pressed. */
+  HED_OUTCOME_BAD_NUMBER = 3, /* The numbers of the matcher are those of no presses. */
+  HED_OUTCOME_NO_BINDINGS = 4 /* There are no bindings: they weren't made yet, or they were freed. */
+  /* numbers.txt: end */
+};
+
+/* Puts a press behind those that are pending. No memory is needed, here and in all calls of a matcher.
+ *
+ * Returns HED_PRESSED_KEY. Otherwise the matcher is unchanged: HED_PRESSED_FULL if HED_CHORD_MOST are pending, which isn't so after
+ * hed_matcher_next returned HED_OUTCOME_NONE, and HED_PRESSED_BAD_NUMBER if the numbers are those of no press, or the matcher has such. */
+uint32_t hed_matcher_press(hed_matcher *matcher, const hed_key_press *press);
+
+/* Puts one of two presses behind those that are pending: the second if only that leads on, and else the first. A press leads on if some chord
+ * begins with what is pending and it. If neither does, the same is asked as if nothing were pending. presses has the press that
+ * hed_key_of_report wrote, and behind it that of hed_key_second, if there is one: count is 1 or 2. So Ctrl with a Cyrillic letter runs the
+ * command of the Latin letter at its place, unless it has one of its own.
+ *
+ * Returns what hed_matcher_press does, also HED_PRESSED_BAD_NUMBER for another count, or HED_PRESSED_NO_BINDINGS if there are no bindings. */
+uint32_t hed_matcher_press_either(hed_matcher *matcher, const hed_bindings *bindings, const hed_key_press *presses, size_t count);
+
+/* Takes what comes first of the presses that are pending: the longest chord that they begin with, or else the first press. Pass maybe_more as
+ * true while more presses may come: then it waits while the presses may become a longer chord. A program whose user paused for long enough,
+ * as for a second, gives up: it calls it with false until it returns HED_OUTCOME_NONE.
+ *
+ * Returns HED_OUTCOME_BOUND or HED_OUTCOME_UNBOUND, and *outcome tells which chord or which press. Otherwise *outcome isn't written, and the
+ * matcher is unchanged: HED_OUTCOME_NONE if nothing is pending, or it waits, HED_OUTCOME_BAD_NUMBER if the numbers of the matcher are those of
+ * no presses, and HED_OUTCOME_NO_BINDINGS if there are no bindings. */
+uint32_t hed_matcher_next(hed_matcher *matcher, const hed_bindings *bindings, bool maybe_more, hed_outcome *outcome);
+
+/* Tells what giving up would decide first: what hed_matcher_next without maybe_more would write and return. It takes nothing. While that is
+ * HED_OUTCOME_UNBOUND, a program may prefer to wait for ever, since the press may still begin a chord. */
+uint32_t hed_matcher_on_pause(const hed_matcher *matcher, const hed_bindings *bindings, hed_outcome *outcome);
+
+/* Returns whether what is pending is a mistake of several presses: no chord begins with them, and they begin with no chord. A program that
+ * takes ctrl+x z as one mistake, as Emacs does, asks this after hed_matcher_press, and calls hed_matcher_cancel.
+ *
+ * Returns false if the numbers of the matcher are those of no presses, or there are no bindings. */
+bool hed_matcher_is_dead_end(const hed_matcher *matcher, const hed_bindings *bindings);
+
+/* Copies the presses that are pending to keys, as many as room says, and returns how many they are: at most HED_CHORD_MOST. The rest of keys
+ * is unchanged. Returns 0 if the numbers of the matcher are those of no presses. */
+size_t hed_matcher_pending(const hed_matcher *matcher, hed_key_press *keys, size_t room);
+
+/* Does what hed_matcher_pending does, and leaves nothing pending, also if the numbers were those of no presses. */
+size_t hed_matcher_cancel(hed_matcher *matcher, hed_key_press *keys, size_t room);
+
 /* The kinds of replies: the field kind of a hed_reply. */
 enum hed_reply_kind {
   /* numbers.txt: reply c */
@@ -1011,6 +1161,9 @@ HED_IS(parser, sizeof(hed_parser) == 24 && offsetof(hed_parser, state) == 8 && o
 HED_IS(event, sizeof(hed_event) == 24 && offsetof(hed_event, modifiers) == 2 && offsetof(hed_event, y) == 8);
 HED_IS(event_end, offsetof(hed_event, detail) == 12 && offsetof(hed_event, paste_len) == 16);
 HED_IS(keymap, sizeof(hed_keymap) == 16 && offsetof(hed_keymap, state) == 8);
+HED_IS(bindings, sizeof(hed_bindings) == 16 && offsetof(hed_bindings, state) == 8);
+HED_IS(matcher, sizeof(hed_matcher) == 264 && offsetof(hed_matcher, keys) == 8);
+HED_IS(outcome, sizeof(hed_outcome) == 24 && offsetof(hed_outcome, value) == 8 && offsetof(hed_outcome, press) == 16);
 HED_IS(entries, sizeof(hed_entries) == 24 && offsetof(hed_entries, count) == 8 && offsetof(hed_entries, with_alt) == 16);
 HED_IS(match, sizeof(hed_match) == 16 && offsetof(hed_match, value) == 8);
 HED_IS(extended, sizeof(hed_extended) == 24 && offsetof(hed_extended, state) == 8 && offsetof(hed_extended, timing) == 16);

@@ -69,12 +69,13 @@ def read_list() -> Numbers:
 PLACES = {
     HEADER: {
         "c": "kind next waiting termwiz_mod button key encoding kitty_flag encoded found protocol"
-        " side_button key_event_kind kitty_mod named printed replied reply device_attributes"
-        " mode_state colour_name colour_scheme"
+        " side_button key_event_kind kitty_mod named printed bound pressed outcome replied reply"
+        " device_attributes mode_state colour_name colour_scheme"
     },
     "rust/src/raw.rs": {
         "const": "next waiting encoded found kind protocol side_button key_event_kind encoding"
-        " named printed replied reply device_attributes mode_state colour_name colour_scheme"
+        " named printed bound pressed outcome replied reply device_attributes mode_state colour_name"
+        " colour_scheme"
     },
     "rust/src/input/flags.rs": {"flag": "termwiz_mod button kitty_flag kitty_mod"},
     "rust/src/input/keys.rs": {"variant": "key", "number": "key", "of": "key"},
@@ -85,7 +86,7 @@ PLACES = {
     },
     "python/hedrugal/extended.py": {
         "member": "protocol side_button key_event_kind kitty_mod",
-        "private": "named printed",
+        "private": "named printed bound pressed outcome",
     },
     "python/hedrugal/replies.py": {
         "member": "device_attributes mode_state colour_name colour_scheme",
@@ -233,6 +234,9 @@ PROVED = [
     ("protocol", "hedrugal/src/extended_calls.rt", constants("PROTOCOL")),
     ("named", "hedrugal/src/name_calls.rt", constants("NAMED")),
     ("printed", "hedrugal/src/name_calls.rt", constants("PRINTED")),
+    ("bound", "hedrugal/src/binding_calls.rt", constants("BOUND")),
+    ("pressed", "hedrugal/src/matcher_calls.rt", constants("PRESSED")),
+    ("outcome", "hedrugal/src/matcher_calls.rt", constants("OUTCOME")),
     ("replied", "hedrugal/src/reply_calls.rt", constants("REPLIED")),
     ("reply", "hedrugal/src/replies.rt", constants("REPLY")),
     ("device_attributes", "hedrugal/src/replies.rt", constants("DEVICE_ATTRIBUTES")),

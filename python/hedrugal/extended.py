@@ -92,6 +92,29 @@ _PRINTED_NO_MEMORY = 1
 _PRINTED_BAD_NUMBER = 2
 # numbers.txt: end
 
+# numbers.txt: bound private
+_BOUND_NONE = 0
+_BOUND_VALUE = 1
+_BOUND_NO_MEMORY = 2
+_BOUND_BAD_NUMBER = 3
+_BOUND_NO_BINDINGS = 4
+# numbers.txt: end
+
+# numbers.txt: pressed private
+_PRESSED_KEY = 0
+_PRESSED_FULL = 1
+_PRESSED_BAD_NUMBER = 2
+_PRESSED_NO_BINDINGS = 3
+# numbers.txt: end
+
+# numbers.txt: outcome private
+_OUTCOME_NONE = 0
+_OUTCOME_BOUND = 1
+_OUTCOME_UNBOUND = 2
+_OUTCOME_BAD_NUMBER = 3
+_OUTCOME_NO_BINDINGS = 4
+# numbers.txt: end
+
 
 class Protocol(_Named):
     """The keyboard protocol that the program turned on. It tells how an ExtendedParser reads the

@@ -6,6 +6,7 @@
 //! repository says what bytes mean to it. [`KeyReport::encode`] is the other way: what a terminal
 //! sends for a key under Kitty's keyboard protocol. [`KeyPress`] is one name for a key, however its
 //! terminal reports it, and [`Chord`] is a list of these. Both are read from text and printed.
+//! [`Bindings`] tell what a program does at which chords, and a [`Matcher`] reads keys by them.
 //!
 //! ```
 //! use hedrugal::extended::{ExtendedEvent, ExtendedParser, Protocol};
@@ -21,21 +22,25 @@
 //!     }
 //! }
 //! ```
+mod bindings;
 mod chord;
 mod encode;
 mod events;
+mod matcher;
 mod names;
 mod parser;
 mod press;
 mod replies;
 
 pub use crate::input::flags::KittyModifiers;
+pub use bindings::{BindError, BindErrorKind, Bindings, Iter};
 pub use chord::{Chord, Presses};
 pub use encode::KittyEncodeError;
 pub use events::{
     ExtendedEvent, KeyEventKind, KeyReport, ReportedKey, SideButtonEvent, SideButtonKind,
     StringKind,
 };
+pub use matcher::{Matcher, Outcome, Outcomes};
 pub use names::{KeyNameError, KeyNameErrorKind};
 pub use parser::{ExtendedParser, ExtendedWaiting, Protocol, Reading};
 pub use press::{typed_text, KeyPress};

@@ -173,6 +173,43 @@ pub const PRINTED_NO_MEMORY: u32 = 1;
 pub const PRINTED_BAD_NUMBER: u32 = 2;
 // numbers.txt: end
 
+// numbers.txt: bound const
+/// There is no such chord.
+pub const BOUND_NONE: u32 = 0;
+/// The chord has a value: it was set, written or taken away.
+pub const BOUND_VALUE: u32 = 1;
+/// Memory was refused. Nothing changed, and the call may be made again.
+pub const BOUND_NO_MEMORY: u32 = 2;
+/// The numbers of a key are those of no press, there are more than 32 keys, or a chord has none.
+pub const BOUND_BAD_NUMBER: u32 = 3;
+/// There are no bindings: they weren't made yet, or they were freed.
+pub const BOUND_NO_BINDINGS: u32 = 4;
+// numbers.txt: end
+
+// numbers.txt: pressed const
+/// The press is pending.
+pub const PRESSED_KEY: u32 = 0;
+/// 32 presses are pending, and the press isn't. Nothing changed.
+pub const PRESSED_FULL: u32 = 1;
+/// The numbers are those of no press, or those of the matcher are. Nothing changed.
+pub const PRESSED_BAD_NUMBER: u32 = 2;
+/// There are no bindings: they weren't made yet, or they were freed. Nothing changed.
+pub const PRESSED_NO_BINDINGS: u32 = 3;
+// numbers.txt: end
+
+// numbers.txt: outcome const
+/// Nothing is pending, or more may come, and the presses may become a longer chord.
+pub const OUTCOME_NONE: u32 = 0;
+/// A chord was pressed.
+pub const OUTCOME_BOUND: u32 = 1;
+/// The first press begins no chord that was pressed.
+pub const OUTCOME_UNBOUND: u32 = 2;
+/// The numbers of the matcher are those of no presses.
+pub const OUTCOME_BAD_NUMBER: u32 = 3;
+/// There are no bindings: they weren't made yet, or they were freed.
+pub const OUTCOME_NO_BINDINGS: u32 = 4;
+// numbers.txt: end
+
 // numbers.txt: replied const
 /// The event is no reply that is known.
 pub const REPLIED_NONE: u32 = 0;
@@ -398,6 +435,41 @@ pub struct KeyPress {
     pub detail: u32,
 }
 
+/// Bindings of chords to numbers, or none.
+#[repr(C)]
+pub struct Bindings {
+    live: bool,
+    state: *mut c_void,
+}
+
+impl Bindings {
+    /// No bindings.
+    pub const NONE: Bindings = Bindings {
+        live: false,
+        state: std::ptr::null_mut(),
+    };
+}
+
+// SAFETY: as for a `KeyMap`.
+unsafe impl Send for Bindings {}
+
+/// A matcher: the presses that are pending, and whatever behind them.
+#[repr(C)]
+#[derive(Clone, Copy)]
+pub struct Matcher {
+    pub count: usize,
+    pub keys: [KeyPress; CHORD_MOST],
+}
+
+/// What the first of the pending presses do. What it has no use for is 0.
+#[repr(C)]
+#[derive(Clone, Copy, Default)]
+pub struct Outcome {
+    pub keys: usize,
+    pub value: u64,
+    pub press: KeyPress,
+}
+
 /// An event of the extended parser. What its kind has no use for is 0.
 #[repr(C)]
 #[derive(Clone, Copy, Default)]
@@ -463,6 +535,9 @@ const _: () = {
             && offset_of!(Entries, with_alt) == 16
     );
     assert!(size_of::<Match>() == 16 && offset_of!(Match, value) == 8);
+    assert!(size_of::<Bindings>() == 16 && offset_of!(Bindings, state) == 8);
+    assert!(size_of::<Matcher>() == 264 && offset_of!(Matcher, keys) == 8);
+    assert!(size_of::<Outcome>() == 24 && offset_of!(Outcome, press) == 16);
     assert!(size_of::<Extended>() == 24 && offset_of!(Extended, expiring) == 4);
     assert!(offset_of!(Extended, state) == 8 && offset_of!(Extended, timing) == 16);
     assert!(
@@ -615,6 +690,63 @@ extern "C" {
         len: usize,
         name_len: *mut usize,
     ) -> u32;
+    pub fn hed_bindings_init(bindings: *mut Bindings) -> bool;
+    pub fn hed_bindings_free(bindings: *mut Bindings);
+    pub fn hed_bindings_bind(
+        bindings: *mut Bindings,
+        keys: *const KeyPress,
+        count: usize,
+        value: u64,
+    ) -> u32;
+    pub fn hed_bindings_unbind(
+        bindings: *mut Bindings,
+        keys: *const KeyPress,
+        count: usize,
+        value: *mut u64,
+    ) -> u32;
+    pub fn hed_bindings_lookup(
+        bindings: *mut Bindings,
+        keys: *const KeyPress,
+        count: usize,
+        value: *mut u64,
+    ) -> u32;
+    pub fn hed_bindings_len(bindings: *mut Bindings) -> usize;
+    pub fn hed_bindings_entry(
+        bindings: *mut Bindings,
+        place: usize,
+        keys: *mut KeyPress,
+        room: usize,
+        count: *mut usize,
+        value: *mut u64,
+    ) -> u32;
+    pub fn hed_bindings_continuations(
+        bindings: *mut Bindings,
+        keys: *const KeyPress,
+        count: usize,
+        first: *mut usize,
+        end: *mut usize,
+    ) -> u32;
+    pub fn hed_matcher_press(matcher: *mut Matcher, press: *const KeyPress) -> u32;
+    pub fn hed_matcher_press_either(
+        matcher: *mut Matcher,
+        bindings: *mut Bindings,
+        presses: *const KeyPress,
+        count: usize,
+    ) -> u32;
+    pub fn hed_matcher_next(
+        matcher: *mut Matcher,
+        bindings: *mut Bindings,
+        maybe_more: bool,
+        outcome: *mut Outcome,
+    ) -> u32;
+    pub fn hed_matcher_on_pause(
+        matcher: *const Matcher,
+        bindings: *mut Bindings,
+        outcome: *mut Outcome,
+    ) -> u32;
+    pub fn hed_matcher_is_dead_end(matcher: *const Matcher, bindings: *mut Bindings) -> bool;
+    pub fn hed_matcher_pending(matcher: *const Matcher, keys: *mut KeyPress, room: usize) -> usize;
+    pub fn hed_matcher_cancel(matcher: *mut Matcher, keys: *mut KeyPress, room: usize) -> usize;
     pub fn hed_read_reply(
         kind: u8,
         bytes: *const u8,

@@ -1,4 +1,4 @@
--- What a parser, an extended parser and a key map are made of may cross threads, and so may the block of one.
+-- What a parser, an extended parser, a key map and bindings are made of may cross threads, and so may the block of one.
 use Rattle.std.specs.Prelude.{List, [], ◌∷◌, Option, Some, None}
 use base.Shift.{Keyless}
 use mir.Raw.{raw}
@@ -24,8 +24,10 @@ use Rattle.termwiz_keymap.specs.contracts.readbuf.ReadBuffer as ReadBuffer
 use Rattle.termwiz_input.specs.contracts.input.InputParser as InputParser
 use Rattle.termwiz_input.specs.contracts.time.Policy as Policy
 use Rattle.termwiz_input.specs.contracts.time.Timer as Timer
+use Rattle.termwiz_bindings.specs.contracts.bindings.Bindings as ChordMap
 use Rattle.termwiz_input_extended.specs.contracts.input.ExtendedParser as ExtendedParser
 use Rattle.hedrugal.specs.contracts.bindings.Bindings as Bindings
+use Rattle.hedrugal.specs.contracts.chord_bindings.ChordBindings as ChordBindings
 use Rattle.hedrugal.specs.contracts.extended_and_text.ExtendedAndText as ExtendedAndText
 use Rattle.hedrugal.specs.contracts.parser_and_paste.ParserAndPaste as ParserAndPaste
 use Rattle.hedrugal.specs.contracts.timing.Timing as Timing
@@ -87,6 +89,9 @@ map_send V d c s = search (sendable, crosses, row_send, gap_send, remembered_sen
 map_sync : (V : RattleType) (d : Debug V.Denot) (c : Clone V.Denot) → IsSync V → IsSync (KeyMap.the_row V d c)
 map_sync V d c s = search (sendable, crosses, row_sync, gap_sync, remembered_sync) depth 12
 
+chord_map_send : (V : RattleType) (d : Debug V.Denot) (c : Clone V.Denot) → IsSend V → IsSend (ChordMap.the_row V d c)
+chord_map_send V d c s = search (sendable, crosses, map_send) depth 12
+
 -- the parsers, whose table is behind an `Arc`
 buffer_send : IsSend ReadBuffer.the_row
 buffer_send = search (sendable, crosses) depth 10
@@ -113,6 +118,9 @@ extended_and_text_send = search (sendable, crosses, extended_send) depth 12
 
 pub bindings_send : IsSend Bindings.the_row
 bindings_send = search (sendable, crosses, map_send) depth 12
+
+pub chord_bindings_send : IsSend ChordBindings.the_row
+chord_bindings_send = search (sendable, crosses, chord_map_send) depth 12
 
 pub timing_send : IsSend Timing.the_row
 timing_send = search (sendable, policy_send, timer_send) depth 20

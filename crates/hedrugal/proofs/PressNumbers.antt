@@ -11,7 +11,7 @@ use Rattle.termwiz_bindings.specs.Numbers.{StandForReported}
 use Rattle.termwiz_bindings.specs.Presses.{canonical}
 use Rattle.termwiz_bindings.proofs.lemmas.KeyNumbers.{stands_for_itself}
 use Rattle.hedrugal.specs.declared.press_calls.CKeyPress.{CKeyPress}
-use Rattle.hedrugal.specs.Chords.{AreOfChord, AreOfPress, with_presses}
+use Rattle.hedrugal.specs.Chords.{AreOfChord, AreOfPress, AreOfPresses, with_presses}
 use Rattle.hedrugal.specs.PressCalls.{c_press}
 
 -- the numbers of a press stand for its key
@@ -74,11 +74,12 @@ count_read keys ps i inside is =
     let mapped = length-map ps c_press in
     omega (arith, read, taken, mapped)
 
--- numbers of no press are in those of no chord
-pub no_chord_with : (keys : List CKeyPress) (i : ℕ) (d : CKeyPress) → i < length keys
-    → ((p : KeyPress) → AreOfPress (get_or keys i d) p → ⊥) → (ps : List KeyPress) → AreOfChord keys ps → ⊥
-no_chord_with keys i d inside none [] (chord, some, same) = some refl
-no_chord_with keys i d inside none (p ∷ ps) (chord, some, same) =
+-- numbers of no press are in those of no presses
+pub no_presses_with : (keys : List CKeyPress) (i : ℕ) (d : CKeyPress) → i < length keys
+    → ((p : KeyPress) → AreOfPress (get_or keys i d) p → ⊥) → (ps : List KeyPress) → AreOfPresses keys ps → ⊥
+no_presses_with [] i d inside none [] (chord, same) = let no : ⊥ = omega arith in absurd no
+no_presses_with (k ∷ keys) i d inside none [] (chord, same) = absurd (cc (same))
+no_presses_with keys i d inside none (p ∷ ps) (chord, same) =
     let count : length keys ≡ length (p ∷ ps) = ap length same ∙ length-map (p ∷ ps) c_press in
     let lt : i < length (p ∷ ps) = omega (arith, count) in
     let at : get_or (map c_press (p ∷ ps)) i d ≡ c_press (get_or (p ∷ ps) i p) = get_or-map c_press (p ∷ ps) i p d lt in

@@ -10,6 +10,10 @@ use Rattle.hedrugal.specs.PressCalls.{c_press}
 abbrev pub AreOfPress : CKeyPress → KeyPress → Type 0
 AreOfPress numbers p = IsPress p × (numbers ≡ c_press p)
 
+-- the numbers are those of these presses, of which there are at most 32
+abbrev pub AreOfPresses : List CKeyPress → List KeyPress → Type 0
+AreOfPresses keys ps = IsChord ps × (keys ≡ map c_press ps)
+
 -- the numbers are those of this chord, which has 1 to 32 presses
 abbrev pub AreOfChord : List CKeyPress → List KeyPress → Type 0
 AreOfChord keys ps = IsChord ps × (ps ≢ []) × (keys ≡ map c_press ps)

@@ -3,18 +3,22 @@ use Rattle.std.specs.Prelude.{Option, Some, true, refl}
 use Rattle.std.specs.Borrow.{Fml, LendsIf, MutBor}
 use denote.RattleType.{RattleType}
 use Rattle.hedrugal.specs.declared.bindings.Bindings.{Bindings}
+use Rattle.hedrugal.specs.declared.chord_bindings.ChordBindings.{ChordBindings}
 use Rattle.hedrugal.specs.declared.extended_and_text.ExtendedAndText.{ExtendedAndText}
 use Rattle.hedrugal.specs.declared.parser_and_paste.ParserAndPaste.{ParserAndPaste}
 use Rattle.hedrugal.specs.declared.handle.Handle.{Handle}
 use Rattle.hedrugal.specs.declared.holder.Holder.{Holder}
+use Rattle.hedrugal.specs.declared.handles.BindingsHandle.{BindingsHandle}
 use Rattle.hedrugal.specs.declared.handles.ExtendedHandle.{ExtendedHandle}
 use Rattle.hedrugal.specs.declared.handles.MapHandle.{MapHandle}
 use Rattle.hedrugal.specs.declared.handles.ParserHandle.{ParserHandle}
 use Rattle.hedrugal.specs.contracts.bindings.Bindings.{the_row as BindingsType}
+use Rattle.hedrugal.specs.contracts.chord_bindings.ChordBindings.{the_row as ChordBindingsType}
 use Rattle.hedrugal.specs.contracts.extended_and_text.ExtendedAndText.{the_row as ExtendedAndTextType}
 use Rattle.hedrugal.specs.contracts.parser_and_paste.ParserAndPaste.{the_row as ParserAndPasteType}
 use Rattle.hedrugal.specs.contracts.handle.Handle as handle
 use Rattle.hedrugal.specs.contracts.holder.Holder as holder
+use Rattle.hedrugal.specs.contracts.handles.BindingsHandle.{the_row as BindingsHandleType}
 use Rattle.hedrugal.specs.contracts.handles.ExtendedHandle.{the_row as ExtendedHandleType}
 use Rattle.hedrugal.specs.contracts.handles.MapHandle.{the_row as MapHandleType}
 use Rattle.hedrugal.specs.contracts.handles.ParserHandle.{the_row as ParserHandleType}
@@ -28,7 +32,7 @@ leading_to whole held = record whole { live = true; state = with_held whole.stat
 abbrev pub lends_state : (R : RattleType) → MutBor (Handle R.Denot) → Option (MutBor R.Denot) → Fml
 lends_state R whole lent = LendsIf (handle.the_row R) R whole lent (leading_to whole.now) whole.now
 
--- the same of a key map
+-- the same of a key map and of bindings
 abbrev pub holding : {T : Type 0} → Holder T → T → Holder T
 holding whole held = record { live = true; slot = with_held whole.slot held; agrees = refl }
 
@@ -53,3 +57,9 @@ with_map c held = record { live = true; state = record c.state { held = Some hel
 
 abbrev pub lends_map : MutBor MapHandle → Option (MutBor Bindings) → Fml
 lends_map c lent = LendsIf MapHandleType BindingsType c lent (with_map c.now) c.now
+
+abbrev pub with_bindings : BindingsHandle → ChordBindings → BindingsHandle
+with_bindings c held = record { live = true; state = record c.state { held = Some held }; agrees = refl }
+
+abbrev pub lends_bindings : MutBor BindingsHandle → Option (MutBor ChordBindings) → Fml
+lends_bindings c lent = LendsIf BindingsHandleType ChordBindingsType c lent (with_bindings c.now) c.now

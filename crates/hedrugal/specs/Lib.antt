@@ -1,3 +1,4 @@
+pub mod BindingCalls
 pub mod Calls
 pub mod Chords
 pub mod EntryCalls

@@ -1,7 +1,7 @@
 // Presses and chords in numbers.
 ghost use Rattle.std.specs.Prelude.{◌≡◌, ◌↔◌, List, Some, length, IfSome, IfNone, IsTrue};
 ghost use Rattle.termwiz_bindings.specs.declared.press.KeyPress.{KeyPress as Pressed};
-ghost use Rattle.hedrugal.specs.Chords.{AreOfChord, AreOfPress, with_presses};
+ghost use Rattle.hedrugal.specs.Chords.{AreOfChord, AreOfPress, AreOfPresses, with_presses};
 ghost use Rattle.hedrugal.specs.PressCalls.{c_press as numbers_of};
 
 use crate::press_calls::{CKeyPress, c_press};
@@ -36,7 +36,18 @@ pub(crate) fn chord_of(keys: &[CKeyPress]) -> Option<Chord>
     ensures some { IfSome result (λ presses. AreOfChord keys.now presses) }
     ensures none { IfNone result ((presses : List Pressed) → ¬ AreOfChord keys.now presses) }
 {
-    if keys.is_empty() || keys.len() > MAX_KEYS {
+    if keys.is_empty() {
+        return None;
+    }
+    presses_of(keys)
+}
+
+// The presses that have these numbers, at most 32 of them.
+pub(crate) fn presses_of(keys: &[CKeyPress]) -> Option<Chord>
+    ensures some { IfSome result (λ presses. AreOfPresses keys.now presses) }
+    ensures none { IfNone result ((presses : List Pressed) → ¬ AreOfPresses keys.now presses) }
+{
+    if keys.len() > MAX_KEYS {
         return None;
     }
     let mut chord = Chord::new();

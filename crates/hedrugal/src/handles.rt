@@ -1,9 +1,9 @@
-// What C holds: `hed_parser`, `hed_extended` and `hed_keymap`. Each is one of these, or none, which is all zero. It may be moved; then
+// What C holds: `hed_parser`, `hed_extended`, `hed_keymap` and `hed_bindings`. Each is one of these, or none, which is all zero. It may be moved; then
 // only its new place counts.
 ghost use Rattle.std.specs.Prelude.{◌≡◌, is_some};
 
 use crate::timing::Since;
-use crate::words::{ExtendedWord, MapWord, ParserWord, TimingWord};
+use crate::words::{BindingsWord, ExtendedWord, MapWord, ParserWord, TimingWord};
 
 mod lends;
 mod times;
@@ -38,5 +38,13 @@ pub struct ExtendedHandle {
 pub struct MapHandle {
     live: bool,
     pub state: MapWord,
+    ghost agrees: { live ≡ is_some state.held },
+}
+
+/// `hed_bindings`: bindings, or none.
+#[repr(C)]
+pub struct BindingsHandle {
+    live: bool,
+    pub state: BindingsWord,
     ghost agrees: { live ≡ is_some state.held },
 }

@@ -16,7 +16,9 @@ ghost use Rattle.hedrugal.specs.Keys.{IsNoKey};
 ghost use Rattle.hedrugal.specs.Timings.{BeginsTime, KeepsTime, TakesBytes, TakesEvent};
 ghost use Rattle.hedrugal.specs.Presses.{HasNoText, IsBad, Wrote};
 
+mod binding_calls;
 mod bindings;
+mod chord_bindings;
 mod chords;
 mod copying;
 mod entry_calls;

@@ -2,10 +2,12 @@
 ghost use Rattle.std.specs.Prelude.{Option};
 ghost use Rattle.std.specs.Coded.{coded_option};
 ghost use Rattle.hedrugal.specs.declared.bindings.Bindings.{Bindings};
+ghost use Rattle.hedrugal.specs.declared.chord_bindings.ChordBindings.{ChordBindings};
 ghost use Rattle.hedrugal.specs.declared.extended_and_text.ExtendedAndText.{ExtendedAndText};
 ghost use Rattle.hedrugal.specs.declared.parser_and_paste.ParserAndPaste.{ParserAndPaste};
 ghost use Rattle.hedrugal.specs.declared.timing.Timing.{Timing};
 ghost use Rattle.hedrugal.specs.contracts.bindings.Bindings as bindings;
+ghost use Rattle.hedrugal.specs.contracts.chord_bindings.ChordBindings as chord_bindings;
 ghost use Rattle.hedrugal.specs.contracts.extended_and_text.ExtendedAndText as extended;
 ghost use Rattle.hedrugal.specs.contracts.parser_and_paste.ParserAndPaste as parser;
 ghost use Rattle.hedrugal.specs.contracts.timing.Timing as timing;
@@ -54,6 +56,20 @@ impl Model for MapWord {
     ghost also_owns = { λ s. owned the_row s.pointer s.held };
 }
 
+/// Of bindings.
+#[repr(C)]
+pub struct BindingsWord {
+    pointer: *mut u8,
+    pub ghost held: { Option ChordBindings } by { coded_option chord_bindings.the_row.coded },
+}
+
+impl Model for BindingsWord {
+    ghost use Rattle.hedrugal.specs.Owned.{owned};
+    ghost use Rattle.hedrugal.specs.contracts.chord_bindings.ChordBindings.{the_row};
+
+    ghost also_owns = { λ s. owned the_row s.pointer s.held };
+}
+
 /// Of a parser's limits in time.
 #[repr(C)]
 pub struct TimingWord {
@@ -74,5 +90,7 @@ unsafe impl Send for ParserWord {}
 unsafe impl Send for ExtendedWord {}
 
 unsafe impl Send for MapWord {}
+
+unsafe impl Send for BindingsWord {}
 
 unsafe impl Send for TimingWord {}

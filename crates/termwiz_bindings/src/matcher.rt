@@ -162,6 +162,13 @@ impl Matcher {
         }
     }
 
+    /// A matcher with these presses pending.
+    pub fn with_pending(pending: Chord) -> Matcher
+        ensures { result ≡ pending }
+    {
+        Matcher { pending }
+    }
+
     /// Puts a press behind those that are pending. Returns false, and changes nothing, if [`MAX_KEYS`] are pending: that isn't so
     /// after [`Matcher::next`] returned `None`.
     pub fn press(&mut self, press: KeyPress) -> bool

@@ -118,8 +118,15 @@ impl Chord {
         }
     }
 
+    // The chord whose presses a call wrote; it returns how many they are.
+    pub(super) fn written(call: impl FnOnce(&mut [raw::KeyPress]) -> usize) -> Chord {
+        let mut chord = Chord::new();
+        chord.len = call(&mut chord.keys);
+        chord
+    }
+
     // The presses that it has.
-    fn held(&self) -> &[raw::KeyPress] {
+    pub(super) fn held(&self) -> &[raw::KeyPress] {
         &self.keys[..self.len]
     }
 }

@@ -1,10 +1,11 @@
 // What C holds, as the generic types that own the same blocks.
 ghost use Rattle.std.specs.Prelude.{◌≡◌};
 ghost use Rattle.std.specs.Borrow.{sem};
-ghost use Rattle.hedrugal.specs.Views.{lends_extended, lends_map, lends_parser, viewed_extended, viewed_map, viewed_parser};
+ghost use Rattle.hedrugal.specs.Views.{lends_bindings, lends_extended, lends_map, lends_parser, viewed_bindings, viewed_extended, viewed_map, viewed_parser};
 
-use super::{ExtendedHandle, MapHandle, ParserHandle};
+use super::{BindingsHandle, ExtendedHandle, MapHandle, ParserHandle};
 use crate::bindings::Bindings;
+use crate::chord_bindings::ChordBindings;
 use crate::extended_and_text::ExtendedAndText;
 use crate::handle::Handle;
 use crate::holder::Holder;
@@ -34,5 +35,14 @@ impl MapHandle {
         ensures same { result.now ≡ viewed_map self.old }
     {
         unsafe { &mut *(self as *mut MapHandle as *mut Holder<Bindings>) }
+    }
+}
+
+impl BindingsHandle {
+    pub(crate) fn view(&mut self) -> &mut Holder<ChordBindings>
+        ensures* writes_back { sem 𝓛 (lends_bindings self.entry result) }
+        ensures same { result.now ≡ viewed_bindings self.old }
+    {
+        unsafe { &mut *(self as *mut BindingsHandle as *mut Holder<ChordBindings>) }
     }
 }

@@ -7,7 +7,7 @@ ghost use Rattle.hedrugal.specs.LentIf.{lends_slot};
 use super::Holder;
 
 impl<T: Drop> Holder<T> {
-    // The key map, if there is one.
+    // The value, if there is one.
     pub(crate) fn get_mut(&mut self) -> Option<&mut T>
         ensures* writes_back { sem 𝓛 (lends_slot T.row self.entry result) }
         ensures some { IfSome result (λ lent. self.old.slot.held ≡ Some lent.now) }

@@ -2,7 +2,7 @@ use Rattle.std.proofs.Common.{◌≡◌, take, map}
 use Rattle.std.specs.List.{All}
 use Rattle.termwiz_bindings.specs.Codes.{IsPress}
 use Rattle.hedrugal.specs.PressCalls.{c_press}
-use Rattle.hedrugal.proofs.chords.chord_of.Given as goal
+use Rattle.hedrugal.proofs.chords.presses_of.Given as goal
 
 abbrev pub invariant-loop-numbers : goal.invariant-loop-numbers
 invariant-loop-numbers l = record {

@@ -5,12 +5,12 @@ use Rattle.termwiz_bindings.specs.declared.chord.TheConstants.{MAX_KEYS}
 use Rattle.termwiz_bindings.specs.declared.press.KeyPress.{KeyPress}
 use Rattle.termwiz_bindings.specs.Codes.{IsPress}
 use Rattle.hedrugal.specs.PressCalls.{c_press}
-use Rattle.hedrugal.proofs.PressNumbers.{count_read, no_chord_with, one_more_read}
-use Rattle.hedrugal.proofs.chords.chord_of.Goals as goal
+use Rattle.hedrugal.proofs.PressNumbers.{count_read, no_presses_with, one_more_read}
+use Rattle.hedrugal.proofs.chords.presses_of.Goals as goal
 
 pub returns-in_err-press_of-clause-none : goal.returns-in_err-press_of-clause-none
 returns-in_err-press_of-clause-none c = rw c.from_residual.ensures (λ presses is.
-    no_chord_with c.args.keys.now c.loop-numbers.numbers-index _ c.loop-numbers-test.true
+    no_presses_with c.args.keys.now c.loop-numbers.numbers-index _ c.loop-numbers-test.true
     (λ press own. let no = c.in_err-press_of.ensures.only press own in absurd (cc (no))) presses is)
 
 pub loop-numbers-preserved : goal.loop-numbers-preserved

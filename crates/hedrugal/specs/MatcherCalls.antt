@@ -1,0 +1,95 @@
+-- What the calls do to a matcher that C holds: to the presses that are pending, which it has in numbers.
+use Rattle.std.specs.Prelude.{◌≡◌, ◌≤◌, ◌⊎◌, ℕ, Bool, false, List, [], ◌∷◌, ◌++◌, length, take, Option, Some, None}
+use Rattle.termwiz_bindings.specs.declared.chord.TheConstants.{MAX_KEYS}
+use Rattle.termwiz_bindings.specs.declared.matcher.Outcome.{Outcome}
+use Rattle.termwiz_bindings.specs.declared.matcher.Outcome.TheVariants.{Bound, Unbound}
+use Rattle.termwiz_bindings.specs.declared.press.KeyPress.{KeyPress}
+use Rattle.termwiz_bindings.specs.Bindings.{find}
+use Rattle.termwiz_bindings.specs.Matchers.{IsDeadEnd, IsTaken}
+use Rattle.termwiz_bindings.specs.Matching.{IsPending, Steps}
+use Rattle.hedrugal.specs.declared.chord_bindings.ChordBindings.{ChordBindings}
+use Rattle.hedrugal.specs.declared.matcher_calls.CMatcher.{CMatcher}
+use Rattle.hedrugal.specs.declared.matcher_calls.COutcome.{COutcome}
+use Rattle.hedrugal.specs.declared.press_calls.CKeyPress.{CKeyPress}
+use Rattle.hedrugal.specs.Chords.{AreOfPress, AreOfPresses, with_presses}
+use Rattle.hedrugal.specs.PressCalls.{c_press}
+
+-- the matcher has these presses pending
+abbrev pub Holds : CMatcher → List KeyPress → Type 0
+Holds m ps = (m.count ≤ MAX_KEYS) × AreOfPresses (take m.count m.keys) ps
+
+-- what the matcher has is no presses
+abbrev pub HoldsNone : CMatcher → Type 0
+HoldsNone m = (ps : List KeyPress) → ¬ Holds m ps
+
+-- the numbers are those of a press, and it is behind the others
+abbrev pub Pressed : CMatcher → CKeyPress → CMatcher → Type 0
+Pressed before press after =
+    (ps : List KeyPress) × (p : KeyPress) × Holds before ps × AreOfPress press p × Holds after (ps ++ p ∷ [])
+
+-- as many presses are pending as there may be
+abbrev pub IsFull : CMatcher → Type 0
+IsFull m = (ps : List KeyPress) × Holds m ps × (MAX_KEYS ≤ length ps)
+
+-- the numbers of the first press, and those of the second, if there is one
+abbrev pub AreOfEither : List CKeyPress → KeyPress → Option KeyPress → Type 0
+AreOfEither (first ∷ []) p None = AreOfPress first p
+AreOfEither (first ∷ second ∷ []) p (Some q) = AreOfPress first p × AreOfPress second q
+AreOfEither _ p q = ⊥
+
+-- the numbers are those of one press or of two, and the one that is taken is behind the others
+abbrev pub PressedEither : Option ChordBindings → CMatcher → List CKeyPress → CMatcher → Type 0
+PressedEither (Some held) before keys after =
+    (ps : List KeyPress) × (first : KeyPress) × (second : Option KeyPress) × (p : KeyPress)
+    × Holds before ps × AreOfEither keys first second × IsTaken (find held.chords) ps first second p
+    × Holds after (ps ++ p ∷ [])
+PressedEither None before keys after = ⊥
+
+-- an outcome in numbers
+abbrev pub c_outcome : Outcome ℕ → COutcome
+c_outcome (Bound keys value) = record { keys = keys; value = value; press = record { key = 0; held = 0; detail = 0 } }
+c_outcome (Unbound p) = record { keys = 1; value = 0; press = c_press p }
+
+-- the item at the front was taken, and this is its outcome
+abbrev pub Takes : Option ChordBindings → Bool → CMatcher → Outcome ℕ → CMatcher → Type 0
+Takes (Some held) more before outcome after =
+    (ps left : List KeyPress) × Holds before ps × Holds after left
+    × Steps (find held.chords) more ps (outcome ∷ []) left
+Takes None more before outcome after = ⊥
+
+-- a chord was pressed
+abbrev pub TakesBound : Option ChordBindings → Bool → CMatcher → COutcome → CMatcher → Type 0
+TakesBound held more before out after =
+    (keys value : ℕ) × Takes held more before (Bound keys value) after × (out ≡ c_outcome (Bound keys value))
+
+-- a press begins no chord
+abbrev pub TakesUnbound : Option ChordBindings → Bool → CMatcher → COutcome → CMatcher → Type 0
+TakesUnbound held more before out after =
+    (p : KeyPress) × Takes held more before (Unbound p) after × (out ≡ c_outcome (Unbound p))
+
+-- what is pending is nothing, or more may come and it may yet become a longer chord
+abbrev pub Waits : Option ChordBindings → Bool → CMatcher → Type 0
+Waits (Some held) more m = (ps : List KeyPress) × Holds m ps × IsPending (find held.chords) more ps
+Waits None more m = ⊥
+
+-- giving up would give this outcome first
+abbrev pub Decides : Option ChordBindings → CMatcher → Outcome ℕ → Type 0
+Decides (Some held) m outcome =
+    (ps left : List KeyPress) × Holds m ps × Steps (find held.chords) false ps (outcome ∷ []) left
+Decides None m outcome = ⊥
+
+abbrev pub DecidesBound : Option ChordBindings → CMatcher → COutcome → Type 0
+DecidesBound held m out = (keys value : ℕ) × Decides held m (Bound keys value) × (out ≡ c_outcome (Bound keys value))
+
+abbrev pub DecidesUnbound : Option ChordBindings → CMatcher → COutcome → Type 0
+DecidesUnbound held m out = (p : KeyPress) × Decides held m (Unbound p) × (out ≡ c_outcome (Unbound p))
+
+-- there are bindings, and what is pending is a mistake of several presses
+abbrev pub HasDeadEnd : Option ChordBindings → CMatcher → Type 0
+HasDeadEnd (Some held) m = (ps : List KeyPress) × Holds m ps × IsDeadEnd (find held.chords) ps
+HasDeadEnd None m = ⊥
+
+-- `keys` has as many of the presses that are pending as it has room for, and `count` is how many they are
+abbrev pub WrotePending : CMatcher → List CKeyPress → List CKeyPress → ℕ → Type 0
+WrotePending m before after count =
+    (ps : List KeyPress) → Holds m ps → (count ≡ length ps) × (after ≡ with_presses ps before)
