@@ -6,7 +6,6 @@ use Rattle.termwiz_extended_events.specs.declared.types.KeyEventKind.TheVariants
 use Rattle.termwiz_extended_events.specs.declared.types.ReportedKey.{ReportedKey}
 use Rattle.termwiz_extended_events.specs.KeyReports.{report_of}
 use Rattle.termwiz_bindings.specs.declared.press.KeyPress.{KeyPress}
-use Rattle.termwiz_bindings.specs.Codes.{IsPress}
 use Rattle.termwiz_bindings.specs.Numbers.{StandForReported}
 use Rattle.termwiz_bindings.specs.Presses.{canonical}
 use Rattle.termwiz_bindings.proofs.lemmas.KeyNumbers.{stands_for_itself}

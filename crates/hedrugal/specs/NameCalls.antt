@@ -1,5 +1,5 @@
 -- The names of keys, as C reads and prints them.
-use Rattle.std.specs.Prelude.{◌≡◌, ℕ, List, length, Result, Ok, Err, unwrap_or}
+use Rattle.std.specs.Prelude.{◌≡◌, ℕ, List, length, Ok, Err, unwrap_or}
 use Rattle.std.specs.Str.{IsUtf8}
 use Rattle.termwiz_bindings.specs.declared.names.ReadError.{ReadError}
 use Rattle.termwiz_bindings.specs.declared.names.ReadErrorKind.{ReadErrorKind}

@@ -1,8 +1,5 @@
-use Rattle.std.proofs.Common.{◌≡◌, ◌∙◌, ◌≤◌, ◌<◌, ◌++◌, ◌∷◌, List, Some, None, add-one, length, min, take, drop, map, sym, ap, arith}
-use Rattle.std.proofs.lemmas.List.{length-take}
-use Rattle.std.specs.List.{slice_get, slice_set}
-use Rattle.hedrugal.specs.declared.press_calls.CKeyPress.{CKeyPress}
-use Rattle.hedrugal.specs.PressCalls.{c_press}
+use Rattle.std.proofs.Common.{◌≡◌, ◌∙◌, ◌≤◌, ◌<◌, Some, add-one, length, min, sym, arith}
+use Rattle.std.specs.List.{slice_get}
 use Rattle.hedrugal.proofs.PressNumbers.{all_written, one_more_written, press_inside}
 use Rattle.hedrugal.proofs.chords.copy_presses.Goals as goal
 use Rattle.hedrugal.proofs.chords.copy_presses.Goals.{else-loop-place-test, then-loop-place-test+in_default}

@@ -1,4 +1,4 @@
-use Rattle.std.proofs.Common.{◌≡◌, Some, sym, subst, ◌∙◌}
+use Rattle.std.proofs.Common.{◌≡◌, Some, subst}
 use Rattle.termwiz_bindings.specs.declared.press.KeyPress.{KeyPress}
 use Rattle.hedrugal.specs.PressCalls.{c_press}
 use Rattle.hedrugal.proofs.PressNumbers.{key_stands, press_found}
