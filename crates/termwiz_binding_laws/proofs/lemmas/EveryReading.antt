@@ -11,7 +11,6 @@ use Rattle.termwiz_extended_events.specs.declared.types.Reading.{Reading}
 use Rattle.termwiz_extended_events.specs.EventKeys.{pressed_key}
 use Rattle.termwiz_extended_events.specs.Meanings.{event_of, IsKey, IsKeyOrPosition}
 use Rattle.termwiz_extended_grammar.specs.ExtraSequences.{with_alt}
-use Rattle.termwiz_extended_grammar.specs.ExtendedGrammar.{Means}
 use Rattle.termwiz_extended_grammar.specs.ExtendedGrammar.Stands.{alt_key}
 use Rattle.termwiz_extended_grammar.specs.Readings.{after_event}
 use Rattle.termwiz_extended_grammar.proofs.lemmas.items.ExtendedRests.{empty_is_rest}
@@ -85,17 +84,20 @@ read_anywhere reading text k p means alike = go (read_as reading text k false (r
         let same : drop 1 text ≡ v = ap (drop 1) split in
         let told = joined (event_of v) p is.reports
         (subst (λ u. report_press (with_alt (event_of u)) (Some p) ≡ Some p) same alike.after_escape) in
-        let row = behind_row reading text v k split (single text k means) is in
-        (with_alt (event_of v), record {
-          steps = (
-            [],
-            alt_key v [] (event_of v) is.is_extra
-                (record { is_key = told.is_key; layout = inl (row.0, row_is v row.0 row.1) })
-                (split ∙ ap (λ u. ESC ++ u) (sym (append-nil v))),
-            refl,
-          );
-          rest = empty_is_rest (after_event reading (with_alt (event_of v))) false;
-        }, told.press)
+        let row = behind_row reading text v k split (single text k means) is in (
+          with_alt (event_of v),
+          record {
+            steps = (
+              [],
+              alt_key v [] (event_of v) is.is_extra
+                  (record { is_key = told.is_key; layout = inl (row.0, row_is v row.0 row.1) })
+                  (split ∙ ap (λ u. ESC ++ u) (sym (append-nil v))),
+              refl,
+            );
+            rest = empty_is_rest (after_event reading (with_alt (event_of v))) false;
+          },
+          told.press,
+        )
 
     go : ReadAs reading text k false → IsReadAsPress reading text p
     go (as_key it) = (Input (input.Key k), it, alike.as_key)

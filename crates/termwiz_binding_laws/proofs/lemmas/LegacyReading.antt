@@ -1,5 +1,5 @@
 -- Before Kitty's protocol the extended parser reads a text as one key if the port does.
-use Rattle.std.proofs.Common.{◌≡◌, ℕ, Bool, false, List, [], ◌∷◌, arith, Contains}
+use Rattle.std.proofs.Common.{ℕ, Bool, false, List, [], ◌∷◌, arith, Contains}
 use Rattle.termwiz_keys.specs.declared.types.KeyEvent.{KeyEvent}
 use Rattle.termwiz_keys.specs.declared.types.InputEvent.TheVariants as input
 use Rattle.termwiz_grammar.specs.Grammar as port

@@ -16,7 +16,6 @@ use Rattle.termwiz_laws.proofs.lemmas.further_keys.WideReadings.{wide_reading, w
 use Rattle.termwiz_extended_events.specs.declared.types.Reading.{Reading}
 use Rattle.termwiz_extended_events.specs.declared.types.ExtendedEvent.TheVariants.{Input}
 use Rattle.termwiz_bindings.specs.declared.press.KeyPress.{KeyPress}
-use Rattle.termwiz_bindings.specs.Presses.{event_report, settled_report}
 use Rattle.termwiz_binding_laws.specs.Twins.{twin}
 use Rattle.termwiz_binding_laws.specs.EncodedPresses.{at_first, IsReadAsPress, IsReadAsKey}
 use Rattle.termwiz_binding_laws.proofs.lemmas.ComputedPresses.{AllTold, told, wanted, AllToldAtFirst, told_at_first, wanted_at_first, twin_press, part_of_key, coded_rows, press_read, presses_of_text, press_of_text}
@@ -66,9 +65,12 @@ told_key reading modes cases key held text test here are sends =
 pub told_key_at_first : (modes : KeyCodeEncodeModes) (cases : List Held) (key : KeyCode) (held : ℕ) (text : List ℕ)
     → AllToldAtFirst modes cases → Contains cases (key, held) → AreRows (part_of_key key) → enc key (bits held) modes ≡ Some text
     → IsReadAsKey at_first text (twin key held modes)
-told_key_at_first modes cases key held text test here are sends =
-    (press, cc (all), go (wide_reading (part_of_key key) text) refl
-    (ap (press_of_text (part_of_key key)) (sym sends) ∙ rest))
+told_key_at_first modes cases key held text test here are sends = (
+  press,
+  cc (all),
+  go (wide_reading (part_of_key key) text) refl
+      (ap (press_of_text (part_of_key key)) (sym sends) ∙ rest),
+)
   where
     press : KeyPress
     press = twin_press modes (key, held)
