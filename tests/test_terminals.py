@@ -15,7 +15,7 @@ import pytest
 from plain_reader import read as plain_read
 from presses import ALT, CAPS_LOCK, CTRL, NUM_LOCK, SHIFT, canonical, press
 from terminal_data import is_kitty
-from terminal_tables import DOCUMENT, in_document, load_all, tables
+from terminal_tables import DOCUMENT, in_document, load_all, peers, tables
 
 FILES = load_all()
 TERMINALS = sorted(FILES)
@@ -255,6 +255,13 @@ def test_every_line_is_read():
     kinds = collections.Counter(it.kind for _, lines in FILES.values() for it in lines)
     assert set(kinds) == {"press", "release", "mouse", "focus", "paste", "reply"}
     assert kinds["press"] > 8000
+
+
+def test_other_parsers():
+    """No other parser reads more presses exactly, of any terminal in any mode."""
+    for (terminal, mode), (presses, *exact) in peers()[1].items():
+        good, all_ = judged()[terminal, mode, "extended"]
+        assert presses == all_ and good >= max(exact), (terminal, mode, good, exact)
 
 
 @pytest.mark.parametrize("name", ["exact", "reasons", "apart", "pastes", "replies"])

@@ -4,8 +4,6 @@ use Rattle.std.specs.Char.{IsScalar}
 use Rattle.termwiz_base.specs.Bits.{HasEvery}
 use Rattle.termwiz_base.specs.Kitty as kitty
 use Rattle.termwiz_extended_events.specs.declared.types.KeyReport.{KeyReport}
-use Rattle.termwiz_extended_events.specs.declared.types.ReportedKey.{ReportedKey}
-use Rattle.termwiz_extended_events.specs.declared.types.ReportedKey.TheVariants.{Named, Functional}
 use Rattle.termwiz_kitty.specs.KittyTexts.{kitty_text, IsTooLong, IsWithin}
 use Rattle.hedrugal.specs.declared.extended_events.CKeyReport.{CKeyReport}
 use Rattle.hedrugal.specs.Calls.{copied}

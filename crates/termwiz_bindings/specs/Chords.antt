@@ -1,5 +1,5 @@
 -- A chord as it is held: the codes of its presses, and zeros after them.
-use Rattle.std.specs.Prelude.{◌≡◌, ℕ, ◌*◌, ◌-◌, ◌≤◌, List, ◌++◌, length, take, replicate}
+use Rattle.std.specs.Prelude.{◌↔◌, Bool, IsTrue, ◌≡◌, ℕ, ◌*◌, ◌-◌, ◌≤◌, List, ◌++◌, length, take, replicate}
 use Rattle.std.specs.List.{All}
 use Rattle.termwiz_bindings.specs.declared.chord.TheConstants.{MAX_KEYS}
 use Rattle.termwiz_bindings.specs.declared.press.KeyPress.{KeyPress}
@@ -27,3 +27,7 @@ pub record HoldChord (bytes : List ℕ) (len : ℕ) : Type 0 where
   pub chord : IsChord (held_presses bytes len)
   pub count : length (held_presses bytes len) ≡ len
   pub padding : padded (held_presses bytes len) ≡ bytes
+
+-- the test answers whether two chords have the same presses
+abbrev pub TellsChordsApart : (List KeyPress → List KeyPress → Bool) → Type 0
+TellsChordsApart test = (a b : List KeyPress) → IsChord a → IsChord b → IsTrue (test a b) ↔ (a ≡ b)

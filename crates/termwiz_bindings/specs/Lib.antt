@@ -1,9 +1,12 @@
 pub mod BindingLaws
 pub mod Bindings
 pub mod Chords
+pub mod ChordLaws
 pub mod Codes
 pub mod CodeLaws
 pub mod MainKeys
+pub mod Matchers
+pub mod Matching
 pub mod Numbers
 pub mod Presses
 pub mod PressLaws

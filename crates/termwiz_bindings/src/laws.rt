@@ -1,9 +1,12 @@
 //! Laws of presses, each the contract of a function without effect.
 ghost use Rattle.std.specs.Prelude.{ℕ, Option};
 ghost use Rattle.termwiz_bindings.specs.BindingLaws.{AreChordsInOrder, ChangeOneChord};
+ghost use Rattle.termwiz_bindings.specs.Chords.{TellsChordsApart};
 ghost use Rattle.termwiz_bindings.specs.CodeLaws.{CodesBeginAsPresses, CodesHaveOneWidth, CodesTellPresses};
 ghost use Rattle.termwiz_bindings.specs.Presses.{main_press, shown_press, control_press, capital_press, unshifted_press, lowered_press};
 ghost use Rattle.termwiz_bindings.specs.PressLaws.{IsSettled, LocksChangeNothing, NeverBoth, NoPressOfRelease, PressesHaveNoLocks, PressesSettle, SecondOnlyOf, SecondWithoutText, SidesChangeNothing};
+
+use crate::chord::Chord;
 
 /// A press, taken as a report that says no more, is its own press (`settled`). So a program may keep presses, and read them as reports
 /// again. Of Kitty's bits it has only the six that are no locks (`held`).
@@ -60,4 +63,9 @@ pub fn one_chord<V>()
 /// those at higher places have greater codes.
 pub fn chords_in_order<V>()
     ensures { AreChordsInOrder V }
+{}
+
+/// Two chords are equal by `==` exactly if they have the same presses.
+pub fn chord_equality()
+    ensures { TellsChordsApart ⟦<Chord as PartialEq>⟧.eq }
 {}

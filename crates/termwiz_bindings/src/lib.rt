@@ -3,8 +3,8 @@
 
 pub mod bindings;
 pub mod chord;
+pub mod chord_laws;
 pub mod laws;
+pub mod matcher;
 pub mod numbers;
 pub mod press;
-#[cfg(test)]
-mod tests;

@@ -13,7 +13,7 @@ use Rattle.termwiz_bindings.specs.Chords.{HoldChord, IsChord, held_presses, padd
 use Rattle.termwiz_bindings.proofs.lemmas.CodedPresses.{code_length, codes_append, codes_drop, codes_length, presses_of}
 
 -- a chord is held by its codes with zeros after them
-held_by : (ps : List KeyPress) → IsChord ps → held_presses (padded ps) (length ps) ≡ ps
+pub held_by : (ps : List KeyPress) → IsChord ps → held_presses (padded ps) (length ps) ≡ ps
 held_by ps is =
     ap presses_with (take_at (codes ps) _ (length ps * code_len) (codes_length ps)) ∙ presses_of ps is.presses
 

@@ -18,7 +18,7 @@ use Rattle.termwiz_bindings.proofs.lemmas.HeldBits.{IsHeld, held_below, some_hel
 use Rattle.termwiz_bindings.proofs.lemmas.CharacterRules.{IsMainPress, main_is_main, main_stays, character_is_main, rules_keep, IsPlain, plain_character, plain_stays, control_plain, cased_plain, cased_settles}
 
 -- a press that no rule changes
-pub record IsPress (p : KeyPress) : Type 0 where
+pub record IsUnchanged (p : KeyPress) : Type 0 where
   pub main : IsMainPress p
   pub plain : IsPlain p.key
   pub cased : cased_press p ≡ p
@@ -30,13 +30,13 @@ none_shown (Named (Char c)) held = refl
 none_shown key held = refl
 
 -- it is its own press
-own_press : (p : KeyPress) → IsPress p → canonical (report_of_press p) ≡ Some p
+own_press : (p : KeyPress) → IsUnchanged p → canonical (report_of_press p) ≡ Some p
 unfolding canonical settled
 own_press p is =
     rw (is.main.makes, main_stays p is.main, none_shown p.key p.held, plain_stays p is.plain, is.cased) refl
 
 -- what the rules make is a press
-settled_is_press : (shifted : Option ℕ) (p : KeyPress) → makes_no_press p.key ≡ false → IsPress (settled shifted p)
+settled_is_press : (shifted : Option ℕ) (p : KeyPress) → makes_no_press p.key ≡ false → IsUnchanged (settled shifted p)
 unfolding settled
 settled_is_press shifted p makes =
     let shown : KeyPress = shown_press (counted shifted) (main_press p) in
@@ -64,7 +64,7 @@ typed_cased c held false is = rw (is, is, no_capital (is_ascii_uppercase c)) ref
     no_capital true = refl
     no_capital false = refl
 
-typed_is_press : (c held : ℕ) → is_control c ≡ false → IsPress (typed_character c held)
+typed_is_press : (c held : ℕ) → is_control c ≡ false → IsUnchanged (typed_character c held)
 typed_is_press c held counted_one = record {
   main = character_is_main c _ (typed_held (c == 32));
   plain = plain_character c (grind (arith, nat_tests));
@@ -101,35 +101,35 @@ only_counts c none = go (is_control c) none
     go false is = refl
     go true is = cc
 
-typed_own : (r : KeyReport) (p : KeyPress) → is_typed r.modifiers r.text ≡ true → typed_press (chars r.text) r.modifiers ≡ Some p → IsPress p
+typed_own : (r : KeyReport) (p : KeyPress) → is_typed r.modifiers r.text ≡ true → typed_press (chars r.text) r.modifiers ≡ Some p → IsUnchanged p
 typed_own r p typed is =
     let one = only_one (chars r.text) r.modifiers p is in
     let none : list_any is_control (one.0 ∷ []) ≡ false =
     subst (λ cs. list_any is_control cs ≡ false) one.1 (typed_text_counts r typed) in
-    subst IsPress one.2 (typed_is_press one.0 r.modifiers (only_counts one.0 none))
+    subst IsUnchanged one.2 (typed_is_press one.0 r.modifiers (only_counts one.0 none))
 
 -- what a report has is a press
-pub canonical_is_press : (r : KeyReport) (p : KeyPress) → canonical r ≡ Some p → IsPress p
+pub canonical_is_press : (r : KeyReport) (p : KeyPress) → canonical r ≡ Some p → IsUnchanged p
 unfolding canonical
 canonical_is_press r p is = released (is_release r.kind) is
   where
     typed : makes_no_press r.key ≡ false → (b : Bool) → is_typed r.modifiers r.text ≡ b
-        → (if b then typed_press (chars r.text) r.modifiers else Some (settled_report r)) ≡ Some p → IsPress p
+        → (if b then typed_press (chars r.text) r.modifiers else Some (settled_report r)) ≡ Some p → IsUnchanged p
     typed makes true told some = typed_own r p told some
     typed makes false told some =
         let same : settled_report r ≡ p = cc in
-        subst IsPress same (settled_is_press r.shifted (record { key = r.key; held = r.modifiers }) makes)
+        subst IsUnchanged same (settled_is_press r.shifted (record { key = r.key; held = r.modifiers }) makes)
 
     pressed : (b : Bool) → makes_no_press r.key ≡ b
         → (if b then None else (if is_typed r.modifiers r.text then typed_press (chars r.text) r.modifiers else Some (settled_report r))) ≡ Some p
-        → IsPress p
+        → IsUnchanged p
     pressed true makes some = cc
     pressed false makes some = typed makes (is_typed r.modifiers r.text) refl some
 
     released : (b : Bool)
         → (if b then None else (if makes_no_press r.key then None
         else (if is_typed r.modifiers r.text then typed_press (chars r.text) r.modifiers else Some (settled_report r)))) ≡ Some p
-        → IsPress p
+        → IsUnchanged p
     released true some = cc
     released false some = pressed (makes_no_press r.key) refl some
 

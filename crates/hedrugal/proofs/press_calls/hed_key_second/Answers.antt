@@ -7,5 +7,5 @@ use Rattle.hedrugal.proofs.press_calls.hed_key_second.Goals as goal
 pub returns-clause-none : goal.returns-clause-none
 returns-clause-none c = λ is r stands.
     let same : c.in-Some.told ≡ without_text r = cc (c.in-Some.ensures.only r stands) in
-    let none : second c.in-Some.told ≡ None = cc (c.write_press.ensures.none is, c.second.ensures) in
+    let none : second c.in-Some.told ≡ None = cc (c.write_press.ensures.none is, c.second.ensures.value) in
     cc (same, none, c.second_presses.ensures.text r [])

@@ -1,0 +1,63 @@
+-- What the calls of a matcher answer.
+use Rattle.std.specs.Prelude.{◌≡◌, ◌⊎◌, ◌<◌, ◌≤◌, ℕ, List, [], ◌∷◌, ◌++◌, length, take, Option, Some, None}
+use denote.Ref.{Bor}
+use Rattle.termwiz_bindings.specs.declared.press.KeyPress.{KeyPress}
+use Rattle.termwiz_bindings.specs.declared.matcher.Outcome.{Outcome}
+use Rattle.termwiz_bindings.specs.declared.matcher.Outcome.TheVariants.{Bound, Unbound}
+use Rattle.termwiz_bindings.specs.Matching.{Chords, IsChord, BeginWithNone, IsContinued, IsLongestChord}
+
+module _ {V : Type 0} where
+  -- an outcome by reference, with the value that it refers to
+  abbrev pub outcome_copied : Outcome (Bor V) → Outcome V
+  outcome_copied (Bound keys value) = Bound keys value.now
+  outcome_copied (Unbound press) = Unbound press
+
+  -- how many presses an outcome takes
+  abbrev pub keys_of : Outcome V → ℕ
+  keys_of (Bound keys value) = keys
+  keys_of (Unbound press) = 1
+
+  -- what a lookup found: the longest chord that the presses begin with, if there is one
+  abbrev pub FoundLongest : Chords V → List KeyPress → Option (ℕ × Bor V) → Type 0
+  FoundLongest find presses None = BeginWithNone find presses
+  FoundLongest find presses (Some found) =
+      (found.0 ≤ length presses) × IsLongestChord find presses (take found.0 presses) found.1.now
+
+  -- the outcome of presses for which this was found, or of none
+  abbrev pub outcome_found : Option (ℕ × Bor V) → List KeyPress → Option (Outcome (Bor V))
+  outcome_found (Some found) presses = Some (Bound found.0 found.1)
+  outcome_found None [] = None
+  outcome_found None (press ∷ presses) = Some (Unbound press)
+
+  -- A mistake of several presses: no chord goes on after them, and they begin with none.
+  pub record IsDeadEnd (find : Chords V) (presses : List KeyPress) : Type 0 where
+    pub several : 1 < length presses
+    pub ends : ¬ IsContinued find presses
+    pub unbound : BeginWithNone find presses
+
+  -- A press leads on after other presses: some chord begins with them and it.
+  pub record LeadsOn (find : Chords V) (presses : List KeyPress) (press : KeyPress) : Type 0 where
+    pub rest : List KeyPress
+    pub is_chord : IsChord find (presses ++ press ∷ rest)
+
+  -- of two presses the first leads on, or else the second does, or neither
+  abbrev pub IsPreferred : Chords V → List KeyPress → KeyPress → KeyPress → Option KeyPress → Type 0
+  IsPreferred find presses first second (Some press) = (LeadsOn find presses first × (press ≡ first))
+      ⊎ ((¬ LeadsOn find presses first) × LeadsOn find presses second × (press ≡ second))
+  IsPreferred find presses first second None = (¬ LeadsOn find presses first) × (¬ LeadsOn find presses second)
+
+  -- only the second of two presses leads on
+  pub record OnlySecondLeadsOn (find : Chords V) (presses : List KeyPress) (first second : KeyPress) : Type 0 where
+    pub first_ends : ¬ LeadsOn find presses first
+    pub second_leads : LeadsOn find presses second
+
+  -- The second of two presses is taken: only it leads on after what is pending, or, if neither does, after nothing.
+  abbrev pub TakesSecond : Chords V → List KeyPress → KeyPress → KeyPress → Type 0
+  TakesSecond find presses first second = OnlySecondLeadsOn find presses first second
+      ⊎ ((¬ LeadsOn find presses first) × (¬ LeadsOn find presses second) × OnlySecondLeadsOn find [] first second)
+
+  -- the one of two presses that is taken; the second may be missing
+  abbrev pub IsTaken : Chords V → List KeyPress → KeyPress → Option KeyPress → KeyPress → Type 0
+  IsTaken find presses first None press = press ≡ first
+  IsTaken find presses first (Some second) press = (TakesSecond find presses first second × (press ≡ second))
+      ⊎ ((¬ TakesSecond find presses first second) × (press ≡ first))
