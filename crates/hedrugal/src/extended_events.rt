@@ -13,8 +13,7 @@ use termwiz_bindings::numbers::{key_detail, key_number, reported_detail, reporte
 use termwiz_input::types::{InputEvent, KeyEvent};
 use termwiz_input_extended::input::ExtendedWaiting;
 use termwiz_input_extended::types::{
-    ExtendedEvent, KeyEventKind, KeyReport, ReportedKey, SideButtonEvent, SideButtonKind,
-    StringKind,
+    ExtendedEvent, KeyEventKind, KeyReport, SideButtonEvent, SideButtonKind, StringKind,
 };
 
 // The kinds of events that only this parser has.

@@ -2,7 +2,6 @@
 ghost use Rattle.std.specs.Prelude.{◌≡◌, ℕ, [], Option, Some, IfSome, IfNone};
 ghost use Rattle.termwiz_extended_events.specs.declared.types.KeyEventKind.{KeyEventKind as Kind};
 ghost use Rattle.termwiz_extended_events.specs.declared.types.KeyReport.{KeyReport as Report};
-ghost use Rattle.termwiz_extended_events.specs.declared.types.ReportedKey.{ReportedKey as Key};
 ghost use Rattle.hedrugal.specs.ExtendedEvents.{key_event_kind_number};
 ghost use Rattle.hedrugal.specs.KittyCalls.{IsCode, StandForReport, without_text};
 
@@ -11,7 +10,7 @@ use crate::extended_events::{
 };
 use std::alloc::Global;
 use termwiz_bindings::numbers::reported_key;
-use termwiz_input_extended::types::{KeyEventKind, KeyReport, KeyText, ReportedKey};
+use termwiz_input_extended::types::{KeyEventKind, KeyReport, KeyText};
 
 // What happened to a key, by its number.
 #[tactic(auto, unfolding(crate::specs::ExtendedEvents::key_event_kind_number))]

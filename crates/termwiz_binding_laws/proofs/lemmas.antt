@@ -2,6 +2,7 @@ pub mod AsciiPresses
 pub mod BeginKey
 pub mod ComputedPresses
 pub mod EncodedKeys
+pub mod EveryReading
 pub mod KittyPresses
 pub mod KittyReports
 pub mod KittyTyped
@@ -12,6 +13,7 @@ pub mod NewlineEnters
 pub mod OtherCodes
 pub mod OwnTwins
 pub mod PortPresses
+pub mod RowReports
 pub mod SameTexts
 pub mod WideCharacters
 pub mod WidePresses

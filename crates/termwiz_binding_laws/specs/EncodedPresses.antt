@@ -1,8 +1,8 @@
 -- What is read of the texts of keys, as presses.
-use Rattle.std.specs.Prelude.{◌≡◌, ◌≢◌, ⊤, ◌+◌, ◌≤◌, ℕ, Bool, true, false, not, ◌&&◌, ◌||◌, List, [], ◌∷◌, ◌++◌, map, Option, Some, option_and_then, Contains}
+use Rattle.std.specs.Prelude.{◌≡◌, ◌≢◌, ⊤, ◌+◌, ◌≤◌, ◌==◌, ℕ, Bool, true, false, not, ◌&&◌, ◌||◌, List, [], ◌∷◌, ◌++◌, map, Option, Some, option_and_then, Contains}
 use Rattle.std.specs.Char.{IsScalar}
 use Rattle.termwiz_keys.specs.declared.types.KeyCode.{KeyCode}
-use Rattle.termwiz_keys.specs.declared.types.KeyCode.TheVariants.{Char, Backspace, Tab, Enter, Numpad0, Numpad1, Numpad2, Numpad3, Numpad4, Numpad5, Numpad6, Numpad7, Numpad8, Numpad9, Decimal}
+use Rattle.termwiz_keys.specs.declared.types.KeyCode.TheVariants.{Char, Function, Backspace, Tab, Enter, Numpad0, Numpad1, Numpad2, Numpad3, Numpad4, Numpad5, Numpad6, Numpad7, Numpad8, Numpad9, Decimal}
 use Rattle.termwiz_keys.specs.declared.types.KeyEvent.{KeyEvent}
 use Rattle.termwiz_keys.specs.declared.types.InputEvent.TheVariants as input
 use Rattle.termwiz_keys.specs.declared.encode.KeyCodeEncodeModes.{KeyCodeEncodeModes}
@@ -34,12 +34,12 @@ abbrev pub press_of_event : ExtendedEvent → Option KeyPress
 press_of_event event = option_and_then canonical (key_of_event event)
 
 -- With no more to come, the text is one event, a key with this press, and nothing waits.
-abbrev pub IsReadAsPress : List ℕ → KeyPress → Type 0
-IsReadAsPress text p = (event : ExtendedEvent) × Means at_first text false (event ∷ []) [] × (press_of_event event ≡ Some p)
+abbrev pub IsReadAsPress : Reading → List ℕ → KeyPress → Type 0
+IsReadAsPress reading text p = (event : ExtendedEvent) × Means reading text false (event ∷ []) [] × (press_of_event event ≡ Some p)
 
 -- the text is read as one key, whose press is that of this key
-abbrev pub IsReadAsKey : List ℕ → KeyEvent → Type 0
-IsReadAsKey text k = (p : KeyPress) × (press_of_key k ≡ Some p) × IsReadAsPress text p
+abbrev pub IsReadAsKey : Reading → List ℕ → KeyEvent → Type 0
+IsReadAsKey reading text k = (p : KeyPress) × (press_of_key k ≡ Some p) × IsReadAsPress reading text p
 
 -- the sets of SHIFT, ALT, CTRL and SUPER
 abbrev pub any_of_four : List ℕ
@@ -70,7 +70,18 @@ is_newline key held modes = false
 abbrev pub PressesOfEncodedKeys : Type 0
 PressesOfEncodedKeys = (key : KeyCode) (held : ℕ) (modes : KeyCodeEncodeModes) (text : List ℕ) → IsCovered key → Contains any_of_four held
     → is_newline key held modes ≡ false → enc key (record { 0 = held }) modes ≡ Some text → text ≢ []
-    → IsReadAsKey text (twin key held modes)
+    → IsReadAsKey at_first text (twin key held modes)
+
+-- F3 with a modifier: its text is also a report of the cursor's position
+abbrev pub is_position : KeyCode → ℕ → Bool
+is_position (Function n) held = (n == 3) && not (held == NONE)
+is_position key held = false
+
+-- The same under every reading, but for F3 with a modifier.
+abbrev pub PressesInEveryReading : Type 0
+PressesInEveryReading = (reading : Reading) (key : KeyCode) (held : ℕ) (modes : KeyCodeEncodeModes) (text : List ℕ) → IsCovered key
+    → Contains any_of_four held → is_newline key held modes ≡ false → is_position key held ≡ false
+    → enc key (record { 0 = held }) modes ≡ Some text → text ≢ [] → IsReadAsKey reading text (twin key held modes)
 
 -- Enter in newline mode is read as Enter twice, the second time without ALT.
 abbrev pub NewlinesAreTwoEnters : Type 0
@@ -96,7 +107,7 @@ TwinsReadAlike = (key : KeyCode) (held : ℕ) (modes : KeyCodeEncodeModes) (text
     → is_newline (twin key held modes).key (twin key held modes).modifiers.0 modes ≡ false
     → enc key (record { 0 = held }) modes ≡ Some text
     → enc (twin key held modes).key (twin key held modes).modifiers modes ≡ Some other
-    → text ≢ [] → other ≢ [] → (p : KeyPress) × IsReadAsPress text p × IsReadAsPress other p
+    → text ≢ [] → other ≢ [] → (p : KeyPress) × IsReadAsPress at_first text p × IsReadAsPress at_first other p
 
 -- keys that are sent in more than one way: backspace as 127 and 8, Enter as 13 and 10, Tab as its byte and, with ALT, by its code
 abbrev pub has_more_texts : KeyCode → Bool

@@ -1,5 +1,5 @@
 //! Laws of presses and the port's encoder: what a key sends is read as the press of its twin.
-ghost use Rattle.termwiz_binding_laws.specs.EncodedPresses.{NewlinesAreTwoEnters, PressesOfEncodedKeys, TwinsAreTheirOwn, TwinsReadAlike, TwinsSendTheSame};
+ghost use Rattle.termwiz_binding_laws.specs.EncodedPresses.{NewlinesAreTwoEnters, PressesInEveryReading, PressesOfEncodedKeys, TwinsAreTheirOwn, TwinsReadAlike, TwinsSendTheSame};
 
 /// What a key sends is read as exactly one key, and this has the press of the key's twin. So it is for every set of SHIFT, ALT, CTRL and
 /// SUPER, in all modes and encodings of `KeyCode::encode`, with no more bytes to come. The parser is as it begins, before Kitty's
@@ -10,6 +10,12 @@ ghost use Rattle.termwiz_binding_laws.specs.EncodedPresses.{NewlinesAreTwoEnters
 /// editing block.
 pub fn presses_of_encoded_keys()
     ensures { PressesOfEncodedKeys }
+{}
+
+/// The same with any state of the parser, under Kitty's protocol too, but for F3 with a modifier. Its text is also a report of the cursor's
+/// position, and is read as one under Kitty's protocol, and while a question for the position is open.
+pub fn presses_in_every_reading()
+    ensures { PressesInEveryReading }
 {}
 
 /// Enter in newline mode, without SHIFT and CTRL, is read as Enter twice, the second time without ALT.

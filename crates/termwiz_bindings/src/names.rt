@@ -7,8 +7,6 @@ mod chords;
 mod keys;
 mod numbers;
 mod printing;
-#[cfg(test)]
-mod tests;
 mod words;
 
 use crate::chord::Chord;

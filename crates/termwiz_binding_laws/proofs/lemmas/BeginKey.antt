@@ -21,6 +21,7 @@ use Rattle.termwiz_laws.proofs.lemmas.further_keys.ComputedReadings.{enc_written
 use Rattle.termwiz_laws.proofs.lemmas.further_keys.FurtherReadings.{bits}
 use Rattle.termwiz_extended_events.specs.declared.types.KeyReport.{KeyReport}
 use Rattle.termwiz_extended_events.specs.declared.types.KeyEventKind.TheVariants.{Press}
+use Rattle.termwiz_extended_events.specs.declared.types.Reading.{Reading}
 use Rattle.termwiz_extended_events.specs.declared.types.ReportedKey.TheVariants.{Named}
 use Rattle.termwiz_extended_events.specs.declared.types.ExtendedEvent.TheVariants.{Key}
 use Rattle.termwiz_extended_events.specs.KeyReports.{report_of}
@@ -35,7 +36,7 @@ use Rattle.termwiz_kitty.proofs.lemmas.read_back.SequencesMean.{means_alone}
 use Rattle.termwiz_bindings.specs.declared.press.KeyPress.{KeyPress}
 use Rattle.termwiz_bindings.specs.Presses.{canonical, event_report}
 use Rattle.termwiz_binding_laws.specs.Twins.{twin}
-use Rattle.termwiz_binding_laws.specs.EncodedPresses.{at_first, any_of_four, IsReadAsKey}
+use Rattle.termwiz_binding_laws.specs.EncodedPresses.{any_of_four, IsReadAsKey}
 use Rattle.termwiz_binding_laws.proofs.lemmas.ComputedPresses.{canonical_written_out}
 
 -- what it sends
@@ -102,20 +103,20 @@ module _ (held : ℕ) (here : Contains any_of_four held) where
       let same : bytes_eq (begin_text held) (begin_text held) ≡ true = (bytes_eq-Decides (begin_text held) (begin_text held)).1 refl in
       cc (subst (λ b. not b ≡ true) same differs)
 
-  free : IsFree at_first (begin_text held)
+  free : (reading : Reading) → IsFree reading (begin_text held)
   unfolding IsSequence
-  free (Row k) sequence = absurd (row_free k sequence)
-  free (Report report) sequence =
+  free reading (Row k) sequence = absurd (row_free k sequence)
+  free reading (Report report) sequence =
       let plain = report_plain (begin_text held) report sequence in
       absurd (no_mouse (xterm_number held == 0) (xterm_number held) plain.0 plain.1)
 
-  form : IsForm false (begin_text held)
-  form = go (xterm_number held == 0)
+  form : (x10_mouse : Bool) → IsForm x10_mouse (begin_text held)
+  form x10_mouse = go (xterm_number held == 0)
     where
       small : xterm_number held < 8
       small = small_number held here
 
-      go : (b : Bool) → IsForm false (if b then written [] 69 else written (49 ∷ 59 ∷ (49 + xterm_number held) ∷ []) 69)
+      go : (b : Bool) → IsForm x10_mouse (if b then written [] 69 else written (49 ∷ 59 ∷ (49 + xterm_number held) ∷ []) 69)
       go true = control (is_control [] 69 tt (omega arith, omega arith, (λ same. omega arith), (λ same. omega arith)) (omega arith))
       go false = control (is_control (49 ∷ 59 ∷ (49 + xterm_number held) ∷ []) 69
           ((omega arith, omega arith), ((omega arith, omega arith), ((omega arith, omega (arith, small)), tt)))
@@ -125,17 +126,17 @@ module _ (held : ℕ) (here : Contains any_of_four held) where
   event = same_on (λ h. event_of (begin_text h)) (λ h. Key (begin_report h)) any_of_four held begin_events here
 
 -- its text is read as that key, which is its twin but for SUPER
-pub begin_is_read : (held : ℕ) (modes : KeyCodeEncodeModes) (text : List ℕ) → Contains any_of_four held
-    → enc KeyPadBegin (bits held) modes ≡ Some text → IsReadAsKey text (twin KeyPadBegin held modes)
-begin_is_read held modes text here sends = (
+pub begin_is_read : (reading : Reading) (held : ℕ) (modes : KeyCodeEncodeModes) (text : List ℕ) → Contains any_of_four held
+    → enc KeyPadBegin (bits held) modes ≡ Some text → IsReadAsKey reading text (twin KeyPadBegin held modes)
+begin_is_read reading held modes text here sends = (
   begin_press held,
   same_on (λ h. canonical (event_report (twin KeyPadBegin h modes))) (λ h. Some (begin_press h)) any_of_four held (begin_twins modes) here,
   (
     Key (begin_report held),
-    subst (λ t. Means at_first t false (Key (begin_report held) ∷ []) []) same
-        (means_alone at_first (begin_text held) false (Key (begin_report held)) (record {
-          is_form = form held here;
-          is_free = free held here;
+    subst (λ t. Means reading t false (Key (begin_report held) ∷ []) []) same
+        (means_alone reading (begin_text held) false (Key (begin_report held)) (record {
+          is_form = form held here reading.x10_mouse;
+          is_free = free held here reading;
           means = sym (event held here);
         })),
     same_on (λ h. canonical (begin_report h)) (λ h. Some (begin_press h)) any_of_four held begin_read here,

@@ -1,5 +1,5 @@
 -- The presses that the texts of keys are read as, computed over lists of keys with modifiers.
-use Rattle.std.proofs.Common.{◌≡◌, ℕ, List, ◌++◌, map, Option, Some, None}
+use Rattle.std.proofs.Common.{◌≡◌, ℕ, List, [], ◌∷◌, ◌++◌, map, drop, Option, Some, None}
 use Rattle.std.specs.Prelude.{option_and_then}
 use Rattle.std.specs.Str.{chars as text_chars}
 use Rattle.termwiz_keys.specs.declared.types.KeyCode.{KeyCode}
@@ -14,11 +14,14 @@ use Rattle.termwiz_laws.proofs.lemmas.further_keys.WideReadings.{wide_reading, p
 use Rattle.termwiz_extended_events.specs.declared.types.KeyReport.{KeyReport}
 use Rattle.termwiz_extended_events.specs.EventKeys.{pressed_key}
 use Rattle.termwiz_extended_events.specs.ReportedKeys.{functional_key}
+use Rattle.termwiz_extended_events.specs.Meanings.{event_of}
+use Rattle.termwiz_extended_grammar.specs.ExtraSequences.{with_alt}
 use Rattle.termwiz_bindings.specs.declared.press.KeyPress.{KeyPress}
 use Rattle.termwiz_bindings.specs.MainKeys as keys
 use Rattle.termwiz_bindings.specs.Presses as rules
 use Rattle.termwiz_bindings.specs.Presses.{canonical, event_report, settled_report}
 use Rattle.termwiz_binding_laws.specs.Twins.{twin}
+use Rattle.termwiz_binding_laws.proofs.lemmas.EveryReading.{report_press}
 
 -- the press of a report: to unfold this is to unfold every rule
 unfoldable pub canonical_written_out : KeyReport → Option KeyPress
@@ -39,11 +42,6 @@ part_of_key Escape = rows_for Escape ++ coded_rows
 part_of_key Backspace = rows_for Backspace ++ coded_rows
 part_of_key key = rows_for key
 
--- the key that the port reads a text as
-abbrev pub read_key : List TableRow → Option (List ℕ) → Option KeyEvent
-read_key part (Some text) = wide_reading part text
-read_key part None = None
-
 -- the press of a key event that is there
 abbrev pub press_read : Option KeyEvent → Option KeyPress
 press_read read = option_and_then (λ k. canonical (pressed_key k)) read
@@ -51,17 +49,41 @@ press_read read = option_and_then (λ k. canonical (pressed_key k)) read
 abbrev pub twin_of : KeyCodeEncodeModes → Held → KeyEvent
 twin_of modes p = twin p.0 p.1 modes
 
--- the press of the key that the text of a key is read as, and that of its twin
-abbrev pub told : KeyCodeEncodeModes → Held → Option KeyPress × Option KeyPress
-told modes p = (
-  press_read (read_key (part_of_key p.0) (enc p.0 (record { 0 = p.1 }) modes)),
-  canonical (event_report (twin_of modes p)),
-)
+abbrev pub twin_press : KeyCodeEncodeModes → Held → KeyPress
+twin_press modes p = settled_report (event_report (twin_of modes p))
 
--- both are there, and the same
-abbrev pub wanted : KeyCodeEncodeModes → Held → Option KeyPress × Option KeyPress
+-- what a text may be read as: the port's key, a report, or a report after an ESC
+abbrev pub presses_of_text : List TableRow → KeyPress → Option (List ℕ) → List (Option KeyPress)
+presses_of_text part press (Some text) =
+    press_read (wide_reading part text) ∷ report_press (event_of text) (Some press)
+    ∷ report_press (with_alt (event_of (drop 1 text))) (Some press) ∷ []
+presses_of_text part press None = []
+
+-- the press of the twin, and those of what the text of a key may be read as
+abbrev pub told : KeyCodeEncodeModes → Held → List (Option KeyPress)
+told modes p =
+    canonical (event_report (twin_of modes p))
+    ∷ presses_of_text (part_of_key p.0) (twin_press modes p) (enc p.0 (record { 0 = p.1 }) modes)
+
+-- all are the press of the twin
+abbrev pub wanted : KeyCodeEncodeModes → Held → List (Option KeyPress)
 wanted modes p =
-    (Some (settled_report (event_report (twin_of modes p))), Some (settled_report (event_report (twin_of modes p))))
+    Some (twin_press modes p) ∷ Some (twin_press modes p) ∷ Some (twin_press modes p) ∷ Some (twin_press modes p) ∷ []
 
 abbrev pub AllTold : KeyCodeEncodeModes → List Held → Type 0
 AllTold modes cases = map (told modes) cases ≡ map (wanted modes) cases
+
+-- the same where the text is read as the port's key alone
+abbrev pub press_of_text : List TableRow → Option (List ℕ) → Option KeyPress
+press_of_text part (Some text) = press_read (wide_reading part text)
+press_of_text part None = None
+
+abbrev pub told_at_first : KeyCodeEncodeModes → Held → List (Option KeyPress)
+told_at_first modes p =
+    canonical (event_report (twin_of modes p)) ∷ press_of_text (part_of_key p.0) (enc p.0 (record { 0 = p.1 }) modes) ∷ []
+
+abbrev pub wanted_at_first : KeyCodeEncodeModes → Held → List (Option KeyPress)
+wanted_at_first modes p = Some (twin_press modes p) ∷ Some (twin_press modes p) ∷ []
+
+abbrev pub AllToldAtFirst : KeyCodeEncodeModes → List Held → Type 0
+AllToldAtFirst modes cases = map (told_at_first modes) cases ≡ map (wanted_at_first modes) cases

@@ -1,7 +1,6 @@
 -- What is written under Kitty's protocol is read as the press of its report.
-use Rattle.std.proofs.Common.{◌≡◌, ◌≢◌, ◌∙◌, ℕ, Bool, true, false, not, List, [], ◌∷◌, Option, Some, refl, sym, ap, subst, ◌&&◌}
+use Rattle.std.proofs.Common.{◌≡◌, ◌∙◌, ℕ, Bool, true, false, not, [], Option, refl, sym, ap, subst, ◌&&◌}
 use Rattle.std.specs.Prelude.{option_map, if◌then◌else◌}
-use Rattle.std.proofs.lemmas.Bool.{and_right}
 use Rattle.termwiz_extended_events.specs.declared.types.KeyReport.{KeyReport}
 use Rattle.termwiz_extended_events.specs.declared.types.ExtendedEvent.TheVariants.{Key}
 use Rattle.termwiz_extended_grammar.specs.ExtendedGrammar.{Means}
@@ -29,14 +28,18 @@ read_as_told r flags p is reports tells reading text more kitty writes some with
         → IsReadWith reading text more (if is_sent_as_text r flags then option_map space_alone (canonical r) else p)
     go (as_text all typed is_text means) =
         let kept = text_keeps r is text typed is_text in
-        let told : is_sent_as_text r flags ≡ true = rw (all, typed) refl in
-        (kept.0, subst (λ events. Means reading text more events []) kept.1 means,
-        kept.2 ∙ ap (λ b. if b then option_map space_alone (canonical r) else p) (sym told))
+        let told : is_sent_as_text r flags ≡ true = rw (all, typed) refl in (
+          kept.0,
+          subst (λ events. Means reading text more events []) kept.1 means,
+          kept.2 ∙ ap (λ b. if b then option_map space_alone (canonical r) else p) (sym told),
+        )
     go (as_report unless means) =
-        let told : is_sent_as_text r flags ≡ false = not_as_text (tells_all_keys flags) (types r.key r) unless in
-        (Key (reported r flags), means,
-        report_tells r flags is reports ∙ tells unless
-        ∙ ap (λ b. if b then option_map space_alone (canonical r) else p) (sym told))
+        let told : is_sent_as_text r flags ≡ false = not_as_text (tells_all_keys flags) (types r.key r) unless in (
+          Key (reported r flags),
+          means,
+          report_tells r flags is reports ∙ tells unless
+              ∙ ap (λ b. if b then option_map space_alone (canonical r) else p) (sym told),
+        )
 
 pub kitty_tells_presses : KittyTellsPresses
 kitty_tells_presses r flags is reports = read_as_told r flags (canonical (told_of r flags)) is reports (λ unless. refl)

@@ -1,5 +1,5 @@
 -- A text that a key types keeps its press, but for shift+space.
-use Rattle.std.proofs.Common.{◌≡◌, ◌≢◌, ◌∙◌, ◌⊎◌, inl, inr, ⊎_elim, ℕ, ◌-◌, ◌≤◌, ◌<◌, Bool, true, false, not, List, [], ◌∷◌, map, Option, Some, None, refl, sym, ap, subst, arith, Contains, bit_and, ◌&&◌, ◌||◌, ◌==◌}
+use Rattle.std.proofs.Common.{◌≡◌, ◌≢◌, ◌∙◌, ◌⊎◌, inl, inr, ⊎_elim, ℕ, ◌-◌, ◌≤◌, ◌<◌, Bool, true, false, not, List, [], ◌∷◌, map, Option, Some, None, refl, sym, ap, subst, arith, bit_and, ◌&&◌, ◌||◌, ◌==◌}
 use Rattle.std.specs.Prelude.{option_map, unwrap_or, if◌then◌else◌}
 use Rattle.std.specs.Char.{IsScalar, encode_utf8, is_control, is_ascii_control, is_ascii_lowercase, is_ascii_uppercase, to_ascii_uppercase}
 use Rattle.std.specs.List.{list_any, list_all}
@@ -13,20 +13,17 @@ use Rattle.termwiz_keys.specs.declared.types.KeyCode.{KeyCode}
 use Rattle.termwiz_keys.specs.declared.types.KeyCode.TheVariants.{Char, Enter, Tab, Backspace}
 use Rattle.termwiz_grammar.specs.Table.{numbers}
 use Rattle.termwiz_extended_events.specs.declared.types.KeyReport.{KeyReport}
-use Rattle.termwiz_extended_events.specs.declared.types.KeyEventKind.TheVariants.{Press}
 use Rattle.termwiz_extended_events.specs.declared.types.ReportedKey.{ReportedKey}
 use Rattle.termwiz_extended_events.specs.declared.types.ReportedKey.TheVariants.{Named, Functional}
 use Rattle.termwiz_extended_events.specs.declared.types.ExtendedEvent.{ExtendedEvent}
-use Rattle.termwiz_extended_events.specs.KeyReports.{report_of}
 use Rattle.termwiz_kitty.specs.KeyForms.{is_character}
-use Rattle.termwiz_kitty.specs.LegacyTexts.{without_control, capital, with_shift}
-use Rattle.termwiz_kitty.specs.Telling.{is_release, is_shifted, is_at_most_shifted, is_bare, is_typed_text, has_control, types, types_character, sends_control}
+use Rattle.termwiz_kitty.specs.LegacyTexts.{capital, with_shift}
+use Rattle.termwiz_kitty.specs.Telling.{is_shifted, is_at_most_shifted, is_bare, is_typed_text, has_control, types, types_character, sends_control}
 use Rattle.termwiz_kitty.specs.KittyTexts.{shown, typed_by, typed_text}
 use Rattle.termwiz_kitty.specs.KittyLaws.{IsKey, pressed, characters_pressed, typed_by_events, typed_events}
 use Rattle.termwiz_kitty.proofs.lemmas.PortKeys.{at_number}
 use Rattle.termwiz_kitty.proofs.lemmas.typed.TypedCharacters.{chars_of_one}
 use Rattle.termwiz_kitty.proofs.lemmas.typed.TypedTexts.{IsShown, shown_is, by_itself}
-use Rattle.termwiz_bindings.specs.declared.press.KeyPress.{KeyPress}
 use Rattle.termwiz_bindings.specs.MainKeys as keys
 use Rattle.termwiz_bindings.specs.Presses as rules
 use Rattle.termwiz_bindings.specs.Presses.{canonical, SHIFT, counted, is_counted_text, is_typed, is_shortcut, character_press, typed_character, typed_press, all_but_locks}
@@ -249,8 +246,7 @@ module _ (r : KeyReport) (is : IsPressed r) where
           let counts : is_typed r.modifiers r.text ≡ true =
           ap (λ b. b && not (is_shortcut r.modifiers)) (counted_same r.text ∙ typed) ∙ ap (λ b. not (not b)) most in
           let shown' : is_control c ≡ false =
-          or_left_false (is_control c) (sym (ap (λ cs. list_any is_control cs) one) ∙ is.writable.no_control) in
-          (
+          or_left_false (is_control c) (sym (ap (λ cs. list_any is_control cs) one) ∙ is.writable.no_control) in (
             pressed (Char c),
             ap (λ cs. map (λ d. pressed (Char d)) cs) one,
             bare_press c 0 None shown' refl ∙ sym (ap (option_map space_alone)
@@ -298,8 +294,7 @@ module _ (r : KeyReport) (is : IsPressed r) where
   of_control : (key : KeyCode) → r.key ≡ Named key → r.text ≡ [] → sends_control (Named key) ≡ true → is_bare r.modifiers ≡ true
       → KeepsPress r (pressed key ∷ [])
   of_control key same none sends bare =
-      let held : bit_and r.modifiers 63 ≡ 0 = eqb-true (bit_and r.modifiers 63) 0 bare in
-      (
+      let held : bit_and r.modifiers 63 ≡ 0 = eqb-true (bit_and r.modifiers 63) 0 bare in (
         pressed key,
         refl,
         control_press key 0 None sends refl ∙ sym (ap (option_map space_alone)

@@ -1,5 +1,6 @@
 -- Keys that have names: their texts are read as the presses of their twins.
 use Rattle.std.proofs.Common.{ℕ, ℤ, ◌+◌, Bool, true, false, List, [], ◌∷◌, ◌++◌, map, Option, None, refl}
+use Rattle.std.specs.Fmt.{digits}
 use Rattle.termwiz_keys.specs.declared.types.KeyCode.{KeyCode}
 use Rattle.termwiz_keys.specs.declared.types.KeyCode.TheVariants.{Backspace, Tab, Enter, Escape, End, Home, LeftArrow, RightArrow, UpArrow, DownArrow, Insert, Delete, PageUp, PageDown, KeyPadHome, KeyPadEnd, KeyPadPageUp, KeyPadPageDown, ApplicationLeftArrow, ApplicationRightArrow, ApplicationUpArrow, ApplicationDownArrow, Function}
 use Rattle.termwiz_keys.specs.declared.encode.KeyboardEncoding.{KeyboardEncoding}
@@ -9,21 +10,31 @@ use Rattle.termwiz_grammar.specs.Table.{numbers, written_out}
 use Rattle.termwiz_grammar.proofs.lemmas.lists.ListMembers.{pairs}
 use Rattle.termwiz_laws.specs.FurtherKeys.{shift_or_ctrl}
 use Rattle.termwiz_laws.proofs.lemmas.further_keys.ComputedReadings.{mode, level, Held, enc_written_out}
+use Rattle.termwiz_extended_events.proofs.Examples.{written_out as events_written_out}
 use Rattle.termwiz_binding_laws.specs.Twins.{SUPER, twin}
 use Rattle.termwiz_binding_laws.specs.EncodedPresses.{any_of_four}
-use Rattle.termwiz_binding_laws.proofs.lemmas.ComputedPresses.{canonical_written_out, AllTold}
+use Rattle.termwiz_binding_laws.proofs.lemmas.ComputedPresses.{canonical_written_out, AllTold, AllToldAtFirst}
 
--- keys that send the same text in all modes
+-- F1 to F24 but F3, and F3 alone
 abbrev pub function_keys : List KeyCode
-function_keys = map (λ n. Function n) (numbers 1 24)
+function_keys = map (λ n. Function n) (1 ∷ 2 ∷ numbers 4 21)
 
 abbrev pub functions : List Held
-functions = pairs function_keys any_of_four
+functions = pairs function_keys any_of_four ++ pairs (Function 3 ∷ []) (NONE ∷ [])
 
 pub functions_told : (e : KeyboardEncoding) (a n : Bool) (l : Option ℤ) → AllTold (mode e a n l) functions
-unfolding enc_written_out written_out canonical_written_out twin
+unfolding enc_written_out written_out events_written_out canonical_written_out twin digits
 functions_told e a n l = refl
 
+-- F3, whose text with a modifier is also a report of the cursor's position
+abbrev pub thirds : List Held
+thirds = pairs (Function 3 ∷ []) any_of_four
+
+pub thirds_told : (e : KeyboardEncoding) (a n : Bool) (l : Option ℤ) → AllToldAtFirst (mode e a n l) thirds
+unfolding enc_written_out written_out canonical_written_out twin
+thirds_told e a n l = refl
+
+-- keys that send the same text in all modes
 abbrev pub steady_keys : List KeyCode
 steady_keys =
     ApplicationLeftArrow ∷ ApplicationRightArrow ∷ ApplicationUpArrow ∷ ApplicationDownArrow ∷ Insert ∷ Delete ∷ PageUp ∷ PageDown
@@ -33,7 +44,7 @@ abbrev pub steady : List Held
 steady = pairs steady_keys any_of_four
 
 pub steady_told : (e : KeyboardEncoding) (a n : Bool) (l : Option ℤ) → AllTold (mode e a n l) steady
-unfolding enc_written_out written_out canonical_written_out twin
+unfolding enc_written_out written_out events_written_out canonical_written_out twin digits
 steady_told e a n l = refl
 
 -- those that application cursor keys change
@@ -44,11 +55,11 @@ abbrev pub cursor : List Held
 cursor = pairs cursor_keys any_of_four
 
 pub cursor_on_told : (e : KeyboardEncoding) (n : Bool) (l : Option ℤ) → AllTold (mode e true n l) cursor
-unfolding enc_written_out written_out canonical_written_out twin
+unfolding enc_written_out written_out events_written_out canonical_written_out twin digits
 cursor_on_told e n l = refl
 
 pub cursor_off_told : (e : KeyboardEncoding) (n : Bool) (l : Option ℤ) → AllTold (mode e false n l) cursor
-unfolding enc_written_out written_out canonical_written_out twin
+unfolding enc_written_out written_out events_written_out canonical_written_out twin digits
 cursor_off_told e n l = refl
 
 -- those that may be sent by their codes, in all modes
@@ -70,65 +81,65 @@ abbrev pub enters : List Held
 enters = pairs (Enter ∷ []) without_shift_and_ctrl
 
 pub enters_xterm_off : (a : Bool) → AllTold (mode Xterm a false None) enters
-unfolding enc_written_out written_out canonical_written_out twin
+unfolding enc_written_out written_out events_written_out canonical_written_out twin digits
 enters_xterm_off a = refl
 
 pub enters_xterm_zero : (a : Bool) → AllTold (mode Xterm a false (level 0)) enters
-unfolding enc_written_out written_out canonical_written_out twin
+unfolding enc_written_out written_out events_written_out canonical_written_out twin digits
 enters_xterm_zero a = refl
 
 pub enters_xterm_one : (a : Bool) → AllTold (mode Xterm a false (level 1)) enters
-unfolding enc_written_out written_out canonical_written_out twin
+unfolding enc_written_out written_out events_written_out canonical_written_out twin digits
 enters_xterm_one a = refl
 
 pub enters_xterm_two : (a : Bool) → AllTold (mode Xterm a false (level 2)) enters
-unfolding enc_written_out written_out canonical_written_out twin
+unfolding enc_written_out written_out events_written_out canonical_written_out twin digits
 enters_xterm_two a = refl
 
 pub enters_csi_off : (a : Bool) → AllTold (mode CsiU a false None) enters
-unfolding enc_written_out written_out canonical_written_out twin
+unfolding enc_written_out written_out events_written_out canonical_written_out twin digits
 enters_csi_off a = refl
 
 pub enters_csi_zero : (a : Bool) → AllTold (mode CsiU a false (level 0)) enters
-unfolding enc_written_out written_out canonical_written_out twin
+unfolding enc_written_out written_out events_written_out canonical_written_out twin digits
 enters_csi_zero a = refl
 
 pub enters_csi_one : (a : Bool) → AllTold (mode CsiU a false (level 1)) enters
-unfolding enc_written_out written_out canonical_written_out twin
+unfolding enc_written_out written_out events_written_out canonical_written_out twin digits
 enters_csi_one a = refl
 
 pub enters_csi_two : (a : Bool) → AllTold (mode CsiU a false (level 2)) enters
-unfolding enc_written_out written_out canonical_written_out twin
+unfolding enc_written_out written_out events_written_out canonical_written_out twin digits
 enters_csi_two a = refl
 
 pub coded_xterm_off : (a n : Bool) → AllTold (mode Xterm a n None) coded
-unfolding enc_written_out written_out canonical_written_out twin
+unfolding enc_written_out written_out events_written_out canonical_written_out twin digits
 coded_xterm_off a n = refl
 
 pub coded_xterm_zero : (a n : Bool) → AllTold (mode Xterm a n (level 0)) coded
-unfolding enc_written_out written_out canonical_written_out twin
+unfolding enc_written_out written_out events_written_out canonical_written_out twin digits
 coded_xterm_zero a n = refl
 
 pub coded_xterm_one : (a n : Bool) → AllTold (mode Xterm a n (level 1)) coded
-unfolding enc_written_out written_out canonical_written_out twin
+unfolding enc_written_out written_out events_written_out canonical_written_out twin digits
 coded_xterm_one a n = refl
 
 pub coded_xterm_two : (a n : Bool) → AllTold (mode Xterm a n (level 2)) coded
-unfolding enc_written_out written_out canonical_written_out twin
+unfolding enc_written_out written_out events_written_out canonical_written_out twin digits
 coded_xterm_two a n = refl
 
 pub coded_csi_off : (a n : Bool) → AllTold (mode CsiU a n None) coded
-unfolding enc_written_out written_out canonical_written_out twin
+unfolding enc_written_out written_out events_written_out canonical_written_out twin digits
 coded_csi_off a n = refl
 
 pub coded_csi_zero : (a n : Bool) → AllTold (mode CsiU a n (level 0)) coded
-unfolding enc_written_out written_out canonical_written_out twin
+unfolding enc_written_out written_out events_written_out canonical_written_out twin digits
 coded_csi_zero a n = refl
 
 pub coded_csi_one : (a n : Bool) → AllTold (mode CsiU a n (level 1)) coded
-unfolding enc_written_out written_out canonical_written_out twin
+unfolding enc_written_out written_out events_written_out canonical_written_out twin digits
 coded_csi_one a n = refl
 
 pub coded_csi_two : (a n : Bool) → AllTold (mode CsiU a n (level 2)) coded
-unfolding enc_written_out written_out canonical_written_out twin
+unfolding enc_written_out written_out events_written_out canonical_written_out twin digits
 coded_csi_two a n = refl

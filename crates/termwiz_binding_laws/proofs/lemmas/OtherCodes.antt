@@ -18,6 +18,7 @@ use Rattle.termwiz_grammar.specs.Table.{TableRow, rows, written_out, key_of_code
 use Rattle.termwiz_grammar.proofs.lemmas.mouse.OneReport.{report_plain}
 use Rattle.termwiz_extended_events.specs.declared.types.KeyReport.{KeyReport}
 use Rattle.termwiz_extended_events.specs.declared.types.KeyEventKind.TheVariants.{Press}
+use Rattle.termwiz_extended_events.specs.declared.types.Reading.{Reading}
 use Rattle.termwiz_extended_events.specs.declared.types.ReportedKey.{ReportedKey}
 use Rattle.termwiz_extended_events.specs.declared.types.ReportedKey.TheVariants.{Named}
 use Rattle.termwiz_extended_events.specs.declared.types.ExtendedEvent.TheVariants.{Key}
@@ -34,7 +35,6 @@ use Rattle.termwiz_kitty.proofs.lemmas.read_back.KeysOfForms.{scalar_is}
 use Rattle.termwiz_kitty.proofs.lemmas.read_back.SequenceForms.{IsParameter, written, is_control}
 use Rattle.termwiz_kitty.proofs.lemmas.read_back.SequencesMean.{means_alone}
 use Rattle.termwiz_kitty.proofs.lemmas.read_back.WrittenReports.{event_back}
-use Rattle.termwiz_binding_laws.specs.EncodedPresses.{at_first}
 
 -- the report is of a character beyond ASCII
 abbrev is_wide_key : ReportedKey → Bool
@@ -120,10 +120,10 @@ module _ (m c : ℕ) (one : 1 ≤ m) (eight : m ≤ 8) (high : 128 ≤ c) (is : 
       let never : not (nat_le 128 c) ≡ true = subst (λ o. not (is_wide o) ≡ true) by_code test in
       cc (subst (λ b. not b ≡ true) wide never)
 
-  free : IsFree at_first (written (body m c) 126)
+  free : (reading : Reading) → IsFree reading (written (body m c) 126)
   unfolding IsSequence
-  free (Row k) sequence = absurd (row_free k sequence)
-  free (Report report') sequence =
+  free reading (Row k) sequence = absurd (row_free k sequence)
+  free reading (Report report') sequence =
       let plain = report_plain (written (body m c) 126) report' sequence in
       let same : ◌≡◌ {A = ℕ} 50 60 = cc (plain.1) in absurd (omega arith)
 
@@ -150,13 +150,13 @@ module _ (m c : ℕ) (one : 1 ≤ m) (eight : m ≤ 8) (high : 128 ≤ c) (is : 
       let few_digits : length (decimal c) ≤ 7 = length-decimal-le 7 c (lit< tt) (few_of_seven c few) (in_word c few) in
       omega (arith, length-append (decimal c) (126 ∷ []), few_digits)
 
-  extra : IsExtra at_first (written (body m c) 126) (Key report)
-  extra = record {
+  extra : (reading : Reading) → IsExtra reading (written (body m c) 126) (Key report)
+  extra reading = record {
     is_form = control (is_control (body m c) 126 parameters
         (omega arith, omega arith, (λ same. omega arith), (λ same. omega arith)) short);
-    is_free = free;
+    is_free = free reading;
     means = sym event;
   }
 
-  pub code_means : Means at_first (written (body m c) 126) false (Key report ∷ []) []
-  code_means = means_alone at_first (written (body m c) 126) false (Key report) extra
+  pub code_means : (reading : Reading) → Means reading (written (body m c) 126) false (Key report ∷ []) []
+  code_means reading = means_alone reading (written (body m c) 126) false (Key report) (extra reading)

@@ -15,7 +15,7 @@ use Rattle.termwiz_laws.proofs.lemmas.further_keys.ComputedReadings.{Held, chars
 use Rattle.termwiz_laws.proofs.lemmas.further_keys.SingleKey.{among, among_contains}
 use Rattle.termwiz_kitty.proofs.lemmas.PortKeys.{at_number}
 use Rattle.termwiz_binding_laws.specs.Twins.{SUPER, dropping, is_on, twin}
-use Rattle.termwiz_binding_laws.specs.EncodedPresses.{any_of_four, IsCovered, IsReadAsPress, IsReadAsKey, IsOwnTwin, TwinsAreTheirOwn, TwinsReadAlike}
+use Rattle.termwiz_binding_laws.specs.EncodedPresses.{at_first, any_of_four, IsCovered, IsReadAsPress, IsReadAsKey, IsOwnTwin, TwinsAreTheirOwn, TwinsReadAlike}
 use Rattle.termwiz_binding_laws.proofs.lemmas.AsciiPresses.{printable}
 use Rattle.termwiz_binding_laws.proofs.lemmas.ComputedPresses.{twin_of}
 use Rattle.termwiz_binding_laws.proofs.lemmas.EncodedKeys.{presses_of_encoded_keys}
@@ -201,8 +201,8 @@ twins_read_alike key held modes text other covered here newline twin_newline sen
     let k : KeyEvent = twin key held modes in
     let own = twins_are_their_own key held modes covered here in
     let one = presses_of_encoded_keys key held modes text covered here newline sends some in
-    let too = subst (λ j. IsReadAsKey other j) own.own
+    let too = subst (λ j. IsReadAsKey at_first other j) own.own
     (presses_of_encoded_keys k.key k.modifiers.0 modes other own.covered own.set twin_newline sends_too some_too) in
     let e : Some too.0 ≡ Some one.0 = sym too.1 ∙ one.1 in
     let same : too.0 ≡ one.0 = cc (e) in
-    (one.0, one.2, subst (λ p. IsReadAsPress other p) same too.2)
+    (one.0, one.2, subst (λ p. IsReadAsPress at_first other p) same too.2)

@@ -1,5 +1,5 @@
 -- From what was computed to what is read, in every mode.
-use Rattle.std.proofs.Common.{◌≡◌, ◌∙◌, ℕ, ◌<◌, List, ◌++◌, Option, Some, None, refl, sym, ap, subst, Contains}
+use Rattle.std.proofs.Common.{◌≡◌, ◌∙◌, ℕ, ◌<◌, List, [], ◌∷◌, ◌++◌, Option, Some, None, refl, sym, ap, subst, Contains}
 use Rattle.termwiz_keys.specs.declared.types.KeyCode.{KeyCode}
 use Rattle.termwiz_keys.specs.declared.types.KeyCode.TheVariants.{Char, Tab, Enter, Escape, Backspace}
 use Rattle.termwiz_keys.specs.declared.types.KeyEvent.{KeyEvent}
@@ -13,49 +13,86 @@ use Rattle.termwiz_laws.proofs.lemmas.further_keys.AlikeModes.{enc_same}
 use Rattle.termwiz_laws.proofs.lemmas.further_keys.ComputedReadings.{Held}
 use Rattle.termwiz_laws.proofs.lemmas.further_keys.FurtherReadings.{bits}
 use Rattle.termwiz_laws.proofs.lemmas.further_keys.WideReadings.{wide_reading, wide_means, wide_rows_are}
+use Rattle.termwiz_extended_events.specs.declared.types.Reading.{Reading}
 use Rattle.termwiz_extended_events.specs.declared.types.ExtendedEvent.TheVariants.{Input}
 use Rattle.termwiz_bindings.specs.declared.press.KeyPress.{KeyPress}
-use Rattle.termwiz_bindings.specs.Presses.{event_report, settled_report}
 use Rattle.termwiz_binding_laws.specs.Twins.{twin}
-use Rattle.termwiz_binding_laws.specs.EncodedPresses.{IsReadAsPress, IsReadAsKey}
-use Rattle.termwiz_binding_laws.proofs.lemmas.ComputedPresses.{AllTold, told, wanted, part_of_key, coded_rows, read_key, press_read}
+use Rattle.termwiz_binding_laws.specs.EncodedPresses.{at_first, IsReadAsPress, IsReadAsKey}
+use Rattle.termwiz_binding_laws.proofs.lemmas.ComputedPresses.{AllTold, told, wanted, AllToldAtFirst, told_at_first, wanted_at_first, twin_press, part_of_key, coded_rows, press_read, presses_of_text, press_of_text}
+use Rattle.termwiz_binding_laws.proofs.lemmas.EveryReading.{IsToldAlike, read_anywhere}
 use Rattle.termwiz_binding_laws.proofs.lemmas.LegacyReading.{port_key_read}
 use Rattle.termwiz_binding_laws.proofs.lemmas.ModeClasses.{twin_same, InEveryClass, in_all_modes}
 
--- a text that the port reads as a key of this press
-read_press : (part : List TableRow) (text : List ℕ) (p : KeyPress) → AreRows part → press_read (wide_reading part text) ≡ Some p
-    → IsReadAsPress text p
-read_press part text p are e = go (wide_reading part text) refl e
+-- what was computed of a text
+record Computed (part : List TableRow) (text : List ℕ) (press : KeyPress) : Type 0 where
+  key : KeyEvent
+  is_read : wide_reading part text ≡ Some key
+  is_told : IsToldAlike text key press
+
+-- the texts of a list of presses that are all the same
+computed : (part : List TableRow) (text : List ℕ) (p : KeyPress) → presses_of_text part p (Some text) ≡ Some p ∷ Some p ∷ Some p ∷ []
+    → Computed part text p
+computed part text p e = go (wide_reading part text) refl (let first : press_read (wide_reading part text) ≡ Some p = cc (e) in first)
   where
-    go : (o : Option KeyEvent) → wide_reading part text ≡ o → press_read o ≡ Some p → IsReadAsPress text p
+    go : (o : Option KeyEvent) → wide_reading part text ≡ o → press_read o ≡ Some p → Computed part text p
     go None found none = absurd (cc (none))
-    go (Some k) found gives = (Input (input.Key k), port_key_read text k (wide_means part text k are found), gives)
+    go (Some k) found gives = record {
+      key = k;
+      is_read = found;
+      is_told = record { as_key = gives; as_report = cc (e); after_escape = cc (e) };
+    }
 
 -- a key of a list whose keys are all read as their twins
-pub told_key : (modes : KeyCodeEncodeModes) (cases : List Held) (key : KeyCode) (held : ℕ) (text : List ℕ) → AllTold modes cases
-    → Contains cases (key, held) → AreRows (part_of_key key) → enc key (bits held) modes ≡ Some text
-    → IsReadAsKey text (twin key held modes)
-told_key modes cases key held text test here are sends = (
+pub told_key : (reading : Reading) (modes : KeyCodeEncodeModes) (cases : List Held) (key : KeyCode) (held : ℕ) (text : List ℕ)
+    → AllTold modes cases → Contains cases (key, held) → AreRows (part_of_key key) → enc key (bits held) modes ≡ Some text
+    → IsReadAsKey reading text (twin key held modes)
+told_key reading modes cases key held text test here are sends =
+    (press, cc (all), read_anywhere reading text it.key press (wide_means (part_of_key key) text it.key are it.is_read) it.is_told)
+  where
+    press : KeyPress
+    press = twin_press modes (key, held)
+
+    all : told modes (key, held) ≡ wanted modes (key, held)
+    all = same_on (told modes) (wanted modes) cases (key, held) test here
+
+    rest : presses_of_text (part_of_key key) press (enc key (bits held) modes) ≡ Some press ∷ Some press ∷ Some press ∷ []
+    rest = cc (all)
+
+    it : Computed (part_of_key key) text press
+    it = computed (part_of_key key) text press (ap (presses_of_text (part_of_key key) press) (sym sends) ∙ rest)
+
+-- the same under the first reading alone
+pub told_key_at_first : (modes : KeyCodeEncodeModes) (cases : List Held) (key : KeyCode) (held : ℕ) (text : List ℕ)
+    → AllToldAtFirst modes cases → Contains cases (key, held) → AreRows (part_of_key key) → enc key (bits held) modes ≡ Some text
+    → IsReadAsKey at_first text (twin key held modes)
+told_key_at_first modes cases key held text test here are sends = (
   press,
-  ap (λ x. x.1) both,
-  read_press (part_of_key key) text press are
-      (ap (λ o. press_read (read_key (part_of_key key) o)) (sym sends) ∙ ap (λ x. x.0) both),
+  cc (all),
+  go (wide_reading (part_of_key key) text) refl
+      (ap (press_of_text (part_of_key key)) (sym sends) ∙ rest),
 )
   where
     press : KeyPress
-    press = settled_report (event_report (twin key held modes))
+    press = twin_press modes (key, held)
 
-    both : told modes (key, held) ≡ wanted modes (key, held)
-    both = same_on (told modes) (wanted modes) cases (key, held) test here
+    all : told_at_first modes (key, held) ≡ wanted_at_first modes (key, held)
+    all = same_on (told_at_first modes) (wanted_at_first modes) cases (key, held) test here
+
+    rest : press_of_text (part_of_key key) (enc key (bits held) modes) ≡ Some press
+    rest = cc (all)
+
+    go : (o : Option KeyEvent) → wide_reading (part_of_key key) text ≡ o → press_read o ≡ Some press → IsReadAsPress at_first text press
+    go None found none = absurd (cc (none))
+    go (Some k) found gives = (Input (input.Key k), port_key_read text k (wide_means (part_of_key key) text k are found), gives)
 
 -- the same in all modes
-pub told_in_all : (cases : List Held) (modes : KeyCodeEncodeModes) → InEveryClass (λ m. AllTold m cases) modes.newline_mode
+pub told_in_all : (reading : Reading) (cases : List Held) (modes : KeyCodeEncodeModes) → InEveryClass (λ m. AllTold m cases) modes.newline_mode
     → (key : KeyCode) (held : ℕ) (text : List ℕ) → Contains cases (key, held) → AreRows (part_of_key key)
-    → enc key (bits held) modes ≡ Some text → IsReadAsKey text (twin key held modes)
-told_in_all cases modes all key held text here are =
-    in_all_modes (λ m. AllTold m cases) (λ m. enc key (bits held) m ≡ Some text → IsReadAsKey text (twin key held m))
-    (λ m test sends. told_key m cases key held text test here are sends)
-    (λ a b alike back sends. subst (IsReadAsKey text) (sym (twin_same a b alike key held))
+    → enc key (bits held) modes ≡ Some text → IsReadAsKey reading text (twin key held modes)
+told_in_all reading cases modes all key held text here are =
+    in_all_modes (λ m. AllTold m cases) (λ m. enc key (bits held) m ≡ Some text → IsReadAsKey reading text (twin key held m))
+    (λ m test sends. told_key reading m cases key held text test here are sends)
+    (λ a b alike back sends. subst (IsReadAsKey reading text) (sym (twin_same a b alike key held))
     (back (sym (enc_same a b alike key (bits held)) ∙ sends)))
     modes all
 

@@ -1,9 +1,9 @@
 // Texts of keys and chords, read and printed.
-use super::{ReadError, ReadErrorKind, print, print_press, read};
-use crate::chord::MAX_KEYS;
 use std::alloc::{AllocError, Global};
 use std::process::Abort;
 use std::test::Fail;
+use termwiz_bindings::chord::MAX_KEYS;
+use termwiz_bindings::names::{ReadError, ReadErrorKind, print, print_press, read};
 
 // Texts, and what is printed of the chords that they name.
 const NAMES: &[(&str, &str)] = &[
