@@ -49,6 +49,7 @@ check 'build with the shared library' cc -std=c99 "${strict[@]}" -I"$library" c/
 check 'build of the refusals' build test_refusals refusals "$counting"
 check 'build of the extended calls' build test_extended extended
 check 'build of their refusals' build test_extended_refusals extended_refusals "$counting"
+check 'build of bindings' build test_bindings bindings
 check 'build of shared tables' build test_sharing sharing -pthread
 check 'asking program as C99' build ask ask
 check 'live program as C99' build live live
@@ -57,11 +58,13 @@ check 'calls of the shared library' timeout 300 "$work/calls_shared" c/numbers.t
 check 'refusals' timeout 300 "$work/refusals"
 check 'extended calls' timeout 300 "$work/extended"
 check 'refusals of extended calls' timeout 300 "$work/extended_refusals"
+check 'bindings' timeout 300 "$work/bindings"
 check 'shared tables' timeout 300 "$work/sharing"
 check 'calls under valgrind' memcheck "$work/calls" c/numbers.txt
 check 'refusals under valgrind' memcheck "$work/refusals" 1000
 check 'extended calls under valgrind' memcheck "$work/extended"
 check 'refusals of extended calls under valgrind' memcheck "$work/extended_refusals" 1000
+check 'bindings under valgrind' memcheck "$work/bindings"
 check 'shared tables under valgrind' memcheck "$work/sharing"
 check 'shared tables under helgrind' timeout 300 valgrind --tool=helgrind --quiet --error-exitcode=9 "$work/sharing"
 print_counts

@@ -58,6 +58,8 @@ __version__ = "0.1.0"
 __all__ = [
     "Ambiguous",
     "Apc",
+    "Bindings",
+    "Bound",
     "Chord",
     "ClipboardReply",
     "Colour",
@@ -96,6 +98,7 @@ __all__ = [
     "KeyReport",
     "KittyKeyboardFlags",
     "KittyModifiers",
+    "Matcher",
     "ModeReply",
     "ModeState",
     "Modifiers",
@@ -117,6 +120,7 @@ __all__ = [
     "StringCut",
     "StringKind",
     "StringPart",
+    "Unbound",
     "VersionReply",
     "Waiting",
     "WindowSizeReply",
@@ -1654,6 +1658,8 @@ def encode(
 # lines come last.
 from .extended import (  # noqa: E402
     Apc,
+    Bindings,
+    Bound,
     Chord,
     Csi,
     CursorPosition,
@@ -1669,6 +1675,7 @@ from .extended import (  # noqa: E402
     KeyPress,
     KeyReport,
     KittyModifiers,
+    Matcher,
     Osc,
     Protocol,
     Reading,
@@ -1679,6 +1686,7 @@ from .extended import (  # noqa: E402
     StringCut,
     StringKind,
     StringPart,
+    Unbound,
     key_report,
     typed_text,
 )

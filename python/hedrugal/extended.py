@@ -17,7 +17,21 @@ import functools
 import operator
 import struct
 from dataclasses import dataclass
-from typing import Any, Callable, Dict, Iterable, Iterator, List, Optional, Tuple, Union
+from typing import (
+    Any,
+    Callable,
+    Dict,
+    Generic,
+    Iterable,
+    Iterator,
+    List,
+    Mapping,
+    MutableMapping,
+    Optional,
+    Tuple,
+    Union,
+    cast,
+)
 
 from . import (
     _BYTES,
@@ -50,7 +64,10 @@ from . import (
     KeyEvent,
     KittyKeyboardFlags,
     Modifiers,
+    Value,
     _borrowed,
+    _Closable,
+    _closed,
     _declare,
     _EventParser,
     _fault,
@@ -416,6 +433,278 @@ class Chord:
         return len(self.presses)
 
 
+Keys = Union[Chord, str]
+
+
+class Bindings(_Closable, MutableMapping[Chord, Value]):
+    """What a program does at which keys: a mapping from chords to values. One chord may begin
+    another one.
+
+        >>> bindings = Bindings({"C-x C-s": "save", "g": "go", "g g": "top"})
+        >>> bindings["ctrl+x ctrl+s"]
+        'save'
+        >>> [str(chord) for chord in bindings]
+        ['g', 'g g', 'ctrl+x ctrl+s']
+
+    A Chord or a text that names one stands for it. A text that names none raises KeyNameError,
+    which is a ValueError. The chords are listed in order: by the numbers of their keys in C, then
+    by their characters, then by their modifiers.
+
+    A value may be any object. The bindings keep it until its chord has another one or none, or
+    until they are closed.
+
+    Bindings own memory outside of Python. `close` frees it; so do the end of a `with` block and the
+    end of their life. Every other call raises ValueError once they are closed. They can't be
+    pickled, and `Bindings(others)` copies. Threads may share them, as a parser: in the middle of a
+    call of its own thread a call that changes them raises RuntimeError.
+
+    Making and binding raise MemoryError if memory is refused. Then the bindings are unchanged."""
+
+    def __init__(self, chords: Union[Mapping[Any, Value], Iterable[Tuple[Keys, Value]]] = ()) -> None:
+        super().__init__(
+            "bindings", _RawBindings(), _library.hed_bindings_init, _library.hed_bindings_free
+        )
+        # The library maps a chord to the number of its value here.
+        self._values: Dict[int, Value] = {}
+        self._number = 0
+        self.update(chords)
+
+    def __len__(self) -> int:
+        """The number of chords."""
+        with self._lock:
+            self._check_open()
+            return cast(int, _library.hed_bindings_len(self._raw))
+
+    def __iter__(self) -> Iterator[Chord]:
+        """Returns an iterator over the chords that are there when it is made, in their order."""
+        with self._lock:
+            return iter([chord for chord, _ in self._entries(range(len(self)))])
+
+    def __repr__(self) -> str:
+        with self._lock:
+            if self.closed:
+                return "<Bindings, closed>"
+            entries = self._entries(range(len(self)))
+        return f"Bindings({dict((str(chord), value) for chord, value in entries)!r})"
+
+    def __getitem__(self, keys: Keys) -> Value:
+        raw, number = _raw_chord(keys), ctypes.c_uint64()
+        with self._lock:
+            answer = _library.hed_bindings_lookup(self._raw, raw, len(raw), number)
+            if answer == _BOUND_VALUE:
+                return self._values[number.value]
+        self._check_bound(answer)
+        raise KeyError(keys)
+
+    def __setitem__(self, keys: Keys, value: Value) -> None:
+        raw, number = _raw_chord(keys), ctypes.c_uint64()
+        with self._alone():
+            self._check_open()
+            if _library.hed_bindings_lookup(self._raw, raw, len(raw), number) == _BOUND_VALUE:
+                # The value that it had is let go as the call returns.
+                value, self._values[number.value] = self._values[number.value], value
+                return
+            place = self._number
+            self._values[place] = value
+            answer = _library.hed_bindings_bind(self._raw, raw, len(raw), place)
+            if answer != _BOUND_VALUE:
+                del self._values[place]
+                self._check_bound(answer)
+            self._number += 1
+
+    def __delitem__(self, keys: Keys) -> None:
+        raw, number = _raw_chord(keys), ctypes.c_uint64()
+        with self._alone():
+            answer = _library.hed_bindings_unbind(self._raw, raw, len(raw), number)
+            value = self._values.pop(number.value) if answer == _BOUND_VALUE else None
+        del value
+        self._check_bound(answer)
+        if answer == _BOUND_NONE:
+            raise KeyError(keys)
+
+    def continuations(self, keys: Keys) -> Dict[Chord, Value]:
+        """Returns the chords that begin with these keys and are longer, with their values: what may
+        follow, as for a menu.
+
+            >>> bindings = Bindings({"ctrl+x": "cut", "ctrl+x 1": "one", "ctrl+x ctrl+c": "quit"})
+            >>> {str(chord): value for chord, value in bindings.continuations("ctrl+x").items()}
+            {'ctrl+x 1': 'one', 'ctrl+x ctrl+c': 'quit'}"""
+        raw, first, end = _raw_chord(keys), ctypes.c_size_t(), ctypes.c_size_t()
+        with self._lock:
+            answer = _library.hed_bindings_continuations(self._raw, raw, len(raw), first, end)
+            self._check_bound(answer)
+            return dict(self._entries(range(first.value, end.value)))
+
+    def close(self) -> None:
+        """Frees what the library holds, and lets the values go, once no other thread is in a call.
+        It may be called twice."""
+        with self._alone():
+            self._free()
+            values, self._values = self._values, {}
+        values.clear()
+
+    def _entries(self, places: Iterable[int]) -> List[Tuple[Chord, Value]]:
+        """The chords at these places and their values."""
+        keys, count, number = (_RawPress * _CHORD_MOST)(), ctypes.c_size_t(), ctypes.c_uint64()
+        entries = []
+        for place in places:
+            answer = _library.hed_bindings_entry(self._raw, place, keys, _CHORD_MOST, count, number)
+            self._check_bound(answer)
+            entries.append((Chord(map(_press, keys[: count.value])), self._values[number.value]))
+        return entries
+
+    def _check_bound(self, answer: int) -> None:
+        """Raises what a call of bindings answered, if it did nothing."""
+        if answer == _BOUND_NO_BINDINGS:
+            raise _closed(self._what)
+        if answer == _BOUND_NO_MEMORY:
+            raise _refused()
+        if answer not in (_BOUND_NONE, _BOUND_VALUE):
+            _fault()
+
+
+@dataclass(frozen=True)
+class Bound(Generic[Value]):
+    """A chord of so many keys was pressed, and this is its value."""
+
+    keys: int
+    value: Value
+
+
+@dataclass(frozen=True)
+class Unbound:
+    """A press that begins no chord that was pressed. A program may insert its text."""
+
+    press: KeyPress
+
+
+class Matcher(Generic[Value]):
+    """Reads presses as chords and as single keys. It holds those that aren't decided yet.
+
+        >>> matcher = Matcher(Bindings({"g": "go", "g g": "top"}))
+        >>> matcher.press("g"), matcher.pending
+        ([], (KeyPress(key='g', held=KittyModifiers.NONE),))
+        >>> matcher.press("x")
+        [Bound(keys=1, value='go'), Unbound(press=KeyPress(key='x', held=KittyModifiers.NONE))]
+
+    The longest chord counts. While a longer one is still possible the matcher waits, and a program
+    whose user pauses for a second or so calls `give_up`.
+
+    `bindings` may be set to others at any time, as for a mode of the program: what is pending is
+    read by those of the call. A matcher may be copied by copy.copy."""
+
+    def __init__(self, bindings: Bindings[Value]) -> None:
+        self.bindings = bindings
+        self._raw = _RawMatcher()
+
+    def __copy__(self) -> Matcher[Value]:
+        other = Matcher(self.bindings)
+        other._raw = _RawMatcher.from_buffer_copy(self._raw)
+        return other
+
+    def __repr__(self) -> str:
+        return f"<Matcher, {_printed(self.pending) if self.pending else 'nothing'} pending>"
+
+    def press(
+        self, key: Union[KeyPress, str], second: Optional[KeyPress] = None
+    ) -> List[Union[Bound[Value], Unbound]]:
+        """Puts a press, or a text that names one, behind those that are pending. Returns what is
+        decided by it: a Bound for each chord and an Unbound for each other press, in order.
+
+        second is `KeyPress.second` of the report, if it has one. It is taken instead if only it
+        leads on: some chord begins with what is pending and it. If neither does, the same is asked
+        as if nothing were pending.
+
+        Raises ValueError for a KeyPress that was made by hand and is the press of no key."""
+        self.push(key, second)
+        return self._all(True)
+
+    def give_up(self) -> List[Union[Bound[Value], Unbound]]:
+        """Decides all that is pending, and returns it. A program calls this when it waited long
+        enough for another key."""
+        return self._all(False)
+
+    def push(self, key: Union[KeyPress, str], second: Optional[KeyPress] = None) -> None:
+        """Does the first half of `press`: it decides nothing yet. `take` does the rest.
+
+        Raises ValueError if 32 presses are pending, which isn't so once `take` returned None."""
+        presses = [_one_press(key)] if second is None else [_one_press(key), second]
+        raw = (_RawPress * len(presses))(*map(_raw_press, presses))
+        with self.bindings._lock:
+            answer = _library.hed_matcher_press_either(
+                self._raw, self.bindings._raw, raw, len(presses)
+            )
+        if answer == _PRESSED_FULL:
+            raise ValueError(f"{_CHORD_MOST} presses are pending")
+        if answer == _PRESSED_BAD_NUMBER:
+            raise ValueError(f"{' or '.join(map(repr, presses))} is the press of no key")
+        if answer == _PRESSED_NO_BINDINGS:
+            raise _closed(self.bindings._what)
+        if answer != _PRESSED_KEY:
+            _fault()
+
+    def take(self, maybe_more: bool = True) -> Optional[Union[Bound[Value], Unbound]]:
+        """Takes what comes first of what is pending: the longest chord, or else the first press.
+        Returns None if nothing is pending. While more presses may come, pass maybe_more as True: it
+        also returns None while what is pending may become a longer chord."""
+        more = bool(maybe_more)
+        return self._outcome(
+            lambda raw, out: _library.hed_matcher_next(self._raw, raw, more, out)
+        )
+
+    def on_pause(self) -> Optional[Union[Bound[Value], Unbound]]:
+        """Returns what `give_up` would decide first, and takes nothing. While that is an Unbound, a
+        program may prefer to wait for ever: the press may still begin a chord."""
+        return self._outcome(lambda raw, out: _library.hed_matcher_on_pause(self._raw, raw, out))
+
+    @property
+    def is_dead_end(self) -> bool:
+        """Whether more than one press is pending, no chord begins with them, and they begin with no
+        chord. A program that takes such keys as one mistake, as Emacs does, asks this after `push`,
+        and calls `cancel`."""
+        with self.bindings._lock:
+            self.bindings._check_open()
+            return bool(_library.hed_matcher_is_dead_end(self._raw, self.bindings._raw))
+
+    @property
+    def pending(self) -> Tuple[KeyPress, ...]:
+        """The presses that are pending, in the order in which they were pressed."""
+        return self._presses(_library.hed_matcher_pending)
+
+    def cancel(self) -> Tuple[KeyPress, ...]:
+        """Returns what is pending, and leaves nothing."""
+        return self._presses(_library.hed_matcher_cancel)
+
+    def _presses(self, call: Any) -> Tuple[KeyPress, ...]:
+        keys = (_RawPress * _CHORD_MOST)()
+        return tuple(map(_press, keys[: call(self._raw, keys, _CHORD_MOST)]))
+
+    def _all(self, more: bool) -> List[Union[Bound[Value], Unbound]]:
+        outcomes = []
+        outcome = self.take(more)
+        while outcome is not None:
+            outcomes.append(outcome)
+            outcome = self.take(more)
+        return outcomes
+
+    def _outcome(
+        self, call: Callable[[_RawBindings, _RawOutcome], int]
+    ) -> Optional[Union[Bound[Value], Unbound]]:
+        """The outcome that a call wrote, if it did."""
+        bindings, outcome = self.bindings, _RawOutcome()
+        with bindings._lock:
+            answer = call(bindings._raw, outcome)
+            if answer == _OUTCOME_BOUND:
+                return Bound(outcome.keys, bindings._values[outcome.value])
+        if answer == _OUTCOME_UNBOUND:
+            return Unbound(_press(outcome.press))
+        if answer == _OUTCOME_NONE:
+            return None
+        if answer == _OUTCOME_NO_BINDINGS:
+            raise _closed(bindings._what)
+        _fault()
+
+
 def typed_text(report: KeyReport) -> str:
     """Returns the text of a report that has no press because it types several characters, as a
     compose key or an input method may. It is to be inserted as a paste is. The text of any other
@@ -592,6 +881,18 @@ class _RawPress(ctypes.Structure):
     ]
 
 
+class _RawBindings(ctypes.Structure):
+    _fields_ = [("live", ctypes.c_bool), ("state", ctypes.c_void_p)]
+
+
+class _RawMatcher(ctypes.Structure):
+    _fields_ = [("count", ctypes.c_size_t), ("keys", _RawPress * 32)]
+
+
+class _RawOutcome(ctypes.Structure):
+    _fields_ = [("keys", ctypes.c_size_t), ("value", ctypes.c_uint64), ("press", _RawPress)]
+
+
 class _RawExtendedEvent(ctypes.Structure):
     _fields_ = [
         ("kind", ctypes.c_uint8),
@@ -624,6 +925,10 @@ _READING = ctypes.POINTER(_RawReading)
 _REPORT = ctypes.POINTER(_RawReport)
 _PRESS = ctypes.POINTER(_RawPress)
 _EVENT = ctypes.POINTER(_RawExtendedEvent)
+_BINDINGS = ctypes.POINTER(_RawBindings)
+_MATCHER = ctypes.POINTER(_RawMatcher)
+_OUTCOME = ctypes.POINTER(_RawOutcome)
+_NUMBER = ctypes.POINTER(ctypes.c_uint64)
 
 # The calls of hedrugal.h: the type of the result, and those of the arguments.
 _CALLS: Dict[str, Tuple[Any, List[Any]]] = {
@@ -676,6 +981,30 @@ _CALLS: Dict[str, Tuple[Any, List[Any]]] = {
         ctypes.c_uint32,
         [_PRESS, ctypes.c_size_t, _BYTES, ctypes.c_size_t, _COUNT],
     ),
+    "hed_bindings_init": (ctypes.c_bool, [_BINDINGS]),
+    "hed_bindings_free": (None, [_BINDINGS]),
+    "hed_bindings_bind": (
+        ctypes.c_uint32,
+        [_BINDINGS, _PRESS, ctypes.c_size_t, ctypes.c_uint64],
+    ),
+    "hed_bindings_unbind": (ctypes.c_uint32, [_BINDINGS, _PRESS, ctypes.c_size_t, _NUMBER]),
+    "hed_bindings_lookup": (ctypes.c_uint32, [_BINDINGS, _PRESS, ctypes.c_size_t, _NUMBER]),
+    "hed_bindings_len": (ctypes.c_size_t, [_BINDINGS]),
+    "hed_bindings_entry": (
+        ctypes.c_uint32,
+        [_BINDINGS, ctypes.c_size_t, _PRESS, ctypes.c_size_t, _COUNT, _NUMBER],
+    ),
+    "hed_bindings_continuations": (
+        ctypes.c_uint32,
+        [_BINDINGS, _PRESS, ctypes.c_size_t, _COUNT, _COUNT],
+    ),
+    "hed_matcher_press": (ctypes.c_uint32, [_MATCHER, _PRESS]),
+    "hed_matcher_press_either": (ctypes.c_uint32, [_MATCHER, _BINDINGS, _PRESS, ctypes.c_size_t]),
+    "hed_matcher_next": (ctypes.c_uint32, [_MATCHER, _BINDINGS, ctypes.c_bool, _OUTCOME]),
+    "hed_matcher_on_pause": (ctypes.c_uint32, [_MATCHER, _BINDINGS, _OUTCOME]),
+    "hed_matcher_is_dead_end": (ctypes.c_bool, [_MATCHER, _BINDINGS]),
+    "hed_matcher_pending": (ctypes.c_size_t, [_MATCHER, _PRESS, ctypes.c_size_t]),
+    "hed_matcher_cancel": (ctypes.c_size_t, [_MATCHER, _PRESS, ctypes.c_size_t]),
 }
 _declare(_library, _CALLS)
 
@@ -760,6 +1089,27 @@ def _raw_press(press: KeyPress) -> _RawPress:
         raise TypeError("a KeyPress has KittyModifiers")
     number, detail = _reported_numbers(press.key)
     return _RawPress(number, press.held.value, detail)
+
+
+def _raw_chord(keys: Keys) -> Any:
+    """The numbers of a chord, or of the chord that a text names."""
+    if isinstance(keys, str):
+        keys = Chord.read(keys)
+    if not isinstance(keys, Chord):
+        raise TypeError(f"a Chord or a str is required, not {type(keys).__name__}")
+    return (_RawPress * len(keys))(*map(_raw_press, keys))
+
+
+def _one_press(key: Union[KeyPress, str]) -> KeyPress:
+    """A press, or the only one that a text names."""
+    if isinstance(key, KeyPress):
+        return key
+    if not isinstance(key, str):
+        raise TypeError(f"a KeyPress or a str is required, not {type(key).__name__}")
+    presses = Chord.read(key).presses
+    if len(presses) > 1:
+        raise ValueError(f"{key!r} names {len(presses)} keys, and one is required")
+    return presses[0]
 
 
 def _printed(presses: Tuple[KeyPress, ...]) -> Optional[str]:

@@ -33,6 +33,7 @@ mod holder;
 mod key_reports;
 mod keymap_calls;
 mod kitty_calls;
+mod matcher_calls;
 mod modes;
 mod name_calls;
 mod parser_and_paste;

@@ -65,9 +65,7 @@ fn matcher_of(numbers: &CMatcher) -> Option<Matcher>
     if numbers.count > MAX_KEYS {
         return None;
     }
-    Some(Matcher::with_pending(presses_of(
-        &numbers.keys[..numbers.count],
-    )?))
+    Some(Matcher::with_pending(presses_of(&numbers.keys[..numbers.count])?))
 }
 
 // Writes the presses that are pending.

@@ -1,4 +1,5 @@
 // The extended parser, by the crate's public calls alone.
+mod bindings;
 mod compared;
 mod cuts;
 mod draws;

@@ -1,0 +1,276 @@
+/* A test of bindings and matchers. Worked rows say what the presses of some keys do. A thousand chords are bound, listed, read by a matcher and
+ * unbound. Numbers that stand for nothing are refused, and so is a handle that has no bindings. */
+#include "expect.h"
+#include "hedrugal.h"
+#include <stdio.h>
+#include <string.h>
+
+enum { CHORDS = 1000 };
+
+/* Reads the name of a chord, up to a character that ends it, and returns how many presses it has. */
+static size_t read_chord(const char *text, size_t len, hed_key_press *keys) {
+  size_t count, at;
+  EXPECT(hed_key_read((const uint8_t *)text, len, keys, HED_CHORD_MOST, &count, &at) == HED_NAMED_KEYS);
+  return count;
+}
+
+static hed_key_press read_press(const char *text, size_t len) {
+  hed_key_press keys[HED_CHORD_MOST];
+  EXPECT(read_chord(text, len, keys) == 1);
+  return keys[0];
+}
+
+/* What was told so far: the outcomes, with blanks between them. */
+static char told[256];
+
+static void tell_press(const char *before, const hed_key_press *keys, size_t count) {
+  uint8_t name[128];
+  size_t len;
+  EXPECT(hed_key_print(keys, count, name, sizeof name, &len) == HED_PRINTED_NAME);
+  snprintf(told + strlen(told), sizeof told - strlen(told), "%s%s%.*s", *told ? "; " : "", before, (int)len, name);
+}
+
+static void tell(uint32_t answer, const hed_outcome *outcome) {
+  if (answer == HED_OUTCOME_UNBOUND) {
+    EXPECT(outcome->keys == 1 && outcome->value == 0);
+    tell_press("?", &outcome->press, 1);
+    return;
+  }
+  EXPECT(answer == HED_OUTCOME_BOUND && outcome->press.key == 0 && outcome->press.detail == 0);
+  snprintf(told + strlen(told), sizeof told - strlen(told), "%s%u", *told ? "; " : "", (unsigned)outcome->value);
+}
+
+/* Tells all outcomes. What a call leaves unwritten stays. */
+static void take_all(hed_matcher *matcher, const hed_bindings *bindings, bool more) {
+  for (;;) {
+    hed_outcome outcome = { 77, 77, { 7, 7, 7 } }, first = outcome;
+    uint32_t paused = hed_matcher_on_pause(matcher, bindings, &first);
+    hed_matcher before = *matcher;
+    uint32_t answer = hed_matcher_next(matcher, bindings, more, &outcome);
+    if (answer == HED_OUTCOME_NONE) {
+      EXPECT(outcome.keys == 77 && outcome.value == 77 && outcome.press.key == 7 && matcher->count < HED_CHORD_MOST);
+      EXPECT(memcmp(&before, matcher, sizeof before) == 0 && (paused == HED_OUTCOME_NONE) == (matcher->count == 0));
+      return;
+    }
+    EXPECT(answer == paused && outcome.keys == first.keys && outcome.value == first.value && outcome.press.detail == first.press.detail);
+    EXPECT(matcher->count == before.count - outcome.keys);
+    EXPECT(memcmp(matcher->keys, before.keys + outcome.keys, matcher->count * sizeof *before.keys) == 0);
+    tell(answer, &outcome);
+  }
+}
+
+/* Binds chords that are parted by commas to 1, 2 and so on. */
+static void bind_all(hed_bindings *bindings, const char *chords) {
+  uint64_t value = 1;
+  for (const char *at = chords; *at; value++) {
+    hed_key_press keys[HED_CHORD_MOST];
+    size_t len = strcspn(at, ",");
+    EXPECT(hed_bindings_bind(bindings, keys, read_chord(at, len, keys), value) == HED_BOUND_VALUE);
+    at += len + (at[len] == ',');
+  }
+}
+
+/* What a word does: the name of a key, with a second one behind `/`, or one in capitals. */
+static void do_word(hed_matcher *matcher, hed_bindings *bindings, const char *word, size_t len) {
+  hed_key_press keys[HED_CHORD_MOST];
+  const char *slash = memchr(word, '/', len);
+  if (len == 5 && memcmp(word, "PAUSE", len) == 0) {
+    take_all(matcher, bindings, false);
+  } else if (len == 6 && memcmp(word, "CANCEL", len) == 0) {
+    EXPECT(hed_matcher_is_dead_end(matcher, bindings));
+    tell_press("cancelled ", keys, hed_matcher_cancel(matcher, keys, HED_CHORD_MOST));
+  } else if (len > 7 && memcmp(word, "UNBIND:", 7) == 0) {
+    uint64_t value = 77;
+    EXPECT(hed_bindings_unbind(bindings, keys, read_chord("a b c", 5, keys), &value) == HED_BOUND_VALUE && value == 1);
+    take_all(matcher, bindings, true);
+  } else if (slash) {
+    hed_key_press either[] = { read_press(word, (size_t)(slash - word)), read_press(slash + 1, len - (size_t)(slash + 1 - word)) };
+    EXPECT(hed_matcher_press_either(matcher, bindings, either, 2) == HED_PRESSED_KEY);
+    take_all(matcher, bindings, true);
+  } else {
+    hed_key_press press = read_press(word, len);
+    EXPECT(hed_matcher_press(matcher, &press) == HED_PRESSED_KEY);
+    if (!strstr(word, "CANCEL")) take_all(matcher, bindings, true);
+  }
+}
+
+static const struct {
+  const char *chords, *words, *outcomes, *pending;
+} rows[] = {
+  { "ctrl+x ctrl+s,g,g g", "ctrl+x ctrl+s g g g", "1; 3", "g" },
+  { "g,g g", "g x g PAUSE", "1; ?x; 1", "" },
+  { "g g,g", "g g g PAUSE", "1; 2", "" },
+  { "a b c,b", "a b x", "?a; 2; ?x", "" },
+  { "a,a b c,b d", "a b d", "1; 3", "" },
+  { "a,a b c,b d", "a b PAUSE", "1; ?b", "" },
+  { "j k", "j j k", "?j; 1", "" },
+  { "ctrl+x ctrl+s", "ctrl+x z", "?ctrl+x; ?z", "" },
+  { "ctrl+x ctrl+s", "ctrl+x z CANCEL", "cancelled ctrl+x z", "" },
+  { "a b c", "a b UNBIND:a_b_c", "?a; ?b", "" },
+  { "ctrl+x ctrl+c", "ctrl+x ctrl+\321\201/ctrl+c", "1", "" },
+  { "ctrl+\321\201,ctrl+c", "ctrl+\321\201/ctrl+c", "1", "" },
+  { "", "a ctrl+b", "?a; ?ctrl+b", "" },
+};
+
+static void presses_run_commands(void) {
+  for (size_t i = 0; i < sizeof rows / sizeof *rows; i++) {
+    hed_bindings bindings = HED_BINDINGS_NONE;
+    hed_matcher matcher = HED_MATCHER_NONE;
+    EXPECT(hed_bindings_init(&bindings) && hed_bindings_len(&bindings) == 0);
+    bind_all(&bindings, rows[i].chords);
+    *told = 0;
+    for (const char *at = rows[i].words; *at;) {
+      size_t len = strcspn(at, " ");
+      do_word(&matcher, &bindings, at, len);
+      at += len + (at[len] == ' ');
+    }
+    EXPECT(strcmp(told, rows[i].outcomes) == 0);
+    *told = 0;
+    hed_key_press keys[HED_CHORD_MOST];
+    size_t count = hed_matcher_pending(&matcher, keys, HED_CHORD_MOST);
+    if (count) tell_press("", keys, count);
+    EXPECT(strcmp(told, rows[i].pending) == 0);
+    hed_bindings_free(&bindings);
+    hed_bindings_free(&bindings);
+    EXPECT(!bindings.live && !bindings.state);
+  }
+}
+
+/* The chord with this number: three letters. */
+static void number_chord(unsigned number, hed_key_press *keys) {
+  for (unsigned i = 0, rest = number; i < 3; i++, rest /= 10) {
+    hed_key_press press = { HED_KEY_CHAR, 0, 'a' + rest % 10 };
+    keys[2 - i] = press;
+  }
+}
+
+/* A thousand chords, bound in an order of their own. */
+static void binds_a_thousand_chords(void) {
+  hed_bindings bindings = HED_BINDINGS_NONE;
+  hed_key_press keys[HED_CHORD_MOST], shown[HED_CHORD_MOST];
+  uint64_t value;
+  size_t count, first, end;
+  EXPECT(hed_bindings_init(&bindings));
+  for (unsigned i = 0; i < CHORDS; i++) {
+    number_chord(i * 7919 % CHORDS, keys);
+    EXPECT(hed_bindings_bind(&bindings, keys, 3, i) == HED_BOUND_VALUE);
+    EXPECT(hed_bindings_bind(&bindings, keys, 3, i * 7919 % CHORDS) == HED_BOUND_VALUE && hed_bindings_len(&bindings) == i + 1);
+  }
+  for (unsigned i = 0; i < CHORDS; i++) {
+    number_chord(i, keys);
+    EXPECT(hed_bindings_lookup(&bindings, keys, 3, &value) == HED_BOUND_VALUE && value == i);
+    EXPECT(hed_bindings_lookup(&bindings, keys, 2, &value) == HED_BOUND_NONE && value == i);
+    memset(shown, 0, sizeof shown);
+    EXPECT(hed_bindings_entry(&bindings, i, shown, 2, &count, &value) == HED_BOUND_VALUE && count == 3 && value == i);
+    EXPECT(shown[1].detail == keys[1].detail && shown[2].key == 0);
+    EXPECT(hed_bindings_entry(&bindings, i, shown, HED_CHORD_MOST, &count, &value) == HED_BOUND_VALUE);
+    EXPECT(shown[2].key == HED_KEY_CHAR && shown[2].detail == keys[2].detail);
+    EXPECT(hed_bindings_continuations(&bindings, keys, 2, &first, &end) == HED_BOUND_VALUE && first == i - i % 10 && end == first + 10);
+    EXPECT(hed_bindings_continuations(&bindings, keys, 3, &first, &end) == HED_BOUND_NONE && first == 0 && end == 0);
+  }
+  EXPECT(hed_bindings_continuations(&bindings, NULL, 0, &first, &end) == HED_BOUND_VALUE && first == 0 && end == CHORDS);
+  count = value = 77;
+  EXPECT(hed_bindings_entry(&bindings, CHORDS, shown, HED_CHORD_MOST, &count, &value) == HED_BOUND_NONE && count == 0 && value == 77);
+  /* every chord is read from its keys */
+  hed_matcher matcher = HED_MATCHER_NONE;
+  for (unsigned i = 0; i < CHORDS; i++) {
+    hed_outcome outcome;
+    number_chord(i, keys);
+    for (unsigned k = 0; k < 3; k++) {
+      EXPECT(hed_matcher_next(&matcher, &bindings, true, &outcome) == HED_OUTCOME_NONE);
+      EXPECT(hed_matcher_press(&matcher, &keys[k]) == HED_PRESSED_KEY && !hed_matcher_is_dead_end(&matcher, &bindings));
+    }
+    EXPECT(hed_matcher_next(&matcher, &bindings, true, &outcome) == HED_OUTCOME_BOUND && outcome.value == i && outcome.keys == 3);
+  }
+  for (unsigned i = 0; i < CHORDS; i++) {
+    number_chord(i * 7919 % CHORDS, keys);
+    EXPECT(hed_bindings_unbind(&bindings, keys, 3, &value) == HED_BOUND_VALUE && value == i * 7919 % CHORDS);
+    value = 77;
+    EXPECT(hed_bindings_unbind(&bindings, keys, 3, &value) == HED_BOUND_NONE && value == 77);
+    EXPECT(hed_bindings_len(&bindings) == CHORDS - 1 - i);
+  }
+  hed_bindings_free(&bindings);
+}
+
+/* Numbers of no press, no keys, too many keys, and a matcher with numbers of no presses. */
+static void refuses_bad_numbers(void) {
+  static const hed_key_press bad[] = {
+    { HED_KEY_CHAR, 0, 0xd800 },
+    { HED_KEY_CHAR, HED_KITTY_MOD_SHIFT, 'a' },
+    { HED_KEY_CHAR, HED_KITTY_MOD_CAPS_LOCK, 'a' },
+    { HED_KEY_UP_ARROW, 0, 1 },
+    { HED_KEY_LEFT_SHIFT, 0, 0 },
+    { 0, 0, 57414 },
+    { 999, 0, 0 },
+  };
+  hed_bindings bindings = HED_BINDINGS_NONE;
+  hed_key_press keys[HED_CHORD_MOST + 1];
+  uint64_t value = 77;
+  size_t first, end;
+  hed_outcome outcome = { 77, 77, { 7, 7, 7 } };
+  EXPECT(hed_bindings_init(&bindings));
+  for (size_t i = 0; i < sizeof bad / sizeof *bad; i++) {
+    hed_matcher matcher = HED_MATCHER_NONE;
+    keys[0] = read_press("a", 1);
+    keys[1] = bad[i];
+    EXPECT(hed_bindings_bind(&bindings, keys, 2, 1) == HED_BOUND_BAD_NUMBER);
+    EXPECT(hed_bindings_lookup(&bindings, keys, 2, &value) == HED_BOUND_BAD_NUMBER);
+    EXPECT(hed_bindings_unbind(&bindings, keys, 2, &value) == HED_BOUND_BAD_NUMBER && value == 77);
+    EXPECT(hed_bindings_continuations(&bindings, keys, 2, &first, &end) == HED_BOUND_BAD_NUMBER && first == 0 && end == 0);
+    EXPECT(hed_matcher_press(&matcher, &bad[i]) == HED_PRESSED_BAD_NUMBER && matcher.count == 0);
+    EXPECT(hed_matcher_press_either(&matcher, &bindings, keys, 2) == HED_PRESSED_BAD_NUMBER && matcher.count == 0);
+    matcher.count = 2;
+    memcpy(matcher.keys, keys, 2 * sizeof *keys);
+    EXPECT(hed_matcher_press(&matcher, keys) == HED_PRESSED_BAD_NUMBER && matcher.count == 2);
+    EXPECT(hed_matcher_press_either(&matcher, &bindings, keys, 1) == HED_PRESSED_BAD_NUMBER);
+    EXPECT(hed_matcher_next(&matcher, &bindings, false, &outcome) == HED_OUTCOME_BAD_NUMBER && matcher.count == 2);
+    EXPECT(hed_matcher_on_pause(&matcher, &bindings, &outcome) == HED_OUTCOME_BAD_NUMBER && outcome.keys == 77);
+    EXPECT(!hed_matcher_is_dead_end(&matcher, &bindings) && hed_matcher_pending(&matcher, keys, 2) == 0);
+    EXPECT(hed_matcher_cancel(&matcher, keys, 2) == 0 && matcher.count == 0);
+  }
+  for (size_t i = 0; i <= HED_CHORD_MOST; i++) keys[i] = read_press("a", 1);
+  EXPECT(hed_bindings_bind(&bindings, NULL, 0, 1) == HED_BOUND_BAD_NUMBER);
+  EXPECT(hed_bindings_bind(&bindings, keys, HED_CHORD_MOST + 1, 1) == HED_BOUND_BAD_NUMBER);
+  EXPECT(hed_bindings_continuations(&bindings, keys, HED_CHORD_MOST + 1, &first, &end) == HED_BOUND_BAD_NUMBER);
+  EXPECT(hed_bindings_bind(&bindings, keys, HED_CHORD_MOST, 1) == HED_BOUND_VALUE && hed_bindings_len(&bindings) == 1);
+  hed_matcher matcher = HED_MATCHER_NONE;
+  EXPECT(hed_matcher_press_either(&matcher, &bindings, NULL, 0) == HED_PRESSED_BAD_NUMBER);
+  EXPECT(hed_matcher_press_either(&matcher, &bindings, keys, 3) == HED_PRESSED_BAD_NUMBER);
+  for (size_t i = 0; i < HED_CHORD_MOST; i++) EXPECT(hed_matcher_press_either(&matcher, &bindings, keys, 1) == HED_PRESSED_KEY);
+  EXPECT(hed_matcher_press(&matcher, keys) == HED_PRESSED_FULL && matcher.count == HED_CHORD_MOST);
+  EXPECT(hed_matcher_press_either(&matcher, &bindings, keys, 2) == HED_PRESSED_FULL && matcher.count == HED_CHORD_MOST);
+  hed_matcher copy = matcher;
+  EXPECT(hed_matcher_next(&matcher, &bindings, true, &outcome) == HED_OUTCOME_BOUND && outcome.keys == HED_CHORD_MOST && outcome.value == 1);
+  EXPECT(hed_matcher_pending(&copy, keys, 1) == HED_CHORD_MOST && copy.count == HED_CHORD_MOST);
+  copy.count++;
+  EXPECT(hed_matcher_next(&copy, &bindings, true, &outcome) == HED_OUTCOME_BAD_NUMBER);
+  hed_bindings_free(&bindings);
+}
+
+static void answers_without_bindings(void) {
+  hed_bindings none = HED_BINDINGS_NONE;
+  hed_matcher matcher = HED_MATCHER_NONE;
+  hed_key_press keys[1] = { read_press("a", 1) };
+  uint64_t value = 77;
+  size_t count = 77, first, end;
+  hed_outcome outcome = { 77, 77, { 7, 7, 7 } };
+  EXPECT(hed_bindings_bind(&none, keys, 1, 1) == HED_BOUND_NO_BINDINGS && hed_bindings_len(&none) == 0);
+  EXPECT(hed_bindings_lookup(&none, keys, 1, &value) == HED_BOUND_NO_BINDINGS);
+  EXPECT(hed_bindings_unbind(&none, keys, 1, &value) == HED_BOUND_NO_BINDINGS && value == 77);
+  EXPECT(hed_bindings_entry(&none, 0, keys, 1, &count, &value) == HED_BOUND_NO_BINDINGS && count == 0);
+  EXPECT(hed_bindings_continuations(&none, keys, 1, &first, &end) == HED_BOUND_NO_BINDINGS && first == 0 && end == 0);
+  EXPECT(hed_matcher_press_either(&matcher, &none, keys, 1) == HED_PRESSED_NO_BINDINGS && matcher.count == 0);
+  EXPECT(hed_matcher_press(&matcher, keys) == HED_PRESSED_KEY);
+  EXPECT(hed_matcher_next(&matcher, &none, false, &outcome) == HED_OUTCOME_NO_BINDINGS && matcher.count == 1);
+  EXPECT(hed_matcher_on_pause(&matcher, &none, &outcome) == HED_OUTCOME_NO_BINDINGS && outcome.value == 77);
+  EXPECT(!hed_matcher_is_dead_end(&matcher, &none));
+  hed_bindings_free(&none);
+}
+
+int main(void) {
+  presses_run_commands();
+  binds_a_thousand_chords();
+  refuses_bad_numbers();
+  answers_without_bindings();
+  return expected("test_bindings");
+}
