@@ -1,4 +1,4 @@
-/* Refuses each request for memory of the extended parser's calls, of hed_encode_kitty and of hed_key_print in turn, one in each run, and makes
+/* Refuses each request for memory of the extended parser's calls, of hed_encode_kitty, of hed_key_print and of hed_bindings in turn, one in each run, and makes
  * the refused call again: the answers must be those of a run without a refusal, and each refusal must be told once. What is dropped or freed
  * leaves no memory in use.
  *
@@ -280,6 +280,55 @@ static void refuse_while_printing(void) {
   }
 }
 
+/* Bindings of letters, with each request refused in turn: what was there stays. All other calls need no memory. */
+static void refuse_while_binding(void) {
+  enum { LETTERS = 26 };
+  unsigned met;
+  long number = 0;
+  do {
+    hed_bindings bindings = HED_BINDINGS_NONE;
+    unsigned said = 0;
+    refuse(++number);
+    while (!hed_bindings_init(&bindings)) {
+      EXPECT(!bindings.live && said++ == 0);
+    }
+    for (uint32_t i = 0; i < LETTERS; i++) {
+      hed_key_press keys[] = { { HED_KEY_CHAR, HED_KITTY_MOD_CTRL, 'x' }, { HED_KEY_CHAR, 0, 'a' + i } };
+      while (hed_bindings_bind(&bindings, keys, 2, i) == HED_BOUND_NO_MEMORY) {
+        EXPECT(hed_bindings_len(&bindings) == i && said++ == 0);
+      }
+    }
+    met = refused;
+    EXPECT(met == said);
+    refuse(1);
+    hed_matcher matcher = HED_MATCHER_NONE;
+    for (uint32_t i = 0; i < LETTERS; i++) {
+      hed_key_press keys[2] = { { HED_KEY_CHAR, HED_KITTY_MOD_CTRL, 'x' }, { HED_KEY_CHAR, 0, 'a' + i } }, shown[2];
+      hed_outcome outcome;
+      uint64_t value = 77;
+      size_t count, first, end;
+      EXPECT(hed_bindings_entry(&bindings, i, shown, 2, &count, &value) == HED_BOUND_VALUE && value == i);
+      EXPECT(hed_bindings_continuations(&bindings, keys, 1, &first, &end) == HED_BOUND_VALUE && end - first == LETTERS);
+      EXPECT(hed_matcher_press_either(&matcher, &bindings, keys, 2) == HED_PRESSED_KEY);
+      EXPECT(hed_matcher_press(&matcher, &keys[1]) == HED_PRESSED_KEY && !hed_matcher_is_dead_end(&matcher, &bindings));
+      EXPECT(hed_matcher_on_pause(&matcher, &bindings, &outcome) == HED_OUTCOME_BOUND && outcome.value == i);
+      EXPECT(hed_matcher_next(&matcher, &bindings, true, &outcome) == HED_OUTCOME_BOUND && outcome.value == i);
+      EXPECT(hed_bindings_lookup(&bindings, keys, 2, &value) == HED_BOUND_VALUE);
+    }
+    for (uint32_t i = LETTERS; i-- > 0;) {
+      hed_key_press keys[] = { { HED_KEY_CHAR, HED_KITTY_MOD_CTRL, 'x' }, { HED_KEY_CHAR, 0, 'a' + i } };
+      uint64_t value;
+      EXPECT(hed_bindings_unbind(&bindings, keys, 2, &value) == HED_BOUND_VALUE && value == i && hed_bindings_len(&bindings) == i);
+    }
+    EXPECT(refused == 0);
+    refuse(0);
+    hed_bindings_free(&bindings);
+    EXPECT(in_use == 0);
+  } while (met);
+  EXPECT(number > 2);
+  printf("bindings: %ld refusals\n", number - 1);
+}
+
 /* Every STEPth request of init refused: what was there stays. */
 static void refuse_init(long step) {
   hed_extended parser = HED_EXTENDED_NONE, none = HED_EXTENDED_NONE;
@@ -448,6 +497,7 @@ int main(int argc, char **argv) {
   refuse_time();
   refuse_while_encoding();
   refuse_while_printing();
+  refuse_while_binding();
   refuse_replies();
   need_no_memory();
   refuse_init(step);

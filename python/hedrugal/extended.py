@@ -460,9 +460,11 @@ class Bindings(_Closable, MutableMapping[Chord, Value]):
 
     Making and binding raise MemoryError if memory is refused. Then the bindings are unchanged."""
 
-    def __init__(self, chords: Union[Mapping[Any, Value], Iterable[Tuple[Keys, Value]]] = ()) -> None:
+    def __init__(
+        self, chords: Union[Mapping[Any, Value], Iterable[Tuple[Keys, Value]]] = ()
+    ) -> None:
         super().__init__(
-            "bindings", _RawBindings(), _library.hed_bindings_init, _library.hed_bindings_free
+            "map of chords", _RawBindings(), _library.hed_bindings_init, _library.hed_bindings_free
         )
         # The library maps a chord to the number of its value here.
         self._values: Dict[int, Value] = {}
@@ -648,9 +650,7 @@ class Matcher(Generic[Value]):
         Returns None if nothing is pending. While more presses may come, pass maybe_more as True: it
         also returns None while what is pending may become a longer chord."""
         more = bool(maybe_more)
-        return self._outcome(
-            lambda raw, out: _library.hed_matcher_next(self._raw, raw, more, out)
-        )
+        return self._outcome(lambda raw, out: _library.hed_matcher_next(self._raw, raw, more, out))
 
     def on_pause(self) -> Optional[Union[Bound[Value], Unbound]]:
         """Returns what `give_up` would decide first, and takes nothing. While that is an Unbound, a

@@ -1,6 +1,5 @@
 // The calls of a matcher.
-ghost use Rattle.std.specs.Prelude.{◌≡◌, ◌≢◌, ◌≤◌, ◌↔◌, List, Some, IfSome, IfNone, IsTrue, None, true, false};
-ghost use Rattle.termwiz_bindings.specs.declared.matcher.Outcome.{Outcome as Told};
+ghost use Rattle.std.specs.Prelude.{◌≡◌, ◌≢◌, ◌≤◌, ◌↔◌, ◌⊎◌, ℕ, [], Option, None, IfSome, IfNone, IsTrue};
 ghost use Rattle.termwiz_bindings.specs.declared.matcher.Outcome.TheVariants as told;
 ghost use Rattle.termwiz_bindings.specs.declared.press.KeyPress.{KeyPress as Pressed};
 ghost use Rattle.termwiz_bindings.specs.Matchers.{outcome_copied};
@@ -246,7 +245,7 @@ pub extern "C" fn hed_matcher_on_pause(
 /// no presses, or there are no bindings.
 #[unsafe(no_mangle)]
 pub extern "C" fn hed_matcher_is_dead_end(matcher: &CMatcher, bindings: &mut BindingsHandle) -> bool
-    ensures { IsTrue result ↔ HasDeadEnd bindings.old.state.held matcher.now }
+    ensures dead_end { IsTrue result ↔ HasDeadEnd bindings.old.state.held matcher.now }
     ensures bindings_same { bindings.new.state ≡ bindings.old.state }
 {
     let Some(pending) = matcher_of(matcher) else {

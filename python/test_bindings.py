@@ -1,0 +1,269 @@
+"""Bindings of chords, and matchers."""
+import copy
+import gc
+import pickle
+import random
+import weakref
+
+import pytest
+
+from hedrugal import (
+    Bindings,
+    Bound,
+    Chord,
+    KeyNameError,
+    KeyPress,
+    KittyModifiers,
+    Matcher,
+    Unbound,
+    extended,
+)
+
+# Chords with the values 1, 2 and so on, words, the outcomes as values or `?` and a press, and what
+# is pending. A word is a key, two keys that are tried, or what its capitals say.
+ROWS = [
+    ("ctrl+x ctrl+s, g, g g", "ctrl+x ctrl+s g g g", "1; 3", "g"),
+    ("g, g g", "g x g PAUSE", "1; ?x; 1", ""),
+    ("g g, g", "g g g PAUSE", "1; 2", ""),
+    ("a b c, b", "a b x", "?a; 2; ?x", ""),
+    ("a, a b c, b d", "a b d", "1; 3", ""),
+    ("a, a b c, b d", "a b PAUSE", "1; ?b", ""),
+    ("j k", "j j k", "?j; 1", ""),
+    ("ctrl+x ctrl+s", "ctrl+x z", "?ctrl+x; ?z", ""),
+    ("ctrl+x ctrl+s", "ctrl+x z CANCEL", "cancelled ctrl+x z", ""),
+    ("a b c", "a b UNBIND:a_b_c", "?a; ?b", ""),
+    ("ctrl+x ctrl+c", "ctrl+x ctrl+\u0441/ctrl+c", "1", ""),
+    ("ctrl+\u0441, ctrl+c", "ctrl+\u0441/ctrl+c", "1", ""),
+]
+
+
+def numbered(chords):
+    return Bindings(zip(chords.split(", "), range(1, 99)))
+
+
+def press(name):
+    return Chord.read(name).presses[0]
+
+
+def named(presses):
+    return " ".join(map(str, presses))
+
+
+def told(outcome):
+    return str(outcome.value) if isinstance(outcome, Bound) else f"?{outcome.press}"
+
+
+def taken(matcher):
+    return list(iter(matcher.take, None))
+
+
+def act(matcher, word, cancels):
+    """What a word gives."""
+    if word == "PAUSE":
+        first = matcher.on_pause()
+        outcomes = matcher.give_up()
+        assert outcomes[0] == first
+        return map(told, outcomes)
+    if word == "CANCEL":
+        assert matcher.is_dead_end
+        return [f"cancelled {named(matcher.cancel())}"]
+    if word.startswith("UNBIND:"):
+        del matcher.bindings[word[7:].replace("_", " ")]
+        return map(told, taken(matcher))
+    if cancels:
+        matcher.push(word)
+        return []
+    first, _, second = word.partition("/")
+    return map(told, matcher.press(first, press(second) if second else None))
+
+
+@pytest.mark.parametrize("chords, words, outcomes, pending", ROWS)
+def test_keys_run_commands(chords, words, outcomes, pending):
+    matcher = Matcher(numbered(chords))
+    cancels = words.endswith("CANCEL")
+    given = [it for word in words.split() for it in act(matcher, word, cancels)]
+    assert "; ".join(given) == outcomes
+    assert named(matcher.pending) == pending
+
+
+def test_bindings_are_a_mapping():
+    bindings = Bindings(
+        {"C-x C-s": "save"},
+    )
+    save = Chord.read("ctrl+x ctrl+s")
+    assert bindings[save] == bindings["<C-x> <C-s>"] == "save"
+    assert save in bindings and "g" not in bindings and bindings.get("g") is None
+    bindings["g"] = bindings["a"] = 1
+    bindings["a"] = 2
+    assert len(bindings) == 3 and [str(chord) for chord in bindings] == ["a", "g", "ctrl+x ctrl+s"]
+    assert bindings.pop("g") == 1 and bindings.setdefault("a", 3) == 2
+    assert bindings == {Chord.read("a"): 2, save: "save"} == Bindings(bindings)
+    assert repr(bindings) == "Bindings({'a': 2, 'ctrl+x ctrl+s': 'save'})"
+    bindings.update({"b": 4})
+    bindings.clear()
+    assert not bindings and list(bindings) == []
+
+
+def test_no_such_chord_is_a_key_error():
+    bindings = Bindings({"g g": 1})
+    for keys in ("g", Chord.read("g g g")):
+        with pytest.raises(KeyError) as error:
+            bindings[keys]
+        assert error.value.args == (keys,)
+        with pytest.raises(KeyError):
+            del bindings[keys]
+    assert len(bindings) == 1
+
+
+def test_what_names_no_keys_is_refused():
+    bindings = Bindings({"g": 1})
+    for call in (bindings.__getitem__, bindings.__delitem__, bindings.continuations):
+        with pytest.raises(KeyNameError):
+            call("foo+x")
+        with pytest.raises(TypeError):
+            call(("g",))
+    with pytest.raises(KeyNameError):
+        bindings[""] = 1
+    matcher = Matcher(bindings)
+    with pytest.raises(ValueError):
+        matcher.press("g g")
+    with pytest.raises(TypeError):
+        matcher.press(1)
+    with pytest.raises(ValueError, match="the press of no key"):
+        matcher.press(KeyPress("a", KittyModifiers.SHIFT))
+    assert matcher.pending == ()
+
+
+def test_continuations_are_what_may_follow():
+    bindings = Bindings({"ctrl+x": 1, "ctrl+x 2": 2, "ctrl+x 1": 3, "ctrl+y 1": 4})
+    after = bindings.continuations("ctrl+x")
+    assert [(str(chord), value) for chord, value in after.items()] == [
+        ("ctrl+x 1", 3),
+        ("ctrl+x 2", 2),
+    ]
+    assert bindings.continuations("g") == {} == bindings.continuations("ctrl+x 1")
+
+
+def test_modes_have_bindings_of_their_own():
+    normal, insert = Bindings({"j k": "leave", "j": "down"}), Bindings({"j k": "normal"})
+    matcher = Matcher(normal)
+    assert matcher.press("j") == []
+    matcher.bindings = insert
+    other = copy.copy(matcher)
+    assert matcher.press("k") == [Bound(2, "normal")] and matcher.pending == ()
+    assert named(other.pending) == "j" and other.give_up() == [Unbound(press("j"))]
+    assert repr(matcher) == "<Matcher, nothing pending>"
+
+
+def test_a_full_matcher_refuses():
+    matcher = Matcher(Bindings({"b": 1}))
+    for _ in range(32):
+        matcher.push("a")
+    with pytest.raises(ValueError, match="32 presses are pending"):
+        matcher.push("a")
+    assert matcher.take() == Unbound(press("a")) and len(matcher.pending) == 31
+    assert len(matcher.cancel()) == 31 and matcher.on_pause() is None
+
+
+def test_values_are_let_go():
+    class Thing:
+        pass
+
+    bindings, things = Bindings(), [Thing() for _ in range(4)]
+    refs = [weakref.ref(thing) for thing in things]
+    for name, thing in zip("abca", things):
+        bindings[name] = thing
+    del things, thing
+    gc.collect()
+    assert [ref() is None for ref in refs] == [True, False, False, False]
+    del bindings["b"]
+    gc.collect()
+    assert refs[1]() is None
+    bindings.close()
+    gc.collect()
+    assert refs[2]() is None and refs[3]() is None
+
+
+def test_closed_bindings_say_so():
+    with Bindings({"g": 1}) as bindings:
+        matcher = Matcher(bindings)
+        matcher.push("g")
+    bindings.close()
+    assert bindings.closed and repr(bindings) == "<Bindings, closed>"
+    calls = [
+        lambda: len(bindings),
+        lambda: list(bindings),
+        lambda: bindings["g"],
+        lambda: bindings.__setitem__("g", 1),
+        lambda: bindings.__delitem__("g"),
+        lambda: bindings.continuations("g"),
+        lambda: matcher.push("g"),
+        lambda: matcher.take(),
+        lambda: matcher.on_pause(),
+        lambda: matcher.is_dead_end,
+    ]
+    for call in calls:
+        with pytest.raises(ValueError, match="the map of chords is closed"):
+            call()
+    assert named(matcher.pending) == "g"
+
+
+def test_they_cannot_be_pickled():
+    with pytest.raises(TypeError):
+        pickle.dumps(Bindings())
+    with pytest.raises(TypeError):
+        copy.copy(Bindings())
+
+
+def test_memory_that_is_refused_leaves_them_unchanged(monkeypatch):
+    bindings = Bindings({"g": 1})
+
+    class Refusing:
+        def __getattr__(self, name):
+            return getattr(library, name)
+
+        def hed_bindings_bind(self, *_):
+            return extended._BOUND_NO_MEMORY
+
+    library = extended._library
+    monkeypatch.setattr(extended, "_library", Refusing())
+    with pytest.raises(MemoryError):
+        bindings["x"] = 2
+    bindings["g"] = 3
+    monkeypatch.undo()
+    assert bindings == {Chord.read("g"): 3}
+    bindings["x"] = 4
+    assert bindings["x"] == 4
+
+
+def slow(chords, presses, more):
+    """What the presses do, by the chords that are bound, and what is left: it tries everything."""
+    outcomes = []
+    while presses:
+        begun = [chord for chord in chords if chord[: len(presses)] == presses]
+        if more and any(len(chord) > len(presses) for chord in begun):
+            break
+        fits = [chord for chord in chords if presses[: len(chord)] == chord]
+        longest = max(fits, key=len, default=None)
+        outcomes.append(Bound(len(longest), chords[longest]) if longest else Unbound(presses[0]))
+        presses = presses[len(longest or (1,)) :]
+    return outcomes, presses
+
+
+@pytest.mark.parametrize("seed", range(100))
+def test_drawn_chords_are_read_as_the_slow_way_does(seed):
+    draw = random.Random(seed)
+    keys = [press(name) for name in ("a", "b", "ctrl+a", "up")]
+
+    def drawn(most):
+        return tuple(draw.choices(keys, k=draw.randint(1, most)))
+
+    chords = {drawn(4): value for value in range(draw.randint(0, 9))}
+    bindings = Bindings((Chord(chord), value) for chord, value in chords.items())
+    assert {chord.presses: value for chord, value in bindings.items()} == chords
+    matcher, pending = Matcher(bindings), ()
+    for key in drawn(30):
+        outcomes, pending = slow(chords, pending + (key,), True)
+        assert matcher.press(key) == outcomes
+        assert matcher.pending == pending
+    assert matcher.give_up() == slow(chords, pending, False)[0]
