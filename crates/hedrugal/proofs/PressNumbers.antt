@@ -11,6 +11,7 @@ use Rattle.termwiz_bindings.specs.Presses.{canonical}
 use Rattle.termwiz_bindings.proofs.lemmas.KeyNumbers.{stands_for_itself}
 use Rattle.hedrugal.specs.declared.press_calls.CKeyPress.{CKeyPress}
 use Rattle.hedrugal.specs.Chords.{AreOfChord, AreOfPress, AreOfPresses, with_presses}
+use Rattle.hedrugal.specs.MatcherCalls.{AreOfEither, AreOfNeither, listed}
 use Rattle.hedrugal.specs.PressCalls.{c_press}
 
 -- the numbers of a press stand for its key
@@ -58,6 +59,13 @@ all_written (p ∷ ps) (k ∷ keys) zero few room all = let no : ⊥ = omega ari
 all_written (p ∷ ps) (k ∷ keys) (suc i) few room all =
     ap (λ (more : List CKeyPress). c_press p ∷ more) (all_written ps keys i (omega arith) (omega arith) (omega arith))
 
+-- where there is room for all, all are written
+pub written_whole : (ps : List KeyPress) (keys : List CKeyPress) → length ps ≤ length keys
+    → take (length ps) (with_presses ps keys) ≡ map c_press ps
+written_whole [] keys few = refl
+written_whole (p ∷ ps) [] few = let no : ⊥ = omega arith in absurd no
+written_whole (p ∷ ps) (k ∷ keys) few = ap (λ (more : List CKeyPress). c_press p ∷ more) (written_whole ps keys (omega arith))
+
 -- one more press of a chord has its numbers
 pub one_more_read : (keys : List CKeyPress) (ps : List KeyPress) (i : ℕ) (d : CKeyPress) (p : KeyPress) → i < length keys
     → get_or keys i d ≡ c_press p → take i keys ≡ map c_press ps → take (i + 1) keys ≡ map c_press (ps ++ p ∷ [])
@@ -83,3 +91,33 @@ no_presses_with keys i d inside none (p ∷ ps) (chord, same) =
     let lt : i < length (p ∷ ps) = omega (arith, count) in
     let at : get_or (map c_press (p ∷ ps)) i d ≡ c_press (get_or (p ∷ ps) i p) = get_or-map c_press (p ∷ ps) i p d lt in
     none (get_or (p ∷ ps) i p) (chord.presses i p lt, ap (λ (ks : List CKeyPress). get_or ks i d) same ∙ at)
+
+-- a chord of at most two presses is its first press, and its second one, if there is one
+pub either_is : (keys : List CKeyPress) (ps : List KeyPress) (first : KeyPress) (second : Option KeyPress) → length keys ≤ 2
+    → AreOfChord keys ps → slice_get ps 0 ≡ Some first → second ≡ slice_get ps 1 → AreOfEither keys first second
+either_is keys [] first second few (chord, some, same) e0 e1 = absurd (some refl)
+either_is keys (p ∷ []) first None few is e0 e1 =
+    let one : p ≡ first = cc (e0) in subst (λ (x : KeyPress). AreOfChord keys (x ∷ [])) one is
+either_is keys (p ∷ []) first (Some q) few is e0 e1 = absurd (cc (e1))
+either_is keys (p ∷ q ∷ []) first None few is e0 e1 = absurd (cc (e1))
+either_is keys (p ∷ q ∷ []) first (Some r) few is e0 e1 =
+    let one : p ≡ first = cc (e0) in
+    let two : q ≡ r = cc (e1) in
+    subst (λ (x : KeyPress). AreOfChord keys (x ∷ r ∷ [])) one (subst (λ (y : KeyPress). AreOfChord keys (p ∷ y ∷ [])) two is)
+either_is keys (p ∷ q ∷ r ∷ ps) first second few (chord, some, same) e0 e1 =
+    let count : length keys ≡ length (p ∷ q ∷ r ∷ ps) = ap length same ∙ length-map (p ∷ q ∷ r ∷ ps) c_press in
+    let no : ⊥ = omega (arith, count, few) in absurd no
+
+-- more numbers aren't those of either
+pub too_many : (keys : List CKeyPress) → 2 < length keys → AreOfNeither keys
+too_many keys many first None (chord, some, same) =
+    let count : length keys ≡ length (first ∷ []) = ap length same ∙ length-map (first ∷ []) c_press in
+    let no : ⊥ = omega (arith, count, many) in absurd no
+too_many keys many first (Some q) (chord, some, same) =
+    let count : length keys ≡ length (first ∷ q ∷ []) = ap length same ∙ length-map (first ∷ q ∷ []) c_press in
+    let no : ⊥ = omega (arith, count, many) in absurd no
+
+-- a chord has a first press
+pub has_first : (keys : List CKeyPress) (ps : List KeyPress) → AreOfChord keys ps → slice_get ps 0 ≡ None → ⊥
+has_first keys [] (chord, some, same) none = some refl
+has_first keys (p ∷ ps) is none = absurd (cc (none))

@@ -12,6 +12,7 @@ pub mod KittyCalls
 pub mod Lent
 pub mod LentIf
 pub mod Limits
+pub mod MatcherCalls
 pub mod NameCalls
 pub mod Owned
 pub mod PressCalls

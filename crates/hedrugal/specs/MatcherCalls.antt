@@ -11,7 +11,7 @@ use Rattle.hedrugal.specs.declared.chord_bindings.ChordBindings.{ChordBindings}
 use Rattle.hedrugal.specs.declared.matcher_calls.CMatcher.{CMatcher}
 use Rattle.hedrugal.specs.declared.matcher_calls.COutcome.{COutcome}
 use Rattle.hedrugal.specs.declared.press_calls.CKeyPress.{CKeyPress}
-use Rattle.hedrugal.specs.Chords.{AreOfPress, AreOfPresses, with_presses}
+use Rattle.hedrugal.specs.Chords.{AreOfChord, AreOfPress, AreOfPresses, with_presses}
 use Rattle.hedrugal.specs.PressCalls.{c_press}
 
 -- the matcher has these presses pending
@@ -31,11 +31,18 @@ Pressed before press after =
 abbrev pub IsFull : CMatcher → Type 0
 IsFull m = (ps : List KeyPress) × Holds m ps × (MAX_KEYS ≤ length ps)
 
+-- a press, or none
+abbrev pub listed : Option KeyPress → List KeyPress
+listed (Some p) = p ∷ []
+listed None = []
+
 -- the numbers of the first press, and those of the second, if there is one
 abbrev pub AreOfEither : List CKeyPress → KeyPress → Option KeyPress → Type 0
-AreOfEither (first ∷ []) p None = AreOfPress first p
-AreOfEither (first ∷ second ∷ []) p (Some q) = AreOfPress first p × AreOfPress second q
-AreOfEither _ p q = ⊥
+AreOfEither keys first second = AreOfChord keys (first ∷ listed second)
+
+-- the numbers aren't those of one press or of two
+abbrev pub AreOfNeither : List CKeyPress → Type 0
+AreOfNeither keys = (first : KeyPress) (second : Option KeyPress) → ¬ AreOfEither keys first second
 
 -- the numbers are those of one press or of two, and the one that is taken is behind the others
 abbrev pub PressedEither : Option ChordBindings → CMatcher → List CKeyPress → CMatcher → Type 0

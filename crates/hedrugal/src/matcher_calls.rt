@@ -1,13 +1,13 @@
 // The calls of a matcher.
-ghost use Rattle.std.specs.Prelude.{◌≡◌, ◌≢◌, ◌≤◌, ◌↔◌, ◌⊎◌, ℕ, [], Option, None, IfSome, IfNone, IsTrue};
+ghost use Rattle.std.specs.Prelude.{◌≡◌, ◌≢◌, ◌≤◌, ◌↔◌, ◌⊎◌, ℕ, [], None, IfSome, IfNone, IsTrue};
 ghost use Rattle.termwiz_bindings.specs.declared.matcher.Outcome.TheVariants as told;
 ghost use Rattle.termwiz_bindings.specs.declared.press.KeyPress.{KeyPress as Pressed};
 ghost use Rattle.termwiz_bindings.specs.Matchers.{outcome_copied};
 ghost use Rattle.hedrugal.specs.MatcherCalls as calls;
-ghost use Rattle.hedrugal.specs.MatcherCalls.{AreOfEither, DecidesBound, DecidesUnbound, HasDeadEnd, Holds, HoldsNone, IsFull, PressedEither, TakesBound, TakesUnbound, Waits, WrotePending, c_outcome};
+ghost use Rattle.hedrugal.specs.MatcherCalls.{AreOfEither, AreOfNeither, DecidesBound, DecidesUnbound, HasDeadEnd, Holds, HoldsNone, IsFull, PressedEither, TakesBound, TakesUnbound, Waits, WrotePending, c_outcome};
 ghost use Rattle.hedrugal.specs.NameCalls.{AreOfNoPress};
 
-use crate::chords::{copy_presses, press_of, presses_of};
+use crate::chords::{chord_of, copy_presses, press_of, presses_of};
 use crate::handles::BindingsHandle;
 use crate::press_calls::{CKeyPress, c_press};
 use termwiz_bindings::chord::{Chord, MAX_KEYS};
@@ -68,6 +68,7 @@ fn matcher_of(numbers: &CMatcher) -> Option<Matcher>
 }
 
 // Writes the presses that are pending.
+#[tactic(auto, using(crate::proofs::PressNumbers::written_whole))]
 fn write_pending(pending: &Chord, numbers: &mut CMatcher)
     ensures { Holds numbers.new pending.now }
 {
@@ -79,8 +80,8 @@ fn write_pending(pending: &Chord, numbers: &mut CMatcher)
 fn c_outcome(outcome: Outcome<&u64>) -> (u32, COutcome)
     ensures outcome { result.1 ≡ c_outcome (outcome_copied outcome) }
     ensures answers { (result.0 ≡ OUTCOME_BOUND) ⊎ (result.0 ≡ OUTCOME_UNBOUND) }
-    ensures bound { (keys value : ℕ) → outcome_copied outcome ≡ told.Bound keys value → result.0 ≡ OUTCOME_BOUND }
-    ensures unbound { (press : Pressed) → outcome_copied outcome ≡ told.Unbound press → result.0 ≡ OUTCOME_UNBOUND }
+    ensures bound { result.0 ≡ OUTCOME_BOUND → (keys value : ℕ) × (outcome_copied outcome ≡ told.Bound keys value) }
+    ensures unbound { result.0 ≡ OUTCOME_UNBOUND → (press : Pressed) × (outcome_copied outcome ≡ told.Unbound press) }
 {
     match outcome {
         Outcome::Bound { keys, value } => (
@@ -130,15 +131,16 @@ pub extern "C" fn hed_matcher_press(matcher: &mut CMatcher, press: &CKeyPress) -
 }
 
 // The first press, and the second, if there is one.
+#[tactic(auto, using(crate::proofs::PressNumbers::either_is, crate::proofs::PressNumbers::too_many, crate::proofs::PressNumbers::has_first))]
 fn either_of(keys: &[CKeyPress]) -> Option<(KeyPress, Option<KeyPress>)>
     ensures some { IfSome result (λ either. AreOfEither keys.now either.0 either.1) }
-    ensures none { IfNone result ((first : Pressed) (second : Option Pressed) → ¬ AreOfEither keys.now first second) }
+    ensures none { IfNone result (AreOfNeither keys.now) }
 {
-    match keys {
-        [first] => Some((press_of(first)?, None)),
-        [first, second] => Some((press_of(first)?, Some(press_of(second)?))),
-        _ => None,
+    if keys.len() > 2 {
+        return None;
     }
+    let presses = chord_of(keys)?;
+    Some((presses.get(0)?, presses.get(1)))
 }
 
 /// Puts the first of the presses behind those that are pending, or the second, if there is one, and only it leads on. The answer is 0 if
@@ -153,8 +155,7 @@ pub extern "C" fn hed_matcher_press_either(
     ensures answers { result ≤ 3 }
     ensures pressed { result ≡ PRESSED_KEY → PressedEither bindings.old.state.held matcher.old keys.now matcher.new }
     ensures full { result ≡ PRESSED_FULL → IsFull matcher.old }
-    ensures bad_number { result ≡ PRESSED_BAD_NUMBER → HoldsNone matcher.old
-        ⊎ ((first : Pressed) (second : Option Pressed) → ¬ AreOfEither keys.now first second) }
+    ensures bad_number { result ≡ PRESSED_BAD_NUMBER → HoldsNone matcher.old ⊎ AreOfNeither keys.now }
     ensures no_bindings { result ≡ PRESSED_NO_BINDINGS → bindings.old.state.held ≡ None }
     ensures same { result ≢ PRESSED_KEY → matcher.new ≡ matcher.old }
     ensures bindings_same { bindings.new.state ≡ bindings.old.state }
