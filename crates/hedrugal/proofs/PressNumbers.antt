@@ -1,17 +1,22 @@
 -- Presses and chords by their numbers.
-use Rattle.std.proofs.Common.{◌≡◌, ◌∙◌, ℕ, zero, suc, ◌+◌, ◌<◌, ◌≤◌, min, List, [], ◌∷◌, ◌++◌, length, take, drop, get_or, map, Option, Some, None, refl, sym, ap, ap₂, subst, arith}
+use Rattle.std.proofs.Common.{◌≡◌, ◌∙◌, ℕ, zero, suc, ◌+◌, ◌<◌, ◌≤◌, min, List, [], ◌∷◌, ◌++◌, length, take, drop, get_or, map, Option, Some, None, Bool, true, refl, sym, ap, ap₂, subst, arith}
 use Rattle.std.specs.List.{slice_get, slice_set}
+use Rattle.std.specs.Prelude.{if◌then◌else◌}
 use Rattle.std.proofs.lemmas.List.{get_or-map, length-map, length-take, map-append, take_all, take_more}
 use Rattle.termwiz_extended_events.specs.declared.types.KeyEventKind.TheVariants.{Press}
 use Rattle.termwiz_extended_events.specs.declared.types.ReportedKey.{ReportedKey}
 use Rattle.termwiz_extended_events.specs.KeyReports.{report_of}
 use Rattle.termwiz_bindings.specs.declared.press.KeyPress.{KeyPress}
+use Rattle.termwiz_bindings.specs.Bindings.{find}
+use Rattle.termwiz_bindings.specs.Matchers.{IsTaken}
 use Rattle.termwiz_bindings.specs.Numbers.{StandForReported}
 use Rattle.termwiz_bindings.specs.Presses.{canonical}
 use Rattle.termwiz_bindings.proofs.lemmas.KeyNumbers.{stands_for_itself}
+use Rattle.hedrugal.specs.declared.chord_bindings.ChordBindings.{ChordBindings}
+use Rattle.hedrugal.specs.declared.matcher_calls.CMatcher.{CMatcher}
 use Rattle.hedrugal.specs.declared.press_calls.CKeyPress.{CKeyPress}
 use Rattle.hedrugal.specs.Chords.{AreOfChord, AreOfPress, AreOfPresses, with_presses}
-use Rattle.hedrugal.specs.MatcherCalls.{AreOfEither, AreOfNeither, listed}
+use Rattle.hedrugal.specs.MatcherCalls.{AreOfEither, AreOfNeither, Holds, PressedEither, listed}
 use Rattle.hedrugal.specs.PressCalls.{c_press}
 
 -- the numbers of a press stand for its key
@@ -118,6 +123,23 @@ too_many keys many first (Some q) (chord, some, same) =
     let no : ⊥ = omega (arith, count, many) in absurd no
 
 -- a chord has a first press
-pub has_first : (keys : List CKeyPress) (ps : List KeyPress) → AreOfChord keys ps → slice_get ps 0 ≡ None → ⊥
-has_first keys [] (chord, some, same) none = some refl
-has_first keys (p ∷ ps) is none = absurd (cc (none))
+pub has_first : (keys : List CKeyPress) (ps : List KeyPress) (found : Option KeyPress) → AreOfChord keys ps → found ≡ slice_get ps 0
+    → found ≡ None → AreOfNeither keys
+has_first keys [] found (chord, some, same) is none = absurd (some refl)
+has_first keys (p ∷ ps) found of_chord is none = absurd (cc (is, none))
+
+-- the same by what was found at the two places
+pub either_found : (keys : List CKeyPress) (ps : List KeyPress) (found second : Option KeyPress) (first : KeyPress) → length keys ≤ 2
+    → AreOfChord keys ps → found ≡ slice_get ps 0 → found ≡ Some first → second ≡ slice_get ps 1 → AreOfEither keys first second
+either_found keys ps found second first few is e some f = either_is keys ps first second few is (sym e ∙ some) f
+
+-- a press was put behind the others
+pub pressed_either : (o : Option ChordBindings) (held : ChordBindings) (before after : CMatcher) (keys : List CKeyPress)
+    (ps new : List KeyPress) (first : KeyPress) (second : Option KeyPress) (pressed : Bool) → o ≡ Some held → Holds before ps
+    → AreOfEither keys first second
+    → ((press : KeyPress) × IsTaken (find held.chords) ps first second press
+    × (new ≡ (if pressed then ps ++ press ∷ [] else ps)))
+    → pressed ≡ true → Holds after new → PressedEither o before keys after
+pressed_either o held before after keys ps new first second pressed some holds either (press, taken, e) is after_holds =
+    let now : new ≡ ps ++ press ∷ [] = rw is at e in
+    rw some (ps, first, second, press, holds, either, taken, subst (λ (qs : List KeyPress). Holds after qs) now after_holds)

@@ -96,6 +96,11 @@ abbrev pub HasDeadEnd : Option ChordBindings → CMatcher → Type 0
 HasDeadEnd (Some held) m = (ps : List KeyPress) × Holds m ps × IsDeadEnd (find held.chords) ps
 HasDeadEnd None m = ⊥
 
+-- there are bindings, and what is pending is no such mistake
+abbrev pub HasNoDeadEnd : Option ChordBindings → CMatcher → Type 0
+HasNoDeadEnd (Some held) m = (ps : List KeyPress) × Holds m ps × (¬ IsDeadEnd (find held.chords) ps)
+HasNoDeadEnd None m = ⊥
+
 -- `keys` has as many of the presses that are pending as it has room for, and `count` is how many they are
 abbrev pub WrotePending : CMatcher → List CKeyPress → List CKeyPress → ℕ → Type 0
 WrotePending m before after count =

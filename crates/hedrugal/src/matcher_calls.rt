@@ -1,10 +1,9 @@
 // The calls of a matcher.
-ghost use Rattle.std.specs.Prelude.{◌≡◌, ◌≢◌, ◌≤◌, ◌↔◌, ◌⊎◌, ℕ, [], None, IfSome, IfNone, IsTrue};
+ghost use Rattle.std.specs.Prelude.{◌≡◌, ◌≢◌, ◌≤◌, ◌↔◌, ◌⊎◌, ℕ, [], None, IfSome, IfNone, true, false};
 ghost use Rattle.termwiz_bindings.specs.declared.matcher.Outcome.TheVariants as told;
 ghost use Rattle.termwiz_bindings.specs.declared.press.KeyPress.{KeyPress as Pressed};
-ghost use Rattle.termwiz_bindings.specs.Matchers.{outcome_copied};
 ghost use Rattle.hedrugal.specs.MatcherCalls as calls;
-ghost use Rattle.hedrugal.specs.MatcherCalls.{AreOfEither, AreOfNeither, DecidesBound, DecidesUnbound, HasDeadEnd, Holds, HoldsNone, IsFull, PressedEither, TakesBound, TakesUnbound, Waits, WrotePending, c_outcome};
+ghost use Rattle.hedrugal.specs.MatcherCalls.{AreOfEither, AreOfNeither, DecidesBound, DecidesUnbound, HasDeadEnd, HasNoDeadEnd, Holds, HoldsNone, IsFull, PressedEither, TakesBound, TakesUnbound, Waits, WrotePending, c_outcome};
 ghost use Rattle.hedrugal.specs.NameCalls.{AreOfNoPress};
 
 use crate::chords::{chord_of, copy_presses, press_of, presses_of};
@@ -76,34 +75,29 @@ fn write_pending(pending: &Chord, numbers: &mut CMatcher)
     numbers.count = copy_presses(pending, &mut numbers.keys);
 }
 
-// An outcome in numbers, with its answer.
-fn c_outcome(outcome: Outcome<&u64>) -> (u32, COutcome)
-    ensures outcome { result.1 ≡ c_outcome (outcome_copied outcome) }
-    ensures answers { (result.0 ≡ OUTCOME_BOUND) ⊎ (result.0 ≡ OUTCOME_UNBOUND) }
-    ensures bound { result.0 ≡ OUTCOME_BOUND → (keys value : ℕ) × (outcome_copied outcome ≡ told.Bound keys value) }
-    ensures unbound { result.0 ≡ OUTCOME_UNBOUND → (press : Pressed) × (outcome_copied outcome ≡ told.Unbound press) }
+// A chord that was pressed, in numbers.
+fn bound_outcome(keys: usize, value: u64) -> COutcome
+    ensures { result ≡ c_outcome (told.Bound keys value) }
 {
-    match outcome {
-        Outcome::Bound { keys, value } => (
-            OUTCOME_BOUND,
-            COutcome {
-                keys,
-                value: *value,
-                press: CKeyPress {
-                    key: 0,
-                    held: 0,
-                    detail: 0,
-                },
-            },
-        ),
-        Outcome::Unbound(press) => (
-            OUTCOME_UNBOUND,
-            COutcome {
-                keys: 1,
-                value: 0,
-                press: c_press(press),
-            },
-        ),
+    COutcome {
+        keys,
+        value,
+        press: CKeyPress {
+            key: 0,
+            held: 0,
+            detail: 0,
+        },
+    }
+}
+
+// A press that begins no chord, in numbers.
+fn unbound_outcome(press: KeyPress) -> COutcome
+    ensures { result ≡ c_outcome (told.Unbound press) }
+{
+    COutcome {
+        keys: 1,
+        value: 0,
+        press: c_press(press),
     }
 }
 
@@ -131,7 +125,7 @@ pub extern "C" fn hed_matcher_press(matcher: &mut CMatcher, press: &CKeyPress) -
 }
 
 // The first press, and the second, if there is one.
-#[tactic(auto, using(crate::proofs::PressNumbers::either_is, crate::proofs::PressNumbers::too_many, crate::proofs::PressNumbers::has_first))]
+#[tactic(auto, using(crate::proofs::PressNumbers::too_many, crate::proofs::PressNumbers::has_first))]
 fn either_of(keys: &[CKeyPress]) -> Option<(KeyPress, Option<KeyPress>)>
     ensures some { IfSome result (λ either. AreOfEither keys.now either.0 either.1) }
     ensures none { IfNone result (AreOfNeither keys.now) }
@@ -140,12 +134,17 @@ fn either_of(keys: &[CKeyPress]) -> Option<(KeyPress, Option<KeyPress>)>
         return None;
     }
     let presses = chord_of(keys)?;
-    Some((presses.get(0)?, presses.get(1)))
+    let Some(first) = presses.get(0) else {
+        return None;
+    };
+    let second = presses.get(1);
+    Some((first, second))
 }
 
 /// Puts the first of the presses behind those that are pending, or the second, if there is one, and only it leads on. The answer is 0 if
 /// it is there. Otherwise nothing changes: it is 1 if 32 are pending, 2 if the numbers are not those of one press or of two, or those of
 /// the matcher are those of no presses, and 3 if there are no bindings.
+#[tactic(auto, using(crate::proofs::PressNumbers::pressed_either))]
 #[unsafe(no_mangle)]
 pub extern "C" fn hed_matcher_press_either(
     matcher: &mut CMatcher,
@@ -205,10 +204,17 @@ pub extern "C" fn hed_matcher_next(
     let Some(next) = pending.next(&held.chords, maybe_more) else {
         return OUTCOME_NONE;
     };
-    let (answer, told) = c_outcome(next);
-    *outcome = told;
     write_pending(pending.pending(), matcher);
-    answer
+    match next {
+        Outcome::Bound { keys, value } => {
+            *outcome = bound_outcome(keys, *value);
+            OUTCOME_BOUND
+        }
+        Outcome::Unbound(press) => {
+            *outcome = unbound_outcome(press);
+            OUTCOME_UNBOUND
+        }
+    }
 }
 
 /// Tells what giving up would decide first: the outcome of `hed_matcher_next` with no more to come. The answers are the same; it is 0 if
@@ -237,16 +243,24 @@ pub extern "C" fn hed_matcher_on_pause(
     let Some(next) = pending.on_pause(&held.chords) else {
         return OUTCOME_NONE;
     };
-    let (answer, told) = c_outcome(next);
-    *outcome = told;
-    answer
+    match next {
+        Outcome::Bound { keys, value } => {
+            *outcome = bound_outcome(keys, *value);
+            OUTCOME_BOUND
+        }
+        Outcome::Unbound(press) => {
+            *outcome = unbound_outcome(press);
+            OUTCOME_UNBOUND
+        }
+    }
 }
 
 /// Whether more than one press is pending, no chord begins with them all, and they begin with no chord. It is false if the numbers are those of
 /// no presses, or there are no bindings.
 #[unsafe(no_mangle)]
 pub extern "C" fn hed_matcher_is_dead_end(matcher: &CMatcher, bindings: &mut BindingsHandle) -> bool
-    ensures dead_end { IsTrue result ↔ HasDeadEnd bindings.old.state.held matcher.now }
+    ensures dead_end { result ≡ true → HasDeadEnd bindings.old.state.held matcher.now }
+    ensures otherwise { result ≡ false → (bindings.old.state.held ≡ None) ⊎ HoldsNone matcher.now ⊎ HasNoDeadEnd bindings.old.state.held matcher.now }
     ensures bindings_same { bindings.new.state ≡ bindings.old.state }
 {
     let Some(pending) = matcher_of(matcher) else {
@@ -255,7 +269,10 @@ pub extern "C" fn hed_matcher_is_dead_end(matcher: &CMatcher, bindings: &mut Bin
     let Some(held) = bindings.get_mut() else {
         return false;
     };
-    pending.is_dead_end(&held.chords)
+    if pending.is_dead_end(&held.chords) {
+        return true;
+    }
+    false
 }
 
 /// Copies the presses that are pending, as many as `keys` has room for, and returns how many they are. If the numbers are those of no
