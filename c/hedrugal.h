@@ -988,7 +988,11 @@ typedef struct hed_matcher {
 
 /* The value of a hed_matcher with nothing pending. */
 #define HED_MATCHER_NONE \
-  { 0, {{0, 0, 0}} }
+  {                      \
+    0, {                 \
+      { 0, 0, 0 }        \
+    }                    \
+  }
 
 /* What the first of the pending presses do. What an outcome has no use for is 0. */
 typedef struct hed_outcome {

@@ -240,7 +240,8 @@ static void refuses_bad_numbers(void) {
   EXPECT(hed_matcher_press(&matcher, keys) == HED_PRESSED_FULL && matcher.count == HED_CHORD_MOST);
   EXPECT(hed_matcher_press_either(&matcher, &bindings, keys, 2) == HED_PRESSED_FULL && matcher.count == HED_CHORD_MOST);
   hed_matcher copy = matcher;
-  EXPECT(hed_matcher_next(&matcher, &bindings, true, &outcome) == HED_OUTCOME_BOUND && outcome.keys == HED_CHORD_MOST && outcome.value == 1);
+  EXPECT(hed_matcher_next(&matcher, &bindings, true, &outcome) == HED_OUTCOME_BOUND && outcome.keys == HED_CHORD_MOST
+         && outcome.value == 1);
   EXPECT(hed_matcher_pending(&copy, keys, 1) == HED_CHORD_MOST && copy.count == HED_CHORD_MOST);
   copy.count++;
   EXPECT(hed_matcher_next(&copy, &bindings, true, &outcome) == HED_OUTCOME_BAD_NUMBER);

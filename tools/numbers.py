@@ -74,8 +74,8 @@ PLACES = {
     },
     "rust/src/raw.rs": {
         "const": "next waiting encoded found kind protocol side_button key_event_kind encoding"
-        " named printed bound pressed outcome replied reply device_attributes mode_state colour_name"
-        " colour_scheme"
+        " named printed bound pressed outcome replied reply device_attributes mode_state"
+        " colour_name colour_scheme"
     },
     "rust/src/input/flags.rs": {"flag": "termwiz_mod button kitty_flag kitty_mod"},
     "rust/src/input/keys.rs": {"variant": "key", "number": "key", "of": "key"},
