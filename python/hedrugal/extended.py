@@ -469,7 +469,9 @@ class Bindings(_Closable, MutableMapping[Chord, Value]):
         # The library maps a chord to the number of its value here.
         self._values: Dict[int, Value] = {}
         self._number = 0
-        self.update(chords)
+        entries = chords.items() if isinstance(chords, Mapping) else chords
+        for keys, value in entries:
+            self[keys] = value
 
     def __len__(self) -> int:
         """The number of chords."""
@@ -650,12 +652,16 @@ class Matcher(Generic[Value]):
         Returns None if nothing is pending. While more presses may come, pass maybe_more as True: it
         also returns None while what is pending may become a longer chord."""
         more = bool(maybe_more)
-        return self._outcome(lambda raw, out: _library.hed_matcher_next(self._raw, raw, more, out))
+        return self._outcome(
+            lambda raw, out: cast(int, _library.hed_matcher_next(self._raw, raw, more, out))
+        )
 
     def on_pause(self) -> Optional[Union[Bound[Value], Unbound]]:
         """Returns what `give_up` would decide first, and takes nothing. While that is an Unbound, a
         program may prefer to wait for ever: the press may still begin a chord."""
-        return self._outcome(lambda raw, out: _library.hed_matcher_on_pause(self._raw, raw, out))
+        return self._outcome(
+            lambda raw, out: cast(int, _library.hed_matcher_on_pause(self._raw, raw, out))
+        )
 
     @property
     def is_dead_end(self) -> bool:

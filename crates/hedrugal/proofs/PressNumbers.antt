@@ -16,7 +16,7 @@ use Rattle.hedrugal.specs.declared.chord_bindings.ChordBindings.{ChordBindings}
 use Rattle.hedrugal.specs.declared.matcher_calls.CMatcher.{CMatcher}
 use Rattle.hedrugal.specs.declared.press_calls.CKeyPress.{CKeyPress}
 use Rattle.hedrugal.specs.Chords.{AreOfChord, AreOfPress, AreOfPresses, with_presses}
-use Rattle.hedrugal.specs.MatcherCalls.{AreOfEither, AreOfNeither, Holds, PressedEither, listed}
+use Rattle.hedrugal.specs.MatcherCalls.{AreOfEither, AreOfNeither, Holds, PressedEither}
 use Rattle.hedrugal.specs.PressCalls.{c_press}
 
 -- the numbers of a press stand for its key

@@ -76,15 +76,16 @@ impl Matcher {
     /// let chord = |text: &str| text.parse::<Chord>().unwrap();
     /// let bindings = Bindings::from_iter([(chord("a b c"), 1), (chord("b"), 2)]);
     /// let mut matcher = Matcher::new();
-    /// let values: Vec<_> = chord("a b x")
-    ///     .into_iter()
-    ///     .flat_map(|key| matcher.press_all(key, &bindings).collect::<Vec<_>>())
-    ///     .map(|outcome| match outcome {
-    ///         Outcome::Bound { value, .. } => value.to_string(),
-    ///         Outcome::Unbound(press) => format!("?{press}"),
-    ///     })
-    ///     .collect();
-    /// assert_eq!(values, ["?a", "2", "?x"]);
+    /// let mut told = Vec::new();
+    /// for key in chord("a b x") {
+    ///     for outcome in matcher.press_all(key, &bindings) {
+    ///         told.push(match outcome {
+    ///             Outcome::Bound { value, .. } => value.to_string(),
+    ///             Outcome::Unbound(press) => format!("?{press}"),
+    ///         });
+    ///     }
+    /// }
+    /// assert_eq!(told, ["?a", "2", "?x"]);
     /// ```
     ///
     /// # Panics
