@@ -21,7 +21,7 @@ use Rattle.termwiz_bindings.specs.Words.{printed_word}
 use Rattle.termwiz_bindings.specs.Names.{between_brackets, modifier_of_letter, modifier_before, begins_as_emacs, worded_press, lettered_press, key_between, read_key, named_press, press_of, is_shifted_character, may_have_shift, lowered_key, printed, printed_key, printed_character, printed_modifier, printed_modifiers, is_shown, code_point}
 use Rattle.termwiz_bindings.proofs.lemmas.HeldBits.{held_below, no_shift, others_stay}
 use Rattle.termwiz_bindings.proofs.lemmas.CharacterRules.{IsMainPress, main_stays}
-use Rattle.termwiz_bindings.proofs.lemmas.SettledPresses.{IsPress, canonical_is_press}
+use Rattle.termwiz_bindings.proofs.lemmas.SettledPresses.{canonical_is_press}
 use Rattle.termwiz_bindings.proofs.lemmas.ModifiersRead.{below_passes, modifiers_read}
 use Rattle.termwiz_bindings.proofs.lemmas.NamesRead.{HasScalar, HasByte, HighBytes, high_bytes, FirstDigit, first_digit, key_read}
 
