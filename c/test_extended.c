@@ -248,7 +248,7 @@ static const struct example examples[] = {
   { BOTH, TEXT("\033[27;9;97~\033[27;257;97~"), MORE, "Key(a SUPER); Csi(27;257;97~); ", 0 },
   /* ESC before a key that is sent so, and before one that isn't */
   { BOTH, TEXT("\033\033OM\033\033[23^\033\033[38$"), MORE, "Key(functional 57414 ALT); Key(F11 ALT CTRL); Key(F24 SHIFT ALT); ", 0 },
-  { BOTH, TEXT("\033\033O2P\033\033[35~"), MORE, "Escape; Key(F1 SHIFT); Escape; Key(F21); ", 0 },
+  { BOTH, TEXT("\033\033O2P\033\033[35~"), MORE, "Escape; Key(F1 SHIFT); Key(F21 ALT); ", 0 },
   { BOTH, TEXT("\033\033[97;5:3u\033\033[24;80R"), MORE, "Escape; Key(a CTRL Release); Escape; CursorPosition(24, 80); ", 0 },
   { HED_PROTOCOL_KITTY, TEXT("\033\033[1;5R\033\033[A"), MORE, "Escape; CursorPosition(1, 5); Key(UpArrow ALT); ", 0 },
   { HED_PROTOCOL_LEGACY, TEXT("\033\033[1;5R\033\033[A"), MORE, "F3 ALT CTRL; UpArrow ALT; ", 0 },

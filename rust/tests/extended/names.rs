@@ -150,9 +150,9 @@ fn chords_are_lists() {
         "5",
         "5 5",
         "5 x",
+        "x",
         "ctrl+x",
         "ctrl+x 5",
-        "x",
         "enter",
     ];
     let sorted = sorted.map(|text| text.parse::<Chord>().unwrap());
