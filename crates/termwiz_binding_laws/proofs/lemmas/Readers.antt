@@ -1,5 +1,5 @@
 -- Who reads a text: the extended parser, under some reading, or that of the port.
-use Rattle.std.proofs.Common.{◌≡◌, ◌∙◌, ℕ, false, List, [], ◌∷◌, map, Some, refl, ap, Contains}
+use Rattle.std.proofs.Common.{◌≡◌, ◌∙◌, ℕ, false, List, [], ◌∷◌, map, Some, refl, ap}
 use Rattle.termwiz_base.specs.Modifiers.{xterm_number}
 use Rattle.termwiz_keys.specs.declared.types.KeyCode.{KeyCode}
 use Rattle.termwiz_keys.specs.declared.types.KeyEvent.{KeyEvent}
@@ -44,9 +44,12 @@ no_super = refl
 pub read_by_port : (text : List ℕ) (k : KeyEvent) (p : KeyPress) → port.Means text false (input.Key k ∷ []) []
     → canonical (pressed_key k) ≡ Some p → IsReadByPort text p
 read_by_port text k p means is =
-    let readable = single_readable text k (single text k means) in
-    (k, means, ap (λ bits. canonical (report_of (Named k.key) (record { modifiers = bits; kind = Press })))
-    (same_on kitty_bits xterm_number any_of_three k.modifiers.0 no_super readable.held) ∙ is)
+    let readable = single_readable text k (single text k means) in (
+      k,
+      means,
+      ap (λ bits. canonical (report_of (Named k.key) (record { modifiers = bits; kind = Press })))
+          (same_on kitty_bits xterm_number any_of_three k.modifiers.0 no_super readable.held) ∙ is,
+    )
 
 pub read_by : (reader : Reader) (text : List ℕ) (k : KeyEvent) (p : KeyPress) → port.Means text false (input.Key k ∷ []) []
     → IsToldAlike text k p → IsReadBy reader text p

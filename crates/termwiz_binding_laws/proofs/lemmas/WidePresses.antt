@@ -19,7 +19,6 @@ use Rattle.termwiz_laws.specs.FurtherKeys.ReadsBackToo.{alt_beyond_ascii}
 use Rattle.termwiz_laws.proofs.lemmas.further_keys.FurtherReadings.{bits, further_keys_read_back}
 use Rattle.termwiz_laws.proofs.lemmas.further_keys.SingleCharacters.{first_high}
 use Rattle.termwiz_laws.proofs.lemmas.further_keys.OtherKeys.{on_false}
-use Rattle.termwiz_extended_events.specs.declared.types.ExtendedEvent.{ExtendedEvent}
 use Rattle.termwiz_extended_events.specs.declared.types.ExtendedEvent.TheVariants.{Input, Key}
 use Rattle.termwiz_extended_events.specs.declared.types.KeyEventKind.TheVariants.{Press}
 use Rattle.termwiz_extended_events.specs.declared.types.Reading.{Reading}
@@ -86,9 +85,11 @@ module _ (reader : Reader) (c held : ℕ) (modes : KeyCodeEncodeModes) (text : L
   read_as : (on : Bool) (t : List ℕ) → is_on modes ≡ on → enc (Char c) (bits held) modes ≡ Some t
       → IsReadBy reader t (character_press c (twin_bits on held)) → IsKeyReadBy reader text (twin (Char c) held modes)
   read_as on t e sent is =
-      let same : t ≡ text = (let s : Some t ≡ Some text = sym sent ∙ sends in cc (s)) in
-      (character_press c (twin_bits on held), twin_press on e,
-      subst (λ u. IsReadBy reader u (character_press c (twin_bits on held))) same is)
+      let same : t ≡ text = (let s : Some t ≡ Some text = sym sent ∙ sends in cc (s)) in (
+        character_press c (twin_bits on held),
+        twin_press on e,
+        subst (λ u. IsReadBy reader u (character_press c (twin_bits on held))) same is,
+      )
 
   -- the two texts are no reports, nor is what follows their ESC
   no_report : (reading : Reading) (t : List ℕ) → (t ≡ encode_utf8 c) ⊎ (t ≡ ESC ++ encode_utf8 c) → IsReportText reading t → ⊥
