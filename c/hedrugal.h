@@ -625,7 +625,7 @@ enum hed_kitty_mod {
   /* numbers.txt: end */
 };
 
-/* The code point in shifted and base of a hed_key_report, if the terminal didn't report one. */
+/* The code point in shifted and base of a hed_key_report, if the terminal didn't report one, and what hed_key_text returns for no text. */
 #define HED_NO_CODE 0xffffffffu
 
 /* A key, what happened to it, and what the terminal reported of it. */
@@ -845,6 +845,68 @@ bool hed_key_of_report(const hed_key_report *report, const uint8_t *text, size_t
  * Returns false, and *press isn't written, unless the report has a press with ALT, CTRL, SUPER, HYPER or META, its key is a character that
  * isn't of ASCII, and the terminal told base. */
 bool hed_key_second(const hed_key_report *report, hed_key_press *press);
+
+/* Returns the code point of the character that a press types, if it does: nothing but HED_KITTY_MOD_SHIFT is held. A program inserts it if
+ * the press does nothing else. Enter and Tab type none.
+ *
+ * Returns HED_NO_CODE if it types none, or its numbers are those of no press. No memory is needed. */
+uint32_t hed_key_text(const hed_key_press *press);
+
+/* The most presses that a chord has: a list of presses, to which a program binds a command, as Ctrl-X and then Ctrl-S. */
+#define HED_CHORD_MOST 32
+
+/* What hed_key_read returns: HED_NAMED_KEYS, or what is wrong with the text. */
+enum hed_named {
+  /* numbers.txt: named c */
+  HED_NAMED_KEYS = 0, /* The text is the name of a chord, and nothing is wrong with it. */
+  HED_NAMED_CONTROL_CHARACTER = 1, /* A control character but the tab is in the text. */
+  HED_NAMED_MODIFIER_TWICE = 2, /* A modifier is there twice, as in `M-A-x`. */
+  HED_NAMED_UNKNOWN_MODIFIER = 3, /* A word before `+` or `-` is no modifier, as in `foo+x`. */
+  HED_NAMED_MISSING_KEY = 4, /* No key stands behind the modifiers, as in `ctrl+`. */
+  HED_NAMED_BAD_NUMBER = 5, /* A number names no key, as in `f256`, `kitty1` or `U+D800`, or has zeros in front. */
+  HED_NAMED_UNKNOWN_NAME = 6, /* No key has this name. */
+  HED_NAMED_AMBIGUOUS = 7, /* `DEL` in capitals is Backspace to Emacs, and Delete to others: write `backspace` or `delete`. */
+  HED_NAMED_NOT_A_KEY = 8, /* The key makes no press by itself, as a modifier or a lock. */
+  HED_NAMED_SHIFTED_CHARACTER = 9, /* Shift with a character that isn't a letter of ASCII: write what it types, as `!` for `shift+1`. */
+  HED_NAMED_TOO_LONG = 10, /* A chord has at most 32 keys, and this is the 33rd. */
+  HED_NAMED_EMPTY = 11, /* No key is in the text. */
+  HED_NAMED_BAD_TEXT = 12 /* The text isn't UTF-8. */
+  /* numbers.txt: end */
+};
+
+/* Reads the name of a chord: 1 to HED_CHORD_MOST keys, parted by spaces and tabs, in text_len bytes of UTF-8. A key is a character, a word
+ * as up, f5, pageup or space, or a number as U+0441. Modifiers stand before it, in any of three ways, and words in any case:
+ *
+ * ctrl+x, Ctrl-Shift-Up: ctrl or control, alt or option, shift, super, cmd or win, hyper, meta, each with + or - behind it
+ * C-x, C-M-<f5>: Emacs's letters, C ctrl, M or A alt, S shift, s super, H hyper
+ * <C-W>, <c-s-Up>: Vim's letters, c ctrl, s shift, m or a alt, d super, t meta
+ *
+ * The presses are those that hed_key_of_report tells, whichever way they are written. With CTRL a letter is the same in any case, as in
+ * Emacs and Vim. "Names" of crates/termwiz_bindings/README.md has all words and rules.
+ *
+ * Returns an enum hed_named. With HED_NAMED_KEYS *count is the number of the presses, keys has as many of them as room says, and *at is 0. A
+ * keys with room for HED_CHORD_MOST has room for all. Otherwise *count is 0, keys is unchanged, and *at is the byte of the text at which the
+ * part that is wrong starts, for a message to the user. No memory is needed. */
+uint32_t hed_key_read(const uint8_t *text, size_t text_len, hed_key_press *keys, size_t room, size_t *count, size_t *at);
+
+/* What hed_key_print returns. */
+enum hed_printed {
+  /* numbers.txt: printed c */
+  HED_PRINTED_NAME = 0, /* The name of the keys. */
+  HED_PRINTED_NO_MEMORY = 1, /* Memory was refused. The call may be made again. */
+  HED_PRINTED_BAD_NUMBER = 2 /* The numbers of a key are those of no press, or there are no keys, or more than 32. */
+  /* numbers.txt: end */
+};
+
+/* Writes the name of a chord to out, and its length to *name_len: of count presses, 1 to HED_CHORD_MOST, as the calls above write them. The
+ * name is UTF-8 without a final 0. Its keys are parted by a space, and their modifiers are in the order super+, hyper+, meta+, ctrl+, alt+,
+ * shift+: ctrl+x ctrl+s, alt+<, shift+f5, U+200B. hed_key_read reads the same presses from it.
+ *
+ * Returns an enum hed_printed. With HED_PRINTED_NAME *name_len is the length of the whole name, and out has as many of its bytes as len says:
+ * if *name_len is above len, call again with more room. The rest of out is unchanged. Otherwise *name_len is 0 and out is unchanged:
+ * HED_PRINTED_NO_MEMORY if memory was refused, and HED_PRINTED_BAD_NUMBER if the numbers of a key are those of no press, or count isn't 1 to
+ * HED_CHORD_MOST. */
+uint32_t hed_key_print(const hed_key_press *keys, size_t count, uint8_t *out, size_t len, size_t *name_len);
 
 /* The kinds of replies: the field kind of a hed_reply. */
 enum hed_reply_kind {

@@ -248,7 +248,7 @@ static const struct example examples[] = {
   { BOTH, TEXT("\033[27;9;97~\033[27;257;97~"), MORE, "Key(a SUPER); Csi(27;257;97~); ", 0 },
   /* ESC before a key that is sent so, and before one that isn't */
   { BOTH, TEXT("\033\033OM\033\033[23^\033\033[38$"), MORE, "Key(functional 57414 ALT); Key(F11 ALT CTRL); Key(F24 SHIFT ALT); ", 0 },
-  { BOTH, TEXT("\033\033O2P\033\033[35~"), MORE, "Escape; Key(F1 SHIFT); Escape; Key(F21); ", 0 },
+  { BOTH, TEXT("\033\033O2P\033\033[35~"), MORE, "Escape; Key(F1 SHIFT); Key(F21 ALT); ", 0 },
   { BOTH, TEXT("\033\033[97;5:3u\033\033[24;80R"), MORE, "Escape; Key(a CTRL Release); Escape; CursorPosition(24, 80); ", 0 },
   { HED_PROTOCOL_KITTY, TEXT("\033\033[1;5R\033\033[A"), MORE, "Escape; CursorPosition(1, 5); Key(UpArrow ALT); ", 0 },
   { HED_PROTOCOL_LEGACY, TEXT("\033\033[1;5R\033\033[A"), MORE, "F3 ALT CTRL; UpArrow ALT; ", 0 },
@@ -1103,7 +1103,7 @@ static void reads_keys_back(hed_extended *parser) {
 #define NO_PRESS \
   { 0xffff, 0, 0 }
 
-static const hed_key_press unwritten = { 0x5555, 0x55, 0x55555555 };
+static const hed_key_press unwritten = { 0x5555, 0x55, 0x55555555 }, no_press = NO_PRESS;
 
 /* What was written is the press, or nothing where there is none. */
 static void is_press(bool has, const hed_key_press *told, const hed_key_press *wanted) {
@@ -1227,6 +1227,137 @@ static void presses_are_their_own(void) {
       count++;
     }
   EXPECT(count == (KEYS + 1 - 22) * 256);
+}
+
+/* Names of chords, what is printed of them, and the last press of each. */
+static const struct {
+  const char *text, *printed;
+  size_t count;
+  hed_key_press last;
+} names[] = {
+  { "C-x C-s", "ctrl+x ctrl+s", 2, { HED_KEY_CHAR, HED_KITTY_MOD_CTRL, 's' } },
+  { "<C-W>", "ctrl+w", 1, { HED_KEY_CHAR, HED_KITTY_MOD_CTRL, 'w' } },
+  { "Ctrl-Shift-Up", "ctrl+shift+up", 1, { HED_KEY_UP_ARROW, HED_KITTY_MOD_CTRL | HED_KITTY_MOD_SHIFT, 0 } },
+  { "ctrl++", "ctrl++", 1, { HED_KEY_CHAR, HED_KITTY_MOD_CTRL, '+' } },
+  { "C-M-<f5>", "ctrl+alt+f5", 1, { HED_KEY_FUNCTION, HED_KITTY_MOD_CTRL | HED_KITTY_MOD_ALT, 5 } },
+  { "M-<", "alt+<", 1, { HED_KEY_CHAR, HED_KITTY_MOD_ALT, '<' } },
+  { "s-A", "super+shift+a", 1, { HED_KEY_CHAR, HED_KITTY_MOD_SUPER | HED_KITTY_MOD_SHIFT, 'a' } },
+  { "shift+a", "A", 1, { HED_KEY_CHAR, 0, 'A' } },
+  { "alt+U+0441", "alt+\xd1\x81", 1, { HED_KEY_CHAR, HED_KITTY_MOD_ALT, 0x441 } },
+  { "U+200b", "U+200B", 1, { HED_KEY_CHAR, 0, 0x200b } },
+  { "ESC x", "escape x", 2, { HED_KEY_CHAR, 0, 'x' } },
+  { "\t kitty57428  \t", "kitty57428", 1, { 0, 0, 57428 } },
+};
+
+/* Texts that name no chord: what is wrong with them, and where. */
+static const struct {
+  const char *text;
+  uint32_t named;
+  size_t at;
+} misnamed[] = {
+  { "shift+1", HED_NAMED_SHIFTED_CHARACTER, 6 }, { "gg", HED_NAMED_UNKNOWN_NAME, 0 },
+  { "foo+x", HED_NAMED_UNKNOWN_MODIFIER, 0 },    { "x ctrl+", HED_NAMED_MISSING_KEY, 7 },
+  { "M-A-x", HED_NAMED_MODIFIER_TWICE, 2 },      { "\xc3\xa9 DEL", HED_NAMED_AMBIGUOUS, 3 },
+  { "capslock", HED_NAMED_NOT_A_KEY, 0 },        { "x f256", HED_NAMED_BAD_NUMBER, 2 },
+  { "gg \033", HED_NAMED_CONTROL_CHARACTER, 3 }, { "", HED_NAMED_EMPTY, 0 },
+  { "gg \xc3", HED_NAMED_BAD_TEXT, 3 },
+};
+
+static uint32_t read_name(const char *text, hed_key_press *keys, size_t room, size_t *count, size_t *at) {
+  return hed_key_read((const uint8_t *)text, strlen(text), keys, room, count, at);
+}
+
+/* Names are read into rooms of each size, and so printed again. */
+static void reads_and_prints_names(void) {
+  for (size_t i = 0; i < sizeof names / sizeof *names; i++) {
+    size_t len = strlen(names[i].printed);
+    for (size_t room = 0; room <= 3; room++) {
+      hed_key_press keys[] = { unwritten, unwritten, unwritten };
+      size_t count = 99, at = 99, written = room < names[i].count ? room : names[i].count;
+      EXPECT(read_name(names[i].text, keys, room, &count, &at) == HED_NAMED_KEYS && count == names[i].count && at == 0);
+      if (room >= count) is_press(true, &keys[count - 1], &names[i].last);
+      for (size_t k = written; k < 3; k++) is_press(false, &keys[k], &no_press);
+    }
+    hed_key_press keys[2], again[2];
+    size_t count, at, name_len;
+    EXPECT(read_name(names[i].text, keys, 2, &count, &at) == HED_NAMED_KEYS);
+    for (size_t room = 0; room <= len + 1; room++) {
+      uint8_t name[32];
+      memset(name, '.', sizeof name);
+      EXPECT(hed_key_print(keys, count, room ? name : NULL, room, &name_len) == HED_PRINTED_NAME && name_len == len);
+      EXPECT(memcmp(name, names[i].printed, room < len ? room : len) == 0 && name[room < len ? room : len] == '.');
+    }
+    EXPECT(read_name(names[i].printed, again, 2, &name_len, &at) == HED_NAMED_KEYS && name_len == count);
+    for (size_t k = 0; k < count; k++) is_press(true, &again[k], &keys[k]);
+  }
+}
+
+static void tells_what_is_wrong_with_names(void) {
+  for (size_t i = 0; i < sizeof misnamed / sizeof *misnamed; i++) {
+    hed_key_press key = unwritten;
+    size_t count = 99, at = 99;
+    EXPECT(read_name(misnamed[i].text, &key, 1, &count, &at) == misnamed[i].named && count == 0 && at == misnamed[i].at);
+    is_press(false, &key, &no_press);
+  }
+  size_t count = 99, at = 99;
+  EXPECT(hed_key_read(NULL, 0, NULL, 0, &count, &at) == HED_NAMED_EMPTY && count == 0 && at == 0);
+}
+
+/* A chord has 1 to 32 presses. */
+static void names_have_32_keys_at_most(void) {
+  static hed_key_press keys[HED_CHORD_MOST + 1];
+  char text[2 * HED_CHORD_MOST + 2];
+  uint8_t name[2 * HED_CHORD_MOST];
+  size_t count, at, len;
+  for (size_t i = 0; i <= HED_CHORD_MOST; i++) memcpy(text + 2 * i, "g ", 2);
+  EXPECT(hed_key_read((uint8_t *)text, 2 * HED_CHORD_MOST, keys, HED_CHORD_MOST, &count, &at) == HED_NAMED_KEYS && count == HED_CHORD_MOST);
+  EXPECT(hed_key_print(keys, count, name, sizeof name, &len) == HED_PRINTED_NAME && len == 2 * HED_CHORD_MOST - 1
+         && memcmp(name, text, len) == 0);
+  EXPECT(hed_key_read((uint8_t *)text, sizeof text, keys, HED_CHORD_MOST, &count, &at) == HED_NAMED_TOO_LONG && at == 2 * HED_CHORD_MOST);
+  keys[HED_CHORD_MOST] = keys[0];
+  EXPECT(hed_key_print(keys, HED_CHORD_MOST + 1, name, sizeof name, &len) == HED_PRINTED_BAD_NUMBER && len == 0);
+  EXPECT(hed_key_print(NULL, 0, name, sizeof name, &len) == HED_PRINTED_BAD_NUMBER && len == 0);
+}
+
+/* Numbers that no call writes are those of no press: they have no name, and no text. */
+static void other_numbers_are_no_press(void) {
+  static const hed_key_press none[] = {
+    { HED_KEY_CHAR, HED_KITTY_MOD_SHIFT, 'a' },
+    { HED_KEY_CHAR, HED_KITTY_MOD_CTRL, 'A' },
+    { HED_KEY_CHAR, HED_KITTY_MOD_CAPS_LOCK, 'a' },
+    { HED_KEY_CHAR, 0, 0xd800 },
+    { HED_KEY_CHAR, 0, '\r' },
+    { HED_KEY_FUNCTION, 0, 256 },
+    { HED_KEY_NUMPAD_5, 0, 0 },
+    { HED_KEY_LEFT_SHIFT, 0, 0 },
+    { HED_KEY_ENTER, 0, 1 },
+    { 0, 0, 57343 },
+    { 0, 0, 57414 },
+    { KEYS + 1, 0, 0 },
+  };
+  for (size_t i = 0; i < sizeof none / sizeof *none; i++) {
+    hed_key_press keys[] = { { HED_KEY_CHAR, 0, 'a' }, none[i] };
+    uint8_t name[] = ".";
+    size_t len = 99;
+    EXPECT(hed_key_print(keys, 2, name, 1, &len) == HED_PRINTED_BAD_NUMBER && len == 0 && *name == '.');
+    EXPECT(hed_key_text(&none[i]) == HED_NO_CODE);
+  }
+}
+
+static void tells_texts_of_presses(void) {
+  static const struct {
+    hed_key_press press;
+    uint32_t text;
+  } rows[] = {
+    { { HED_KEY_CHAR, 0, 'A' }, 'A' },
+    { { HED_KEY_CHAR, 0, 0x441 }, 0x441 },
+    { { HED_KEY_CHAR, HED_KITTY_MOD_SHIFT, ' ' }, ' ' },
+    { { HED_KEY_CHAR, HED_KITTY_MOD_CTRL, 'a' }, HED_NO_CODE },
+    { { HED_KEY_CHAR, 0, 0x85 }, HED_NO_CODE },
+    { { HED_KEY_ENTER, 0, 0 }, HED_NO_CODE },
+    { { 0, 0, 57428 }, HED_NO_CODE },
+  };
+  for (size_t i = 0; i < sizeof rows / sizeof *rows; i++) EXPECT(hed_key_text(&rows[i].press) == rows[i].text);
 }
 
 /* What a program's loop takes from a parser, when bytes come at these times: each event after its time. */
@@ -1473,6 +1604,11 @@ int main(void) {
   tells_presses_of_events();
   tells_presses_of_reports();
   presses_are_their_own();
+  reads_and_prints_names();
+  tells_what_is_wrong_with_names();
+  names_have_32_keys_at_most();
+  other_numbers_are_no_press();
+  tells_texts_of_presses();
   EXPECT(hed_extended_init(&parser, HED_PROTOCOL_KITTY));
   reads_keys_back(&parser);
   hed_extended_free(&parser);

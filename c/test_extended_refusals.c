@@ -1,6 +1,6 @@
-/* Refuses each request for memory of the extended parser's calls and of hed_encode_kitty in turn, one in each run, and makes the refused call
- * again: the answers must be those of a run without a refusal, and each refusal must be told once. What is dropped or freed leaves no memory
- * in use.
+/* Refuses each request for memory of the extended parser's calls, of hed_encode_kitty and of hed_key_print in turn, one in each run, and makes
+ * the refused call again: the answers must be those of a run without a refusal, and each refusal must be told once. What is dropped or freed
+ * leaves no memory in use.
  *
  *     cc -Wl,--wrap=malloc -Wl,--wrap=realloc -Wl,--wrap=free test_extended_refusals.c libhedrugal.a && ./a.out [STEP]
  *
@@ -252,6 +252,34 @@ static void refuse_while_encoding(void) {
   }
 }
 
+/* The names of two chords, with each request refused in turn: nothing is written, and the call may be made again. Nothing else of names needs
+ * memory. */
+static void refuse_while_printing(void) {
+  static const char *const texts[] = { "ctrl+x ctrl+s", "super+hyper+meta+ctrl+alt+shift+applications U+10FFFF kitty57428 f255" };
+  for (size_t i = 0; i < sizeof texts / sizeof *texts; i++) {
+    hed_key_press keys[4];
+    size_t count, at, name_len;
+    unsigned met;
+    long number = 0;
+    refuse(1);
+    EXPECT(hed_key_read((const uint8_t *)texts[i], strlen(texts[i]), keys, 4, &count, &at) == HED_NAMED_KEYS);
+    EXPECT(hed_key_text(&keys[0]) == HED_NO_CODE && refused == 0);
+    do {
+      uint8_t name[256] = { '.' };
+      refuse(++number);
+      uint32_t answer = hed_key_print(keys, count, name, sizeof name, &name_len);
+      met = refused;
+      refuse(0);
+      EXPECT(answer == (met ? HED_PRINTED_NO_MEMORY : HED_PRINTED_NAME));
+      EXPECT(!met || (name_len == 0 && name[0] == '.'));
+      EXPECT(!met || hed_key_print(keys, count, name, sizeof name, &name_len) == HED_PRINTED_NAME);
+      EXPECT(i || (name_len == strlen(texts[i]) && memcmp(name, texts[i], name_len) == 0));
+    } while (met);
+    EXPECT(number > 1 && in_use == 0);
+    printf("name: %ld refusals\n", number - 1);
+  }
+}
+
 /* Every STEPth request of init refused: what was there stays. */
 static void refuse_init(long step) {
   hed_extended parser = HED_EXTENDED_NONE, none = HED_EXTENDED_NONE;
@@ -419,6 +447,7 @@ int main(int argc, char **argv) {
   refuse_parts();
   refuse_time();
   refuse_while_encoding();
+  refuse_while_printing();
   refuse_replies();
   need_no_memory();
   refuse_init(step);

@@ -75,7 +75,7 @@ def test_types(words):
 @pytest.mark.parametrize(
     "text, wanted",
     listings()[1:],
-    ids=["key map", "extended parser", "replies", "key report", "presses"],
+    ids=["key map", "extended parser", "replies", "key report", "presses", "names"],
 )
 def test_listings(text, wanted):
     assert_prints(text, wanted)

@@ -23,6 +23,7 @@ LIST = "c/numbers.txt"
 HEADER = "c/hedrugal.h"
 NAMES = "crates/event_text/specs/Names.antt"
 LAWS = "crates/termwiz_grammar/specs/Laws.antt"
+CHORD = "crates/termwiz_bindings/src/chord.rt"
 
 
 class Number(NamedTuple):
@@ -68,12 +69,12 @@ def read_list() -> Numbers:
 PLACES = {
     HEADER: {
         "c": "kind next waiting termwiz_mod button key encoding kitty_flag encoded found protocol"
-        " side_button key_event_kind kitty_mod replied reply device_attributes mode_state"
-        " colour_name colour_scheme"
+        " side_button key_event_kind kitty_mod named printed replied reply device_attributes"
+        " mode_state colour_name colour_scheme"
     },
     "rust/src/raw.rs": {
         "const": "next waiting encoded found kind protocol side_button key_event_kind encoding"
-        " replied reply device_attributes mode_state colour_name colour_scheme"
+        " named printed replied reply device_attributes mode_state colour_name colour_scheme"
     },
     "rust/src/input/flags.rs": {"flag": "termwiz_mod button kitty_flag kitty_mod"},
     "rust/src/input/keys.rs": {"variant": "key", "number": "key", "of": "key"},
@@ -82,7 +83,10 @@ PLACES = {
         "member": "termwiz_mod button kitty_flag encoding waiting key",
         "private": "next encoded found kind key",
     },
-    "python/hedrugal/extended.py": {"member": "protocol side_button key_event_kind kitty_mod"},
+    "python/hedrugal/extended.py": {
+        "member": "protocol side_button key_event_kind kitty_mod",
+        "private": "named printed",
+    },
     "python/hedrugal/replies.py": {
         "member": "device_attributes mode_state colour_name colour_scheme",
         "private": "replied reply",
@@ -210,13 +214,14 @@ def constants(prefix: str) -> str:
 
 
 FLAG = r"^ *pub const (?P<name>[A-Z0-9_]+): \w+ = \w+\((?P<number>\d+)(?: << (?P<shift>\d+))?\);$"
+KEY_NUMBER = r"^ *KeyCode::(?P<name>\w+)(?:\(_\))? => (?P<number>\d+),?$"
 KEY_NAME = r'^ *KeyCode::(?P<name>\w+)(?:\(_\))? => "(?P<text>\w+)"'
 KEY_NAME_DEFINED = r'^variant_name \(?(?P<name>\w+).* = codes "(?P<text>\w+)"'
 FLAG_NAME = r'name: "(?P<text>\w+)",\n *value: \w+::(?P<name>\w+),$'
 
 # What has a group's numbers or the names that are printed of it: files, and a pattern for all.
 PROVED = [
-    ("key", "termwiz_bindings/src/numbers.rt", r"^ *KeyCode::(?P<name>\w+)(?:\(_\))? => (?P<number>\d+),?$"),
+    ("key", "termwiz_bindings/src/numbers.rt", KEY_NUMBER),
     ("kind", "hedrugal/src/events.rt hedrugal/src/extended_events.rt", constants("KIND")),
     ("side_button", "hedrugal/src/extended_events.rt", constants("SIDE_BUTTON")),
     ("key_event_kind", "hedrugal/src/extended_events.rt", constants("KEY_EVENT_KIND")),
@@ -226,6 +231,8 @@ PROVED = [
     ("waiting", "hedrugal/src/lib.rt", constants("WAITING")),
     ("found", "hedrugal/src/keymap_calls.rt", constants("FOUND")),
     ("protocol", "hedrugal/src/extended_calls.rt", constants("PROTOCOL")),
+    ("named", "hedrugal/src/name_calls.rt", constants("NAMED")),
+    ("printed", "hedrugal/src/name_calls.rt", constants("PRINTED")),
     ("replied", "hedrugal/src/reply_calls.rt", constants("REPLIED")),
     ("reply", "hedrugal/src/replies.rt", constants("REPLY")),
     ("device_attributes", "hedrugal/src/replies.rt", constants("DEVICE_ATTRIBUTES")),
@@ -279,6 +286,9 @@ SAME = [
     ("HED_ENTRY_COUNT", LAWS, r"^row_count = (?P<it>\d+)$"),
     ("HED_ENTRY_MOST", LAWS, r"^  pub one_has_\w+_bytes .*length bytes ≡ (?P<it>\d+)\)$"),
     ("HED_ENTRY_MOST", "rust/src/raw.rs", r"^pub const ENTRY_MOST: usize = (?P<it>\d+);$"),
+    ("HED_CHORD_MOST", CHORD, r"^pub const MAX_KEYS: usize = (?P<it>\d+);$"),
+    ("HED_CHORD_MOST", "rust/src/raw.rs", r"^pub const CHORD_MOST: usize = (?P<it>\d+);$"),
+    ("HED_CHORD_MOST", "python/hedrugal/extended.py", r"^_CHORD_MOST = (?P<it>\d+)$"),
     ("HED_VERSION", "c/hedrugal.pc", rf"^Version: {VERSION}$"),
     ("HED_VERSION", "CHANGELOG.md", rf"^## \[?{VERSION}"),
     ("HED_VERSION", "debian/changelog", rf"^hedrugal \({VERSION}-"),

@@ -58,6 +58,7 @@ __version__ = "0.1.0"
 __all__ = [
     "Ambiguous",
     "Apc",
+    "Chord",
     "ClipboardReply",
     "Colour",
     "ColourName",
@@ -89,6 +90,8 @@ __all__ = [
     "KeyEvent",
     "KeyEventKind",
     "KeyMap",
+    "KeyNameError",
+    "KeyNameErrorKind",
     "KeyPress",
     "KeyReport",
     "KittyKeyboardFlags",
@@ -1651,6 +1654,7 @@ def encode(
 # lines come last.
 from .extended import (  # noqa: E402
     Apc,
+    Chord,
     Csi,
     CursorPosition,
     Dcs,
@@ -1660,6 +1664,8 @@ from .extended import (  # noqa: E402
     FocusLost,
     KeyboardFlags,
     KeyEventKind,
+    KeyNameError,
+    KeyNameErrorKind,
     KeyPress,
     KeyReport,
     KittyModifiers,

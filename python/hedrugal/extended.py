@@ -17,7 +17,7 @@ import functools
 import operator
 import struct
 from dataclasses import dataclass
-from typing import Any, Callable, Dict, List, Optional, Tuple, Union
+from typing import Any, Callable, Dict, Iterable, Iterator, List, Optional, Tuple, Union
 
 from . import (
     _BYTES,
@@ -69,6 +69,28 @@ from . import (
     _sent,
     _whole,
 )
+
+# What the calls answer that read and print names of keys.
+# numbers.txt: named private
+_NAMED_KEYS = 0
+_NAMED_CONTROL_CHARACTER = 1
+_NAMED_MODIFIER_TWICE = 2
+_NAMED_UNKNOWN_MODIFIER = 3
+_NAMED_MISSING_KEY = 4
+_NAMED_BAD_NUMBER = 5
+_NAMED_UNKNOWN_NAME = 6
+_NAMED_AMBIGUOUS = 7
+_NAMED_NOT_A_KEY = 8
+_NAMED_SHIFTED_CHARACTER = 9
+_NAMED_TOO_LONG = 10
+_NAMED_EMPTY = 11
+_NAMED_BAD_TEXT = 12
+# numbers.txt: end
+# numbers.txt: printed private
+_PRINTED_NAME = 0
+_PRINTED_NO_MEMORY = 1
+_PRINTED_BAD_NUMBER = 2
+# numbers.txt: end
 
 
 class Protocol(_Named):
@@ -202,10 +224,13 @@ class KeyPress:
         >>> with ExtendedParser(Protocol.KITTY) as parser:
         ...     events = parser.parse(b"\x1b[65;5u\x1b[97;70u\x1bOA")
         >>> for event in events:
-        ...     print(KeyPress.of_event(event))
-        KeyPress(key='a', held=KittyModifiers.SHIFT|CTRL)
-        KeyPress(key='a', held=KittyModifiers.SHIFT|CTRL)
-        KeyPress(key=KeyCode.UP_ARROW, held=KittyModifiers.NONE)
+        ...     press = KeyPress.of_event(event)
+        ...     print(press, repr(press.key), press.held)
+        ctrl+shift+a 'a' KittyModifiers.SHIFT|CTRL
+        ctrl+shift+a 'a' KittyModifiers.SHIFT|CTRL
+        up KeyCode.UP_ARROW KittyModifiers.NONE
+
+    It is printed by its name, which `Chord.read` reads.
 
     Letters, digits and signs are the characters that they type: Shift with a is A. So SHIFT is held
     only with keys that have a name, with the space, and with a to z where CTRL, SUPER, HYPER or
@@ -257,9 +282,113 @@ class KeyPress:
     def text(self) -> Optional[str]:
         """The character that the press types, or None. Nothing but SHIFT is then held. A program
         inserts it if the press does nothing else. Enter and Tab type none."""
-        if not isinstance(self.key, str) or self.held.value & ~KittyModifiers.SHIFT.value:
-            return None
-        return None if _is_control(self.key) else self.key
+        return _character(_library.hed_key_text(_raw_press(self)))
+
+    def __str__(self) -> str:
+        """The name of the press, as ctrl+shift+up. A KeyPress that was made by hand may be the
+        press of no key: its text is its repr.
+
+        Raises MemoryError if memory is refused."""
+        name = _printed((self,))
+        return repr(self) if name is None else name
+
+
+class KeyNameErrorKind(_Named):
+    """What is wrong with a text that should name keys."""
+
+    CONTROL_CHARACTER = _NAMED_CONTROL_CHARACTER  # A control character but the tab is in the text.
+    MODIFIER_TWICE = _NAMED_MODIFIER_TWICE  # A modifier is there twice, as in M-A-x.
+    UNKNOWN_MODIFIER = _NAMED_UNKNOWN_MODIFIER  # A word before + or - is no modifier.
+    MISSING_KEY = _NAMED_MISSING_KEY  # No key stands behind the modifiers, as in ctrl+.
+    BAD_NUMBER = _NAMED_BAD_NUMBER  # A number names no key, as in f256, or has zeros in front.
+    UNKNOWN_NAME = _NAMED_UNKNOWN_NAME  # No key has this name.
+    # DEL in capitals is Backspace to Emacs, and Delete to others: write backspace or delete.
+    AMBIGUOUS = _NAMED_AMBIGUOUS
+    NOT_A_KEY = _NAMED_NOT_A_KEY  # The key makes no press by itself, as a modifier or a lock.
+    # Shift with a character that isn't a letter of ASCII: write what it types, as ! for shift+1.
+    SHIFTED_CHARACTER = _NAMED_SHIFTED_CHARACTER
+    TOO_LONG = _NAMED_TOO_LONG  # The text has more than 32 keys.
+    EMPTY = _NAMED_EMPTY  # No key is in the text.
+    BAD_TEXT = _NAMED_BAD_TEXT  # The text has a surrogate, which UTF-8 can't have.
+
+
+class KeyNameError(ValueError):
+    """A text names no keys.
+
+    kind says what is wrong, a KeyNameErrorKind. at is where the wrong part starts: that many bytes
+    of the text's UTF-8 come before it."""
+
+    def __init__(self, kind: KeyNameErrorKind, at: int) -> None:
+        super().__init__(kind, at)
+        self.kind = kind
+        self.at = at
+
+    def __str__(self) -> str:
+        return f"{_faults[self.kind]}, at byte {self.at}"
+
+
+@dataclass(frozen=True)
+class Chord:
+    r"""A list of 1 to 32 presses, to which a program binds a command, as Ctrl-X and then Ctrl-S.
+
+        >>> save = Chord.read("C-x C-s")
+        >>> print(save)
+        ctrl+x ctrl+s
+        >>> save == Chord.read("<C-x> Ctrl-S")
+        True
+        >>> [press.key for press in save]
+        ['x', 's']
+
+    It is made of anything that gives its presses, and may be a key of a dict. Raises ValueError for
+    no presses, for more than 32, and for a KeyPress that was made by hand and is the press of no
+    key."""
+
+    presses: Tuple[KeyPress, ...]
+
+    def __init__(self, presses: Iterable[KeyPress]) -> None:
+        object.__setattr__(self, "presses", tuple(presses))
+        if not all(isinstance(press, KeyPress) for press in self.presses):
+            raise TypeError("a Chord has KeyPresses")
+        if not 1 <= len(self.presses) <= _CHORD_MOST:
+            raise ValueError(f"a Chord has 1 to {_CHORD_MOST} presses, not {len(self.presses)}")
+        for press in self.presses:
+            if KeyPress.of_report(KeyReport(press.key, press.held)) != press:
+                raise ValueError(f"{press!r} is the press of no key")
+
+    @staticmethod
+    def read(text: str) -> Chord:
+        """Reads the name of a chord: its keys, parted by spaces or tabs.
+
+            >>> Chord.read("shift+1")
+            Traceback (most recent call last):
+                ...
+            hedrugal.extended.KeyNameError: shift with a character that isn't a letter, at byte 6
+
+        Modifiers stand before a key as words (ctrl+x, Ctrl-Shift-Up), or as the letters of Emacs
+        (C-x, C-M-<f5>) or Vim (<C-x>). Words are read in any case. The page of the crate
+        termwiz_bindings of the repository has all words and rules.
+
+        Raises KeyNameError, which is a ValueError, if the text names no keys."""
+        # A surrogate is passed on: the library refuses it.
+        name, length = _borrowed(str.encode(text, "utf-8", "surrogatepass"))
+        keys = (_RawPress * _CHORD_MOST)()
+        count, at = ctypes.c_size_t(), ctypes.c_size_t()
+        answer = _library.hed_key_read(name, length, keys, _CHORD_MOST, count, at)
+        if answer == _NAMED_KEYS:
+            return Chord(map(_press, keys[: count.value]))
+        raise KeyNameError(_name_error_kinds.get(answer) or _fault(), at.value)
+
+    def __str__(self) -> str:
+        """The name of the chord, as ctrl+x ctrl+s. `Chord.read` reads the same chord from it.
+
+        Raises MemoryError if memory is refused."""
+        return _printed(self.presses) or _fault()
+
+    def __iter__(self) -> Iterator[KeyPress]:
+        return iter(self.presses)
+
+    def __len__(self) -> int:
+        return len(self.presses)
 
 
 def typed_text(report: KeyReport) -> str:
@@ -458,8 +587,12 @@ class _RawExtendedEvent(ctypes.Structure):
 _REPORT_AT, _INPUT_AT = _RawExtendedEvent.report.offset, _RawExtendedEvent.input.offset
 _report_fields_of = struct.Struct("@BBHIII").unpack_from
 
-# What stands for a code point that the terminal did not report.
+# What stands for a code point that the terminal did not report, and for no text of a press.
 _NO_CODE = 0xFFFFFFFF
+
+# The most presses that a chord has, and more bytes than the name of one has.
+_CHORD_MOST = 32
+_NAME_ROOM = 64
 
 _PARSER = ctypes.POINTER(_RawExtended)
 _READING = ctypes.POINTER(_RawReading)
@@ -509,6 +642,15 @@ _CALLS: Dict[str, Tuple[Any, List[Any]]] = {
     "hed_key_of_event": (ctypes.c_bool, [ctypes.POINTER(_RawEvent), _PRESS]),
     "hed_key_of_report": (ctypes.c_bool, [_REPORT, _BYTES, ctypes.c_size_t, _PRESS]),
     "hed_key_second": (ctypes.c_bool, [_REPORT, _PRESS]),
+    "hed_key_text": (ctypes.c_uint32, [_PRESS]),
+    "hed_key_read": (
+        ctypes.c_uint32,
+        [_BYTES, ctypes.c_size_t, _PRESS, ctypes.c_size_t, _COUNT, _COUNT],
+    ),
+    "hed_key_print": (
+        ctypes.c_uint32,
+        [_PRESS, ctypes.c_size_t, _BYTES, ctypes.c_size_t, _COUNT],
+    ),
 }
 _declare(_library, _CALLS)
 
@@ -527,6 +669,22 @@ _protocols = {protocol.value: protocol for protocol in Protocol}
 _kinds = {kind.value: kind for kind in KeyEventKind}
 _side_button_kinds = {kind.value: kind for kind in SideButtonKind}
 _string_kinds = {kind.value: kind for kind in StringKind}
+_name_error_kinds = {kind.value: kind for kind in KeyNameErrorKind}
+# What is wrong, in words.
+_faults = {
+    KeyNameErrorKind.CONTROL_CHARACTER: "a control character is in the text",
+    KeyNameErrorKind.MODIFIER_TWICE: "a modifier is there twice",
+    KeyNameErrorKind.UNKNOWN_MODIFIER: "no modifier has this name",
+    KeyNameErrorKind.MISSING_KEY: "no key is behind the modifiers",
+    KeyNameErrorKind.BAD_NUMBER: "no key has this number",
+    KeyNameErrorKind.UNKNOWN_NAME: "no key has this name",
+    KeyNameErrorKind.AMBIGUOUS: "DEL is either backspace or delete",
+    KeyNameErrorKind.NOT_A_KEY: "the key makes no press by itself",
+    KeyNameErrorKind.SHIFTED_CHARACTER: "shift with a character that isn't a letter",
+    KeyNameErrorKind.TOO_LONG: "there are too many keys",
+    KeyNameErrorKind.EMPTY: "there is no key",
+    KeyNameErrorKind.BAD_TEXT: "a surrogate is in the text",
+}
 # The bits of all flags that have names.
 _NAMED_FLAGS = (~KittyKeyboardFlags.NONE).value
 
@@ -543,14 +701,17 @@ def _code(character: Optional[str]) -> int:
     return _number_and_detail(character)[1]
 
 
+def _reported_numbers(key: ReportedKey) -> Tuple[int, int]:
+    """The number of a key and what it carries."""
+    return (0, _whole(key, 0, 0xFFFFFFFF)) if isinstance(key, int) else _number_and_detail(key)
+
+
 def _raw_report(report: KeyReport) -> _RawReport:
     """The numbers of a report."""
-    key, modifiers, kind = report.key, report.modifiers, report.kind
+    modifiers, kind = report.modifiers, report.kind
     if not isinstance(modifiers, KittyModifiers) or not isinstance(kind, KeyEventKind):
         raise TypeError("a KeyReport has KittyModifiers and a KeyEventKind")
-    number, detail = (
-        (0, _whole(key, 0, 0xFFFFFFFF)) if isinstance(key, int) else _number_and_detail(key)
-    )
+    number, detail = _reported_numbers(report.key)
     return _RawReport(
         kind.value, modifiers.value, number, detail, _code(report.shifted), _code(report.base)
     )
@@ -559,10 +720,37 @@ def _raw_report(report: KeyReport) -> _RawReport:
 def _written(call: Callable[[_RawPress], bool]) -> Optional[KeyPress]:
     """The press that a call wrote, if it did."""
     press = _RawPress()
-    if not call(press):
-        return None
+    return _press(press) if call(press) else None
+
+
+def _press(press: _RawPress) -> KeyPress:
+    """The press that has these numbers."""
     key = _key(press.key, press.detail) if press.key else press.detail
     return KeyPress(key, KittyModifiers(press.held))
+
+
+def _raw_press(press: KeyPress) -> _RawPress:
+    """The numbers of a press."""
+    if not isinstance(press.held, KittyModifiers):
+        raise TypeError("a KeyPress has KittyModifiers")
+    number, detail = _reported_numbers(press.key)
+    return _RawPress(number, press.held.value, detail)
+
+
+def _printed(presses: Tuple[KeyPress, ...]) -> Optional[str]:
+    """The name of presses. There is none if one of them is the press of no key."""
+    count = len(presses)
+    keys = (_RawPress * count)(*map(_raw_press, presses))
+    room, length = bytearray(_NAME_ROOM * count), ctypes.c_size_t()
+    pointer, size = _borrowed(room)
+    answer = _library.hed_key_print(keys, count, pointer, size, length)
+    if answer == _PRINTED_NAME:
+        return room[: length.value].decode("utf-8")
+    if answer == _PRINTED_BAD_NUMBER:
+        return None
+    if answer == _PRINTED_NO_MEMORY:
+        raise _refused()
+    _fault()
 
 
 def _press_typing(report: KeyReport, typed: str) -> Optional[KeyPress]:
@@ -571,10 +759,6 @@ def _press_typing(report: KeyReport, typed: str) -> Optional[KeyPress]:
     text, length = _borrowed(str.encode(typed, "utf-8", "surrogatepass"))
     raw = _raw_report(report)
     return _written(functools.partial(_library.hed_key_of_report, raw, text, length))
-
-
-def _is_control(character: str) -> bool:
-    return character < " " or "\x7f" <= character <= "\x9f"
 
 
 @functools.lru_cache(maxsize=4096)

@@ -5,7 +5,7 @@
 //! further mouse reports, control sequences, and Kitty's keyboard protocol. docs/EXTENDED.md of the
 //! repository says what bytes mean to it. [`KeyReport::encode`] is the other way: what a terminal
 //! sends for a key under Kitty's keyboard protocol. [`KeyPress`] is one name for a key, however its
-//! terminal reports it.
+//! terminal reports it, and [`Chord`] is a list of these. Both are read from text and printed.
 //!
 //! ```
 //! use hedrugal::extended::{ExtendedEvent, ExtendedParser, Protocol};
@@ -21,18 +21,22 @@
 //!     }
 //! }
 //! ```
+mod chord;
 mod encode;
 mod events;
+mod names;
 mod parser;
 mod press;
 mod replies;
 
 pub use crate::input::flags::KittyModifiers;
+pub use chord::{Chord, Presses};
 pub use encode::KittyEncodeError;
 pub use events::{
     ExtendedEvent, KeyEventKind, KeyReport, ReportedKey, SideButtonEvent, SideButtonKind,
     StringKind,
 };
+pub use names::{KeyNameError, KeyNameErrorKind};
 pub use parser::{ExtendedParser, ExtendedWaiting, Protocol, Reading};
 pub use press::{typed_text, KeyPress};
 pub use replies::{Colour, ColourName, ColourScheme, DeviceAttributes, ModeState, Reply};

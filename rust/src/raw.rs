@@ -135,6 +135,44 @@ pub const ENCODING_WIN32: u8 = 2;
 pub const ENCODING_KITTY: u8 = 3;
 // numbers.txt: end
 
+// numbers.txt: named const
+/// The text is the name of a chord, and nothing is wrong with it.
+pub const NAMED_KEYS: u32 = 0;
+/// A control character but the tab is in the text.
+pub const NAMED_CONTROL_CHARACTER: u32 = 1;
+/// A modifier is there twice, as in `M-A-x`.
+pub const NAMED_MODIFIER_TWICE: u32 = 2;
+/// A word before `+` or `-` is no modifier, as in `foo+x`.
+pub const NAMED_UNKNOWN_MODIFIER: u32 = 3;
+/// No key stands behind the modifiers, as in `ctrl+`.
+pub const NAMED_MISSING_KEY: u32 = 4;
+/// A number names no key, as in `f256`, `kitty1` or `U+D800`, or has zeros in front.
+pub const NAMED_BAD_NUMBER: u32 = 5;
+/// No key has this name.
+pub const NAMED_UNKNOWN_NAME: u32 = 6;
+/// `DEL` in capitals is Backspace to Emacs, and Delete to others: write `backspace` or `delete`.
+pub const NAMED_AMBIGUOUS: u32 = 7;
+/// The key makes no press by itself, as a modifier or a lock.
+pub const NAMED_NOT_A_KEY: u32 = 8;
+/// Shift with a character that isn't a letter of ASCII: write what it types, as `!` for `shift+1`.
+pub const NAMED_SHIFTED_CHARACTER: u32 = 9;
+/// A chord has at most 32 keys, and this is the 33rd.
+pub const NAMED_TOO_LONG: u32 = 10;
+/// No key is in the text.
+pub const NAMED_EMPTY: u32 = 11;
+/// The text isn't UTF-8.
+pub const NAMED_BAD_TEXT: u32 = 12;
+// numbers.txt: end
+
+// numbers.txt: printed const
+/// The name of the keys.
+pub const PRINTED_NAME: u32 = 0;
+/// Memory was refused. The call may be made again.
+pub const PRINTED_NO_MEMORY: u32 = 1;
+/// The numbers of a key are those of no press, or there are no keys, or more than 32.
+pub const PRINTED_BAD_NUMBER: u32 = 2;
+// numbers.txt: end
+
 // numbers.txt: replied const
 /// The event is no reply that is known.
 pub const REPLIED_NONE: u32 = 0;
@@ -270,6 +308,9 @@ pub struct Modes {
 /// The length of the longest entry of the sequence table.
 pub const ENTRY_MOST: usize = 11;
 
+/// The most presses that a chord has.
+pub const CHORD_MOST: usize = 32;
+
 /// Some entries of the sequence table, one after another.
 #[repr(C)]
 #[derive(Clone, Copy, Default)]
@@ -350,7 +391,7 @@ pub struct KeyReport {
 
 /// A key, and the modifiers held with it.
 #[repr(C)]
-#[derive(Clone, Copy, Default)]
+#[derive(Clone, Copy, Default, PartialEq, Eq, Hash)]
 pub struct KeyPress {
     pub key: u16,
     pub held: u8,
@@ -558,6 +599,22 @@ extern "C" {
         press: *mut KeyPress,
     ) -> bool;
     pub fn hed_key_second(report: *const KeyReport, press: *mut KeyPress) -> bool;
+    pub fn hed_key_text(press: *const KeyPress) -> u32;
+    pub fn hed_key_read(
+        text: *const u8,
+        text_len: usize,
+        keys: *mut KeyPress,
+        room: usize,
+        count: *mut usize,
+        at: *mut usize,
+    ) -> u32;
+    pub fn hed_key_print(
+        keys: *const KeyPress,
+        count: usize,
+        out: *mut u8,
+        len: usize,
+        name_len: *mut usize,
+    ) -> u32;
     pub fn hed_read_reply(
         kind: u8,
         bytes: *const u8,

@@ -3,5 +3,6 @@ pub mod KeyNumbers
 pub mod Lending
 pub mod RawBoxValues
 pub mod Pressed
+pub mod PressNumbers
 pub mod OwnedPointerValues
 pub mod Walks

@@ -1,4 +1,5 @@
 pub mod Calls
+pub mod Chords
 pub mod EntryCalls
 pub mod Events
 pub mod ExtendedCalls
@@ -10,6 +11,7 @@ pub mod KittyCalls
 pub mod Lent
 pub mod LentIf
 pub mod Limits
+pub mod NameCalls
 pub mod Owned
 pub mod PressCalls
 pub mod Presses

@@ -1,5 +1,5 @@
 -- The presses of keys, as C has them.
-use Rattle.std.specs.Prelude.{◌≡◌, ℕ, List, Option, Some, None}
+use Rattle.std.specs.Prelude.{◌≡◌, ℕ, List, Some, None}
 use Rattle.std.specs.Str.{IsUtf8}
 use Rattle.termwiz_keys.specs.declared.types.KeyEvent.{KeyEvent}
 use Rattle.termwiz_extended_events.specs.declared.types.KeyReport.{KeyReport}

@@ -1,5 +1,5 @@
 -- How an extended parser that C holds reads, and what the calls that change it do.
-use Rattle.std.specs.Prelude.{◌≡◌, ◌+◌, ℕ, min, Option, Some, None}
+use Rattle.std.specs.Prelude.{◌≡◌, ◌+◌, min, Option, Some, None}
 use Rattle.termwiz_extended_events.specs.declared.types.Reading.{Reading}
 use Rattle.termwiz_extended_grammar.specs.Readings.{asking}
 use Rattle.hedrugal.specs.declared.extended_and_text.ExtendedAndText.{ExtendedAndText}

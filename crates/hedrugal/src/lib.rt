@@ -3,7 +3,8 @@
 //!
 //! The caller keeps a `hed_parser`, all zero at first, gives bytes to it by `hed_parser_feed` and takes the events, one at a time,
 //! by `hed_parser_next`. A `hed_keymap` is kept in the same way. `hed_encode` and `hed_encode_kitty` go the other way, from a key to the
-//! bytes that a terminal sends for it. `hed_key_of_event` and `hed_key_of_report` tell the press of a key.
+//! bytes that a terminal sends for it. `hed_key_of_event` and `hed_key_of_report` tell the press of a key, and
+//! `hed_key_read` and `hed_key_print` read and print the names of keys.
 #![tactic(auto)]
 
 ghost use Rattle.std.specs.Prelude.{◌≡◌, ◌≢◌, ◌≤◌, ◌↔◌, ◌+◌, ◌*◌, ◌++◌, [], ◌∷◌, length, max, true, false, None, IsTrue};
@@ -16,6 +17,7 @@ ghost use Rattle.hedrugal.specs.Timings.{BeginsTime, KeepsTime, TakesBytes, Take
 ghost use Rattle.hedrugal.specs.Presses.{HasNoText, IsBad, Wrote};
 
 mod bindings;
+mod chords;
 mod copying;
 mod entry_calls;
 mod events;
@@ -30,6 +32,7 @@ mod key_reports;
 mod keymap_calls;
 mod kitty_calls;
 mod modes;
+mod name_calls;
 mod parser_and_paste;
 mod press_calls;
 mod raw_box;

@@ -40,6 +40,17 @@ fn key_event_of(numbers: &CEvent) -> Option<KeyEvent>
     })
 }
 
+// A press in numbers.
+pub(crate) fn c_press(press: KeyPress) -> CKeyPress
+    ensures { result ≡ c_press press }
+{
+    CKeyPress {
+        key: reported_number(press.key()),
+        held: press.held(),
+        detail: reported_detail(press.key()),
+    }
+}
+
 // Writes a press, if there is one. The answer says whether there is.
 fn write_press(told: Option<KeyPress>, press: &mut CKeyPress) -> bool
     ensures wrote { result ≡ true → (p : Pressed) × (told ≡ Some p) × (press.new ≡ c_press p) }
@@ -49,11 +60,7 @@ fn write_press(told: Option<KeyPress>, press: &mut CKeyPress) -> bool
     let Some(told) = told else {
         return false;
     };
-    *press = CKeyPress {
-        key: reported_number(told.key()),
-        held: told.held(),
-        detail: reported_detail(told.key()),
-    };
+    *press = c_press(told);
     true
 }
 

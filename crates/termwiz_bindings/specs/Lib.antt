@@ -10,3 +10,7 @@ pub mod Matching
 pub mod Numbers
 pub mod Presses
 pub mod PressLaws
+pub mod Words
+pub mod Names
+pub mod ChordNames
+pub mod NameLaws

@@ -3,6 +3,7 @@ ghost use Rattle.std.specs.Prelude.{ℕ, Option};
 ghost use Rattle.termwiz_bindings.specs.BindingLaws.{AreChordsInOrder, ChangeOneChord};
 ghost use Rattle.termwiz_bindings.specs.Chords.{TellsChordsApart};
 ghost use Rattle.termwiz_bindings.specs.CodeLaws.{CodesBeginAsPresses, CodesHaveOneWidth, CodesTellPresses};
+ghost use Rattle.termwiz_bindings.specs.NameLaws.{NamesReadBack, ReadsPresses};
 ghost use Rattle.termwiz_bindings.specs.Presses.{main_press, shown_press, control_press, capital_press, unshifted_press, lowered_press};
 ghost use Rattle.termwiz_bindings.specs.PressLaws.{IsSettled, LocksChangeNothing, NeverBoth, NoPressOfRelease, PressesHaveNoLocks, PressesSettle, SecondOnlyOf, SecondWithoutText, SidesChangeNothing};
 
@@ -68,4 +69,11 @@ pub fn chords_in_order<V>()
 /// Two chords are equal by `==` exactly if they have the same presses.
 pub fn chord_equality()
     ensures { TellsChordsApart ⟦<Chord as PartialEq>⟧.eq }
+{}
+
+/// What is printed of a chord with a key is read as that chord (`read_back`). So a program may keep its bindings as text. What is read of
+/// any text is one or more presses, not too many, each of which is its own press (`presses`).
+pub fn names_read_back()
+    ensures read_back { NamesReadBack }
+    ensures presses { ReadsPresses }
 {}

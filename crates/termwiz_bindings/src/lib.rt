@@ -6,5 +6,6 @@ pub mod chord;
 pub mod chord_laws;
 pub mod laws;
 pub mod matcher;
+pub mod names;
 pub mod numbers;
 pub mod press;

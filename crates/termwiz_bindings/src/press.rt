@@ -1,5 +1,6 @@
 //! Presses: a key and the modifiers held with it, the same however the terminal reports the key.
-ghost use Rattle.std.specs.Prelude.{◌≡◌, ◌%◌, [], ◌∷◌, IfSome, MatchOption};
+ghost use Rattle.std.specs.Prelude.{◌≡◌, ◌%◌, [], ◌∷◌, ◌++◌, IfSome, MatchOption};
+ghost use Rattle.std.specs.Char.{encode_utf8};
 ghost use Rattle.std.specs.Str.{chars};
 ghost use Rattle.termwiz_extended_events.specs.declared.types.KeyEventKind.TheVariants.{Press};
 ghost use Rattle.termwiz_extended_events.specs.KeyReports.{report_of};
@@ -12,18 +13,26 @@ mod characters;
 mod keys;
 
 use crate::numbers::{reported_detail, reported_number};
-use characters::{character, character_press, character_rules};
-use keys::{main_key, makes_no_press};
+pub(crate) use characters::character;
+use characters::{character_press, character_rules};
+pub(crate) use keys::main_key;
+use keys::makes_no_press;
 use termwiz_base::{Flags, Modifiers};
 use termwiz_extended_events::types::{KeyEventKind, KeyReport, ReportedKey};
 use termwiz_keys::types::{KeyCode, KeyEvent};
 
 // Kitty's bits of the modifiers.
-const SHIFT: u8 = 1;
+pub(crate) const SHIFT: u8 = 1;
 
-const CTRL: u8 = 4;
+pub(crate) const ALT: u8 = 2;
 
-const SUPER: u8 = 8;
+pub(crate) const CTRL: u8 = 4;
+
+pub(crate) const SUPER: u8 = 8;
+
+pub(crate) const HYPER: u8 = 16;
+
+pub(crate) const META: u8 = 32;
 
 // All modifiers but the locks.
 const ALL_BUT_LOCKS: u8 = 63;
@@ -117,8 +126,9 @@ fn is_typed(modifiers: u8, text: &str) -> bool
 }
 
 // The first character of a text, and the text behind it.
-fn split_first(text: &str) -> Option<(char, &str)>
-    ensures { MatchOption result (chars text.now ≡ []) (λ parts. chars text.now ≡ parts.0 ∷ chars parts.1.now) }
+pub(crate) fn split_first(text: &str) -> Option<(char, &str)>
+    ensures chars { MatchOption result (chars text.now ≡ []) (λ parts. chars text.now ≡ parts.0 ∷ chars parts.1.now) }
+    ensures bytes { IfSome result (λ parts. text.now ≡ encode_utf8 parts.0 ++ parts.1.now) }
 {
     let mut rest = text.chars();
     let first = rest.next()?;

@@ -1,7 +1,9 @@
-//! Tests of bindings and of matchers.
+//! Tests of bindings, matchers and names of keys.
 #![tactic(auto)]
 
 #[cfg(test)]
 mod bindings;
 #[cfg(test)]
 mod matchers;
+#[cfg(test)]
+mod names;

@@ -1,8 +1,12 @@
 // One name for a key, however its terminal reports it.
-use super::{KeyReport, KittyModifiers, ReportedKey};
-use crate::input::{KeyCode, KeyEvent, Modifiers, FAULT};
+use super::{
+    names, KeyEventKind, KeyNameError, KeyNameErrorKind, KeyReport, KittyModifiers, ReportedKey,
+};
+use crate::input::{KeyEvent, Modifiers, FAULT};
 use crate::raw;
 use std::cmp::Ordering;
+use std::fmt;
+use std::str::FromStr;
 
 /// A key that was pressed, and the modifiers held with it: one name for the key, whatever mode the
 /// terminal is in and whichever protocol it speaks. A program looks up by it what a key does.
@@ -17,6 +21,9 @@ use std::cmp::Ordering;
 /// `REPORT_ALTERNATE_KEYS`, and with `REPORT_ALL_KEYS_AS_ESCAPE_CODES` for `REPORT_ASSOCIATED_TEXT`
 /// too. Otherwise Ctrl, Shift and `1` come without the `!`, and are `1` with CTRL.
 ///
+/// A press is printed by its name, as `ctrl+shift+up`, and read from one. A text has the names of a
+/// [`Chord`](super::Chord), which says how they are written.
+///
 /// Presses are ordered by the numbers of their keys in the C library, then by their characters, and
 /// then by their modifiers.
 ///
@@ -30,6 +37,8 @@ use std::cmp::Ordering;
 ///     let press = KeyPress::of_report(&event.key().unwrap()).unwrap();
 ///     assert_eq!(press.key(), ReportedKey::Named(KeyCode::Char('a')));
 ///     assert_eq!(press.held(), KittyModifiers::CTRL.union(KittyModifiers::SHIFT));
+///     assert_eq!(press.to_string(), "ctrl+shift+a");
+///     assert_eq!("C-S-a".parse(), Ok(press));
 /// }
 /// ```
 #[derive(Debug, Clone, Copy, PartialEq, Eq, Hash)]
@@ -39,6 +48,32 @@ pub struct KeyPress {
 }
 
 impl KeyPress {
+    /// Returns the press of a key and of the modifiers held with it. A key by another name is that
+    /// of the main block, `A` with SHIFT is `A`, and the locks don't count. `None` is for a
+    /// modifier or a lock by itself, for the marks of a paste, and for a number that isn't in
+    /// Kitty's table.
+    ///
+    /// ```
+    /// use hedrugal::extended::{KeyPress, KittyModifiers, ReportedKey};
+    /// use hedrugal::input::KeyCode;
+    ///
+    /// let of = |key| KeyPress::new(ReportedKey::Named(key), KittyModifiers::SHIFT);
+    /// assert_eq!(of(KeyCode::ApplicationUpArrow).unwrap().to_string(), "shift+up");
+    /// assert_eq!(of(KeyCode::Char('a')), "A".parse().ok());
+    /// assert_eq!(of(KeyCode::LeftShift), None);
+    /// ```
+    #[must_use]
+    pub fn new(key: ReportedKey, held: KittyModifiers) -> Option<KeyPress> {
+        KeyPress::of_report(&KeyReport {
+            key,
+            modifiers: held,
+            kind: KeyEventKind::Press,
+            shifted: None,
+            base: None,
+            text: String::new(),
+        })
+    }
+
     /// Returns the press of a key event, or `None` for a modifier or a lock by itself, and for the
     /// marks of a paste. Of the modifiers SHIFT, ALT, CTRL and SUPER count: not LEADER, nor which of
     /// two keys is held.
@@ -138,14 +173,8 @@ impl KeyPress {
     /// ```
     #[must_use]
     pub fn text(self) -> Option<char> {
-        match self.key {
-            ReportedKey::Named(KeyCode::Char(c))
-                if KittyModifiers::SHIFT.contains(self.held) && !c.is_control() =>
-            {
-                Some(c)
-            }
-            _ => None,
-        }
+        // SAFETY: the pointer leads to a press that lives through the call.
+        char::from_u32(unsafe { raw::hed_key_text(&self.raw()) })
     }
 
     // The press of a report with this text in place of its own.
@@ -161,11 +190,57 @@ impl KeyPress {
     // The press that a call wrote, if it did.
     fn written(call: impl FnOnce(&mut raw::KeyPress) -> bool) -> Option<KeyPress> {
         let mut press = raw::KeyPress::default();
-        call(&mut press).then(|| KeyPress {
+        call(&mut press).then(|| KeyPress::of_raw(press))
+    }
+
+    // A press of the library.
+    pub(super) fn of_raw(press: raw::KeyPress) -> KeyPress {
+        KeyPress {
             key: ReportedKey::of(press.key, press.detail),
             held: KittyModifiers::from_bits(press.held).expect(FAULT),
-        })
+        }
     }
+
+    // The press as the library has it.
+    pub(super) fn raw(self) -> raw::KeyPress {
+        let (key, detail) = self.key.numbers();
+        raw::KeyPress {
+            key,
+            held: self.held.bits(),
+            detail,
+        }
+    }
+}
+
+/// Prints the name of the press. Fails only if memory is refused.
+impl fmt::Display for KeyPress {
+    fn fmt(&self, f: &mut fmt::Formatter<'_>) -> fmt::Result {
+        names::print(&[self.raw()], f)
+    }
+}
+
+/// Reads the name of one press. A second key is `TooLong`.
+impl FromStr for KeyPress {
+    type Err = KeyNameError;
+
+    fn from_str(text: &str) -> Result<KeyPress, KeyNameError> {
+        let (keys, count) = names::read(text)?;
+        if count > 1 {
+            return Err(KeyNameError {
+                kind: KeyNameErrorKind::TooLong,
+                at: second_key(text),
+            });
+        }
+        Ok(KeyPress::of_raw(keys[0]))
+    }
+}
+
+// The byte where the second key of a text starts. Blanks part its keys.
+fn second_key(text: &str) -> usize {
+    let is_blank = |c| c == ' ' || c == '\t';
+    let first = text.trim_start_matches(is_blank);
+    let behind = first.trim_start_matches(|c| !is_blank(c));
+    text.len() - behind.trim_start_matches(is_blank).len()
 }
 
 impl PartialOrd for KeyPress {

@@ -13,7 +13,7 @@ use crate::raw;
 /// };
 /// assert_eq!(format!("{event:?}"), "KeyEvent { key: Char('x'), modifiers: Modifiers(ALT) }");
 /// ```
-#[derive(Debug, Clone, PartialEq, Eq)]
+#[derive(Debug, Clone, PartialEq, Eq, Hash)]
 #[cfg_attr(feature = "use_serde", derive(serde::Serialize, serde::Deserialize))]
 pub struct KeyEvent {
     /// The key that was pressed.

@@ -9,6 +9,7 @@ mod kitty;
 mod limits;
 mod lines;
 mod long;
+mod names;
 mod parser;
 mod plain;
 mod presses;

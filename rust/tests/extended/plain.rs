@@ -4,6 +4,7 @@
 mod forms;
 mod keys;
 mod meanings;
+pub mod names;
 pub mod presses;
 pub mod replies;
 mod strings;

@@ -286,7 +286,7 @@ fn presses_are_ordered_and_hashed() {
 }
 
 // Keys that the rules name, and neighbours of these.
-fn drawn_key(draws: &mut Draws) -> ReportedKey {
+pub fn drawn_key(draws: &mut Draws) -> ReportedKey {
     const CHARACTERS: &[char] = &[
         '\0', '\x01', '\x08', '\t', '\n', '\r', '\x1a', '\x1b', '\x1c', '\x1f', ' ', '!', '1', 'A',
         'Z', '[', '`', 'a', 'z', '{', '\x7f', '\u{80}', '\u{9f}', '\u{a0}', 'é', 'É', 'с',

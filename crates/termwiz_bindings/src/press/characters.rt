@@ -18,7 +18,7 @@ pub(super) fn character_press(c: char, held: u8) -> KeyPress
 }
 
 // The character of a key.
-pub(super) fn character(key: ReportedKey) -> Option<char>
+pub(crate) fn character(key: ReportedKey) -> Option<char>
     ensures { result ≡ rules.character key }
 {
     match key {

@@ -1,0 +1,62 @@
+// Presses and chords in numbers.
+ghost use Rattle.std.specs.Prelude.{◌≡◌, ◌↔◌, List, Some, length, IfSome, IfNone, IsTrue};
+ghost use Rattle.termwiz_bindings.specs.declared.press.KeyPress.{KeyPress as Pressed};
+ghost use Rattle.hedrugal.specs.Chords.{AreOfChord, AreOfPress, with_presses};
+ghost use Rattle.hedrugal.specs.PressCalls.{c_press as numbers_of};
+
+use crate::press_calls::{CKeyPress, c_press};
+use termwiz_bindings::chord::{Chord, MAX_KEYS};
+use termwiz_bindings::numbers::reported_key;
+use termwiz_bindings::press::KeyPress;
+
+// Whether these are the numbers of a press.
+fn are_of(numbers: &CKeyPress, press: KeyPress) -> bool
+    ensures { IsTrue result ↔ (numbers.now ≡ numbers_of press) }
+{
+    let own = c_press(press);
+    own.key == numbers.key && own.held == numbers.held && own.detail == numbers.detail
+}
+
+// The press that has these numbers.
+pub(crate) fn press_of(numbers: &CKeyPress) -> Option<KeyPress>
+    ensures some { IfSome result (λ press. AreOfPress numbers.now press) }
+    ensures only { (press : Pressed) → AreOfPress numbers.now press → result ≡ Some press }
+{
+    let key = reported_key(numbers.key, numbers.detail)?;
+    let press = KeyPress::new(key, numbers.held)?;
+    if are_of(numbers, press) {
+        Some(press)
+    } else {
+        None
+    }
+}
+
+// The chord of 1 to 32 presses that have these numbers.
+pub(crate) fn chord_of(keys: &[CKeyPress]) -> Option<Chord>
+    ensures some { IfSome result (λ presses. AreOfChord keys.now presses) }
+    ensures none { IfNone result ((presses : List Pressed) → ¬ AreOfChord keys.now presses) }
+{
+    if keys.is_empty() || keys.len() > MAX_KEYS {
+        return None;
+    }
+    let mut chord = Chord::new();
+    for numbers in keys {
+        chord.push(press_of(numbers)?);
+    }
+    Some(chord)
+}
+
+// Writes as many of the presses as `keys` has room for, and returns how many they are.
+pub(crate) fn copy_presses(chord: &Chord, keys: &mut [CKeyPress]) -> usize
+    ensures count { result ≡ length chord.now }
+    ensures keys { keys.new ≡ with_presses chord.now keys.old }
+{
+    let room = keys.len().min(chord.len());
+    for place in 0..room {
+        let Some(press) = chord.get(place) else {
+            break;
+        };
+        keys[place] = c_press(press);
+    }
+    chord.len()
+}

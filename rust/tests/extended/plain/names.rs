@@ -1,0 +1,366 @@
+// A slow reader and printer of the names of keys. It follows the part "Names" of the page of the crate
+// termwiz_bindings sentence by sentence, and shares nothing with the library but the types.
+use super::presses::{said_of, Press, Said};
+use crate::port::names::PLAIN_KEYS;
+use hedrugal::extended::{
+    KeyEventKind, KeyNameErrorKind as Fault, KeyReport, KittyModifiers as Held, ReportedKey,
+};
+use hedrugal::input::KeyCode::{self, Char};
+
+// What is wrong, and the byte where that part starts.
+pub type Wrong = (Fault, usize);
+
+// The modifiers, in the order in which they are printed: each by its word, by its further words, by the
+// letters of Emacs and by those of Vim.
+const MODIFIERS: &[(Held, &str, &[&str], &str, &str)] = &[
+    (Held::SUPER, "super", &["cmd", "win"], "s", "d"),
+    (Held::HYPER, "hyper", &[], "H", ""),
+    (Held::META, "meta", &[], "", "t"),
+    (Held::CTRL, "ctrl", &["control"], "C", "c"),
+    (Held::ALT, "alt", &["option"], "MA", "ma"),
+    (Held::SHIFT, "shift", &[], "S", "s"),
+];
+
+// Words for keys beside the names of their codes.
+const WORDS: &[(&str, KeyCode)] = &[
+    ("space", Char(' ')),
+    ("spc", Char(' ')),
+    ("up", KeyCode::UpArrow),
+    ("down", KeyCode::DownArrow),
+    ("left", KeyCode::LeftArrow),
+    ("right", KeyCode::RightArrow),
+    ("begin", KeyCode::KeyPadBegin),
+    ("menu", KeyCode::Applications),
+    ("esc", KeyCode::Escape),
+    ("return", KeyCode::Enter),
+    ("ret", KeyCode::Enter),
+    ("cr", KeyCode::Enter),
+    ("kpenter", KeyCode::Enter),
+    ("del", KeyCode::Delete),
+    ("ins", KeyCode::Insert),
+    ("bs", KeyCode::Backspace),
+    ("pgup", KeyCode::PageUp),
+    ("prior", KeyCode::PageUp),
+    ("pgdn", KeyCode::PageDown),
+    ("next", KeyCode::PageDown),
+    ("plus", Char('+')),
+    ("minus", Char('-')),
+    ("comma", Char(',')),
+    ("less", Char('<')),
+    ("lt", Char('<')),
+    ("greater", Char('>')),
+    ("gt", Char('>')),
+    ("bar", Char('|')),
+    ("bslash", Char('\\')),
+    ("kpequal", Char('=')),
+    // A modifier by itself is the name of its key.
+    ("ctrl", KeyCode::Control),
+    ("option", KeyCode::Alt),
+    ("cmd", KeyCode::Super),
+    ("win", KeyCode::Super),
+];
+
+// The characters that are printed as they are, but for those of ASCII.
+const SHOWN: &[(u32, u32)] = &[
+    (0xa1, 0xac),
+    (0xae, 0x2ff),
+    (0x370, 0x377),
+    (0x37a, 0x37f),
+    (0x384, 0x38a),
+    (0x38c, 0x38c),
+    (0x38e, 0x3a1),
+    (0x3a3, 0x482),
+    (0x48a, 0x52f),
+    (0x5d0, 0x5ea),
+    (0x620, 0x64a),
+    (0x10d0, 0x10ff),
+    (0x1e00, 0x1eff),
+    (0x20a0, 0x20bf),
+    (0x3041, 0x3096),
+    (0x30a1, 0x30fa),
+    (0x4e00, 0x9ffc),
+    (0xac00, 0xd7a3),
+];
+
+// The keys that have a name of their own: all but characters, function keys and Windows' Menu.
+fn named_keys() -> impl Iterator<Item = KeyCode> {
+    let keys = PLAIN_KEYS.iter().copied();
+    keys.filter(|key| *key != KeyCode::Menu)
+}
+
+fn lower_name(key: KeyCode) -> String {
+    format!("{key:?}").to_ascii_lowercase()
+}
+
+// The key of a word, which is read in any case.
+fn key_of_word(word: &str) -> Option<KeyCode> {
+    let word = word.to_ascii_lowercase();
+    let listed = WORDS.iter().find(|row| row.0 == word).map(|row| row.1);
+    listed.or_else(|| named_keys().find(|key| lower_name(*key) == word))
+}
+
+// The number behind this word, if the name is the word and digits. The number may be wrong.
+fn numbered(name: &str, word: &str, least: u32, most: u32) -> Option<Result<u32, Fault>> {
+    let front = name.get(..word.len())?;
+    let digits = &name[word.len()..];
+    if !front.eq_ignore_ascii_case(word)
+        || digits.is_empty()
+        || !digits.bytes().all(|byte| byte.is_ascii_digit())
+    {
+        return None;
+    }
+    let number = digits.parse::<u32>().ok();
+    let number = number.filter(|n| n.to_string() == digits && (least..=most).contains(n));
+    Some(number.ok_or(Fault::BadNumber))
+}
+
+// The character by its number, if the name is U+ and 4 to 6 hexadecimal digits.
+fn code_point(name: &str) -> Option<Result<ReportedKey, Fault>> {
+    let digits = name.strip_prefix("U+")?;
+    let is_number =
+        (4..=6).contains(&digits.len()) && digits.bytes().all(|b| b.is_ascii_hexdigit());
+    let number = is_number.then(|| u32::from_str_radix(digits, 16).unwrap())?;
+    let c = char::from_u32(number).ok_or(Fault::BadNumber);
+    Some(c.map(|c| ReportedKey::Named(Char(c))))
+}
+
+// A word, or a number.
+fn word(name: &str) -> Result<ReportedKey, Fault> {
+    if name == "DEL" {
+        return Err(Fault::Ambiguous);
+    }
+    if let Some(number) = numbered(name, "f", 0, 255) {
+        return Ok(ReportedKey::Named(KeyCode::Function(number? as u8)));
+    }
+    if let Some(number) = numbered(name, "kitty", 57344, 63743) {
+        return Ok(ReportedKey::Functional(number?));
+    }
+    let key = key_of_word(name).ok_or(Fault::UnknownName)?;
+    Ok(ReportedKey::Named(key))
+}
+
+fn spelled(name: &str) -> Result<ReportedKey, Fault> {
+    code_point(name).unwrap_or_else(|| word(name))
+}
+
+fn one_character(text: &str) -> Option<char> {
+    let mut characters = text.chars();
+    characters.next().filter(|_| characters.next().is_none())
+}
+
+fn any_name(name: &str) -> Result<ReportedKey, Fault> {
+    match one_character(name) {
+        Some(c) => Ok(ReportedKey::Named(Char(c))),
+        None => spelled(name),
+    }
+}
+
+fn press_of(key: ReportedKey, held: Held) -> Option<Press> {
+    let report = KeyReport {
+        key,
+        modifiers: held,
+        kind: KeyEventKind::Press,
+        shifted: None,
+        base: None,
+        text: String::new(),
+    };
+    match said_of(&report) {
+        Said::Press(press) => Some(press),
+        _ => None,
+    }
+}
+
+// The press of a key that was read, with its modifiers.
+fn press(key: Result<ReportedKey, Fault>, held: Held) -> Result<Press, Fault> {
+    let mut key = key?;
+    // What the key types without modifiers: it may be one of the keypad.
+    if let Some((ReportedKey::Named(Char(c)), _)) = press_of(key, Held::NONE) {
+        let is_bare = c == ' ' || c.is_ascii_alphabetic();
+        if held.contains(Held::SHIFT) && !is_bare {
+            return Err(Fault::ShiftedCharacter);
+        }
+    }
+    if let ReportedKey::Named(Char(c)) = key {
+        if held.contains(Held::CTRL) {
+            key = ReportedKey::Named(Char(c.to_ascii_lowercase()));
+        }
+    }
+    press_of(key, held).ok_or(Fault::NotAKey)
+}
+
+// One more modifier, which stands at this byte.
+fn with(held: Held, modifier: Held, at: usize) -> Result<Held, Wrong> {
+    if held.contains(modifier) {
+        return Err((Fault::ModifierTwice, at));
+    }
+    Ok(held.union(modifier))
+}
+
+fn of_word(word: &str) -> Option<Held> {
+    let is = |known: &&str| known.eq_ignore_ascii_case(word);
+    let row = MODIFIERS
+        .iter()
+        .find(|row| is(&row.1) || row.2.iter().any(is));
+    row.map(|row| row.0)
+}
+
+fn of_emacs_letter(letter: char) -> Option<Held> {
+    let row = MODIFIERS.iter().find(|row| row.3.contains(letter));
+    row.map(|row| row.0)
+}
+
+fn of_vim_letter(letter: char) -> Option<Held> {
+    let row = MODIFIERS
+        .iter()
+        .find(|row| row.4.contains(letter.to_ascii_lowercase()));
+    row.map(|row| row.0)
+}
+
+// The letters in front of a name, each with `-` behind it: what they stand for, and where the name is.
+fn letters(text: &str, of: impl Fn(char) -> Option<Held>) -> Result<(Held, usize), Wrong> {
+    let (mut held, mut at) = (Held::NONE, 0);
+    while let [letter, b'-', ..] = text.as_bytes()[at..] {
+        let Some(modifier) = of(char::from(letter)) else {
+            break;
+        };
+        held = with(held, modifier, at)?;
+        at += 2;
+    }
+    Ok((held, at))
+}
+
+// What stands between brackets.
+fn in_brackets(text: &str) -> Option<&str> {
+    let inner = text.strip_prefix('<')?.strip_suffix('>')?;
+    Some(inner).filter(|inner| !inner.is_empty())
+}
+
+// `<C-x>`
+fn vim_key(inner: &str) -> Result<Press, Wrong> {
+    let (held, at) = letters(inner, of_vim_letter)?;
+    let name = &inner[at..];
+    if name.is_empty() {
+        return Err((Fault::MissingKey, at));
+    }
+    // A character stands only behind a letter.
+    let key = if at == 0 {
+        spelled(name)
+    } else {
+        any_name(name)
+    };
+    press(key, held).map_err(|fault| (fault, at))
+}
+
+// `C-x`, `C-<f5>`
+fn emacs_key(text: &str) -> Result<Press, Wrong> {
+    let (held, at) = letters(text, of_emacs_letter)?;
+    let name = &text[at..];
+    if name.is_empty() {
+        return Err((Fault::MissingKey, at));
+    }
+    match in_brackets(name) {
+        Some(inner) => press(word(inner), held).map_err(|fault| (fault, at + 1)),
+        None => press(any_name(name), held).map_err(|fault| (fault, at)),
+    }
+}
+
+// `ctrl+x`
+fn worded_key(text: &str) -> Result<Press, Wrong> {
+    let (mut held, mut at) = (Held::NONE, 0);
+    loop {
+        let rest = &text[at..];
+        // A separator has a word in front of it.
+        let separator = rest
+            .char_indices()
+            .skip(1)
+            .find(|(_, c)| matches!(c, '+' | '-'));
+        let Some((end, _)) = separator.filter(|(end, _)| one_character(&rest[..*end]).is_none())
+        else {
+            break;
+        };
+        let Some(modifier) = of_word(&rest[..end]) else {
+            return Err((Fault::UnknownModifier, at));
+        };
+        held = with(held, modifier, at)?;
+        at += end + 1;
+    }
+    let name = &text[at..];
+    if name.is_empty() {
+        return Err((Fault::MissingKey, at));
+    }
+    press(any_name(name), held).map_err(|fault| (fault, at))
+}
+
+fn key(text: &str) -> Result<Press, Wrong> {
+    if let Some(inner) = in_brackets(text) {
+        return vim_key(inner).map_err(|(fault, at)| (fault, at + 1));
+    }
+    let mut characters = text.chars();
+    let begins = characters.next().and_then(of_emacs_letter).is_some();
+    if begins && characters.next() == Some('-') && characters.next().is_some() {
+        return emacs_key(text);
+    }
+    worded_key(text)
+}
+
+// The presses that a text names.
+pub fn read(text: &str) -> Result<Vec<Press>, Wrong> {
+    let is_blank = |c: char| c == ' ' || c == '\t';
+    let is_control = |(_, c): &(usize, char)| c.is_control() && *c != '\t';
+    if let Some((at, _)) = text.char_indices().find(is_control) {
+        return Err((Fault::ControlCharacter, at));
+    }
+    let mut presses = Vec::new();
+    let mut at = 0;
+    loop {
+        let rest = &text[at..];
+        let Some(start) = rest.find(|c| !is_blank(c)) else {
+            break;
+        };
+        at += start;
+        if presses.len() == 32 {
+            return Err((Fault::TooLong, at));
+        }
+        let rest = &text[at..];
+        let end = rest.find(is_blank).unwrap_or(rest.len());
+        presses.push(key(&rest[..end]).map_err(|(fault, inside)| (fault, at + inside))?);
+        at += end;
+    }
+    if presses.is_empty() {
+        return Err((Fault::Empty, 0));
+    }
+    Ok(presses)
+}
+
+fn printed_key(key: ReportedKey) -> String {
+    match key {
+        ReportedKey::Functional(number) => format!("kitty{number}"),
+        ReportedKey::Named(Char(' ')) => "space".to_string(),
+        ReportedKey::Named(Char(c)) => {
+            let number = u32::from(c);
+            let is_shown = SHOWN
+                .iter()
+                .any(|range| (range.0..=range.1).contains(&number));
+            if c.is_ascii_graphic() || is_shown {
+                c.to_string()
+            } else {
+                format!("U+{number:04X}")
+            }
+        }
+        ReportedKey::Named(KeyCode::Function(number)) => format!("f{number}"),
+        ReportedKey::Named(KeyCode::UpArrow) => "up".to_string(),
+        ReportedKey::Named(KeyCode::DownArrow) => "down".to_string(),
+        ReportedKey::Named(KeyCode::LeftArrow) => "left".to_string(),
+        ReportedKey::Named(KeyCode::RightArrow) => "right".to_string(),
+        ReportedKey::Named(KeyCode::KeyPadBegin) => "begin".to_string(),
+        ReportedKey::Named(KeyCode::Applications) => "menu".to_string(),
+        ReportedKey::Named(key) => lower_name(key),
+    }
+}
+
+// The name of a press.
+pub fn print((key, held): Press) -> String {
+    let modifiers = MODIFIERS.iter().filter(|row| held.contains(row.0));
+    let modifiers: String = modifiers.map(|row| format!("{}+", row.1)).collect();
+    modifiers + &printed_key(key)
+}
