@@ -37,7 +37,7 @@ pub enum KeyNameErrorKind {
     /// `shift+1`.
     ShiftedCharacter,
     /// The text has more keys than a [`Chord`] may have, or more than the one of a
-    /// [`KeyPress`](super::KeyPress).
+    /// [`KeyPress`].
     TooLong,
     /// No key is in the text.
     Empty,
