@@ -300,7 +300,7 @@ class KeyNameErrorKind(_Named):
     MODIFIER_TWICE = _NAMED_MODIFIER_TWICE  # A modifier is there twice, as in M-A-x.
     UNKNOWN_MODIFIER = _NAMED_UNKNOWN_MODIFIER  # A word before + or - is no modifier.
     MISSING_KEY = _NAMED_MISSING_KEY  # No key stands behind the modifiers, as in ctrl+.
-    BAD_NUMBER = _NAMED_BAD_NUMBER  # A number names no key, as in f256, or has zeros in front.
+    BAD_NUMBER = _NAMED_BAD_NUMBER  # A number names no key, as in f256 and f01.
     UNKNOWN_NAME = _NAMED_UNKNOWN_NAME  # No key has this name.
     # DEL in capitals is Backspace to Emacs, and Delete to others: write backspace or delete.
     AMBIGUOUS = _NAMED_AMBIGUOUS

@@ -24,7 +24,7 @@ pub enum KeyNameErrorKind {
     UnknownModifier,
     /// No key stands behind the modifiers, as in `ctrl+`.
     MissingKey,
-    /// A number names no key, as in `f256`, `kitty1` or `U+D800`, or has zeros in front.
+    /// A number names no key, as in `f256`, `f01`, `kitty1` or `U+D800`.
     BadNumber,
     /// No key has this name.
     UnknownName,
