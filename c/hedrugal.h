@@ -863,7 +863,7 @@ enum hed_named {
   HED_NAMED_MODIFIER_TWICE = 2, /* A modifier is there twice, as in `M-A-x`. */
   HED_NAMED_UNKNOWN_MODIFIER = 3, /* A word before `+` or `-` is no modifier, as in `foo+x`. */
   HED_NAMED_MISSING_KEY = 4, /* No key stands behind the modifiers, as in `ctrl+`. */
-  HED_NAMED_BAD_NUMBER = 5, /* A number names no key, as in `f256`, `kitty1` or `U+D800`, or has zeros in front. */
+  HED_NAMED_BAD_NUMBER = 5, /* A number names no key, as in `f256`, `f01`, `kitty1` or `U+D800`. */
   HED_NAMED_UNKNOWN_NAME = 6, /* No key has this name. */
   HED_NAMED_AMBIGUOUS = 7, /* `DEL` in capitals is Backspace to Emacs, and Delete to others: write `backspace` or `delete`. */
   HED_NAMED_NOT_A_KEY = 8, /* The key makes no press by itself, as a modifier or a lock. */

@@ -294,7 +294,7 @@ CASES = {
             ],
         ),
         (b"\x1b\x1bO2P", [KeyEvent(KeyCode.ESCAPE), KeyReport(Function(1), SHIFT)]),
-        (b"\x1b\x1b[35~", [KeyEvent(KeyCode.ESCAPE), KeyReport(Function(21))]),
+        (b"\x1b\x1b[35~", [KeyReport(Function(21), ALT)]),
         (b"\x1b\x1b[97;5:3u", [KeyEvent(KeyCode.ESCAPE), KeyReport("a", CTRL, RELEASE)]),
         (b"\x1b\x1b[24;80R", [KeyEvent(KeyCode.ESCAPE), CursorPosition(24, 80)]),
     ],

@@ -264,15 +264,13 @@ class KeyPress:
         >>> with ExtendedParser(Protocol.KITTY) as parser:
         ...     events = parser.parse(b"\x1b[65;5u\x1b[97;70u\x1bOA")
         >>> for event in events:
-        ...     print(KeyPress.of_event(event))
-        KeyPress(key='a', held=KittyModifiers.SHIFT|CTRL)
-        KeyPress(key='a', held=KittyModifiers.SHIFT|CTRL)
-        KeyPress(key=KeyCode.UP_ARROW, held=KittyModifiers.NONE)
+        ...     press = KeyPress.of_event(event)
+        ...     print(press, repr(press.key), press.held)
+        ctrl+shift+a 'a' KittyModifiers.SHIFT|CTRL
+        ctrl+shift+a 'a' KittyModifiers.SHIFT|CTRL
+        up KeyCode.UP_ARROW KittyModifiers.NONE
 
-    Its text is its name, which `Chord.read` reads:
-
-        >>> str(KeyPress("a", KittyModifiers.CTRL | KittyModifiers.SHIFT))
-        'ctrl+shift+a'
+    It is printed by its name, which `Chord.read` reads.
 
     Letters, digits and signs are the characters that they type: Shift with a is A. So SHIFT is held
     only with keys that have a name, with the space, and with a to z where CTRL, SUPER, HYPER or
@@ -342,7 +340,7 @@ class KeyNameErrorKind(_Named):
     MODIFIER_TWICE = _NAMED_MODIFIER_TWICE  # A modifier is there twice, as in M-A-x.
     UNKNOWN_MODIFIER = _NAMED_UNKNOWN_MODIFIER  # A word before + or - is no modifier.
     MISSING_KEY = _NAMED_MISSING_KEY  # No key stands behind the modifiers, as in ctrl+.
-    BAD_NUMBER = _NAMED_BAD_NUMBER  # A number names no key, as in f256, or has zeros in front.
+    BAD_NUMBER = _NAMED_BAD_NUMBER  # A number names no key, as in f256 and f01.
     UNKNOWN_NAME = _NAMED_UNKNOWN_NAME  # No key has this name.
     # DEL in capitals is Backspace to Emacs, and Delete to others: write backspace or delete.
     AMBIGUOUS = _NAMED_AMBIGUOUS

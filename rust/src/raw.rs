@@ -146,7 +146,7 @@ pub const NAMED_MODIFIER_TWICE: u32 = 2;
 pub const NAMED_UNKNOWN_MODIFIER: u32 = 3;
 /// No key stands behind the modifiers, as in `ctrl+`.
 pub const NAMED_MISSING_KEY: u32 = 4;
-/// A number names no key, as in `f256`, `kitty1` or `U+D800`, or has zeros in front.
+/// A number names no key, as in `f256`, `f01`, `kitty1` or `U+D800`.
 pub const NAMED_BAD_NUMBER: u32 = 5;
 /// No key has this name.
 pub const NAMED_UNKNOWN_NAME: u32 = 6;

@@ -5,8 +5,8 @@
 mod malloc;
 
 use hedrugal::extended::{
-    ExtendedEvent, ExtendedParser, KeyEventKind, KeyReport, KittyEncodeError, KittyModifiers,
-    Protocol, Reading, ReportedKey, StringKind,
+    Chord, ExtendedEvent, ExtendedParser, KeyEventKind, KeyReport, KittyEncodeError,
+    KittyModifiers, Protocol, Reading, ReportedKey, StringKind,
 };
 use hedrugal::input::{
     AllocError, EncodeError, InputEvent, InputParser, KeyCode, KeyCodeEncodeModes, KeyboardEncoding,
@@ -14,6 +14,7 @@ use hedrugal::input::{
 use hedrugal::input::{KittyKeyboardFlags, Modifiers, ParseError, Policy, Waiting};
 use hedrugal::keymap::{Found, InsertError, KeyMap};
 use malloc::{in_use, refusing};
+use std::fmt::Write;
 use std::time::{Duration, Instant};
 
 const STREAM: &[u8] =
@@ -228,6 +229,24 @@ fn reads_replies_after_a_refusal() {
             assert_eq!((told, refused), (Err(AllocError), 1), "{event:?}");
             assert_eq!(event.try_reply().as_ref(), Ok(&whole));
         }
+    }
+}
+
+// Names are read without memory. To print one takes some: a refusal is told, and nothing is written.
+#[test]
+fn prints_names_after_a_refusal() {
+    let name = "super+hyper+meta+ctrl+alt+shift+up U+10FFFF";
+    let (chord, refused) = refusing(1, || name.parse::<Chord>().unwrap());
+    assert_eq!(refused, 0);
+    for number in 1.. {
+        let mut text = String::with_capacity(64);
+        let (told, refused) = refusing(number, || write!(text, "{chord}"));
+        assert_eq!((told.is_err(), text.is_empty()), (refused > 0, refused > 0));
+        if refused == 0 {
+            assert!(number > 1 && text == name);
+            break;
+        }
+        assert_eq!((refused, chord.to_string().as_str()), (1, name));
     }
 }
 

@@ -13,6 +13,7 @@ pub mod NewlineEnters
 pub mod OtherCodes
 pub mod OwnTwins
 pub mod PortPresses
+pub mod Readers
 pub mod RowReports
 pub mod SameTexts
 pub mod WideCharacters

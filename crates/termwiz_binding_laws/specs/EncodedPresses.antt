@@ -1,14 +1,15 @@
 -- What is read of the texts of keys, as presses.
-use Rattle.std.specs.Prelude.{◌≡◌, ◌≢◌, ⊤, ◌+◌, ◌≤◌, ◌==◌, ℕ, Bool, true, false, not, ◌&&◌, ◌||◌, List, [], ◌∷◌, ◌++◌, map, Option, Some, option_and_then, Contains}
+use Rattle.std.specs.Prelude.{◌≡◌, ◌≢◌, ⊤, ◌+◌, ◌≤◌, ◌==◌, ℕ, Bool, true, false, not, ◌&&◌, ◌||◌, List, [], ◌∷◌, ◌++◌, map, nat_le, Option, Some, option_and_then, Contains}
 use Rattle.std.specs.Char.{IsScalar}
 use Rattle.termwiz_keys.specs.declared.types.KeyCode.{KeyCode}
-use Rattle.termwiz_keys.specs.declared.types.KeyCode.TheVariants.{Char, Function, Backspace, Tab, Enter, Numpad0, Numpad1, Numpad2, Numpad3, Numpad4, Numpad5, Numpad6, Numpad7, Numpad8, Numpad9, Decimal}
+use Rattle.termwiz_keys.specs.declared.types.KeyCode.TheVariants.{Char, Function, Backspace, Tab, Enter, KeyPadBegin, Numpad0, Numpad1, Numpad2, Numpad3, Numpad4, Numpad5, Numpad6, Numpad7, Numpad8, Numpad9, Decimal}
 use Rattle.termwiz_keys.specs.declared.types.KeyEvent.{KeyEvent}
 use Rattle.termwiz_keys.specs.declared.types.InputEvent.TheVariants as input
 use Rattle.termwiz_keys.specs.declared.encode.KeyCodeEncodeModes.{KeyCodeEncodeModes}
 use Rattle.termwiz_keys.specs.Encoding.{enc}
 use Rattle.termwiz_keys.specs.Keys.{NONE, SHIFT, CTRL, key_with}
 use Rattle.termwiz_keys.specs.KeyCodes.{holds}
+use Rattle.termwiz_grammar.specs.Grammar as port
 use Rattle.termwiz_grammar.specs.Listed.{any_of_three}
 use Rattle.termwiz_extended_events.specs.declared.types.ExtendedEvent.{ExtendedEvent}
 use Rattle.termwiz_extended_events.specs.declared.types.ExtendedEvent.TheVariants.{Input}
@@ -19,7 +20,7 @@ use Rattle.termwiz_extended_grammar.specs.ExtendedGrammar.{Means}
 use Rattle.termwiz_extended_grammar.specs.Readings.{first_reading}
 use Rattle.termwiz_bindings.specs.declared.press.KeyPress.{KeyPress}
 use Rattle.termwiz_bindings.specs.Presses.{canonical, event_report}
-use Rattle.termwiz_binding_laws.specs.Twins.{SUPER, only_alt, twin}
+use Rattle.termwiz_binding_laws.specs.Twins.{SUPER, only_alt, is_on, twin}
 
 -- a parser as it begins, before Kitty's protocol: X10 mouse reports aren't read, and no question is open
 abbrev pub at_first : Reading
@@ -82,6 +83,22 @@ abbrev pub PressesInEveryReading : Type 0
 PressesInEveryReading = (reading : Reading) (key : KeyCode) (held : ℕ) (modes : KeyCodeEncodeModes) (text : List ℕ) → IsCovered key
     → Contains any_of_four held → is_newline key held modes ≡ false → is_position key held ≡ false
     → enc key (record { 0 = held }) modes ≡ Some text → text ≢ [] → IsReadAsKey reading text (twin key held modes)
+
+-- With no more to come, the parser of the port reads the text as one key, with this press.
+abbrev pub IsReadByPort : List ℕ → KeyPress → Type 0
+IsReadByPort text p = (k : KeyEvent) × port.Means text false (input.Key k ∷ []) [] × (press_of_key k ≡ Some p)
+
+-- The port knows no text of the key: it is the middle key of the keypad, or a character beyond ASCII that is sent by its code.
+abbrev pub is_unknown_to_port : KeyCode → ℕ → KeyCodeEncodeModes → Bool
+is_unknown_to_port (Char c) held modes = nat_le 128 c && (is_on modes && not (held == NONE))
+is_unknown_to_port KeyPadBegin held modes = true
+is_unknown_to_port key held modes = false
+
+-- The parser of the port reads any other key as that press too.
+abbrev pub PressesByPort : Type 0
+PressesByPort = (key : KeyCode) (held : ℕ) (modes : KeyCodeEncodeModes) (text : List ℕ) → IsCovered key → Contains any_of_four held
+    → is_newline key held modes ≡ false → is_unknown_to_port key held modes ≡ false → enc key (record { 0 = held }) modes ≡ Some text
+    → text ≢ [] → (p : KeyPress) × (press_of_key (twin key held modes) ≡ Some p) × IsReadByPort text p
 
 -- Enter in newline mode is read as Enter twice, the second time without ALT.
 abbrev pub NewlinesAreTwoEnters : Type 0

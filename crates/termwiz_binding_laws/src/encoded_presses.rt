@@ -1,5 +1,5 @@
 //! Laws of presses and the port's encoder: what a key sends is read as the press of its twin.
-ghost use Rattle.termwiz_binding_laws.specs.EncodedPresses.{NewlinesAreTwoEnters, PressesInEveryReading, PressesOfEncodedKeys, TwinsAreTheirOwn, TwinsReadAlike, TwinsSendTheSame};
+ghost use Rattle.termwiz_binding_laws.specs.EncodedPresses.{NewlinesAreTwoEnters, PressesByPort, PressesInEveryReading, PressesOfEncodedKeys, TwinsAreTheirOwn, TwinsReadAlike, TwinsSendTheSame};
 
 /// What a key sends is read as exactly one key, and this has the press of the key's twin. So it is for every set of SHIFT, ALT, CTRL and
 /// SUPER, in all modes and encodings of `KeyCode::encode`, with no more bytes to come. The parser is as it begins, before Kitty's
@@ -16,6 +16,12 @@ pub fn presses_of_encoded_keys()
 /// position, and is read as one under Kitty's protocol, and while a question for the position is open.
 pub fn presses_in_every_reading()
     ensures { PressesInEveryReading }
+{}
+
+/// The parser of the port reads the same press of what a key sends. It knows no text of the middle key of the keypad, and no code of a character
+/// from U+0080 on.
+pub fn presses_by_port()
+    ensures { PressesByPort }
 {}
 
 /// Enter in newline mode, without SHIFT and CTRL, is read as Enter twice, the second time without ALT.

@@ -14,37 +14,50 @@ use crate::press::KeyPress;
 use chords::{push_chord, read_chord};
 use printing::push_press;
 use std::alloc::{AllocError, Global};
+use thiserror::Error;
 
 /// What is wrong with a text that [`read`] refused.
-#[derive(Clone, Copy, PartialEq, Eq, Debug)]
+#[derive(Clone, Copy, PartialEq, Eq, Debug, Error)]
 pub enum ReadErrorKind {
     /// A control character but the tab stands in the text.
+    #[error("a control character")]
     ControlCharacter,
     /// A modifier is written twice, as in `ctrl+ctrl+x` or `M-A-x`.
+    #[error("a modifier is written twice")]
     ModifierTwice,
     /// A word before `+` or `-` is no modifier, as in `foo+x`.
+    #[error("no modifier has this name")]
     UnknownModifier,
     /// No key stands behind the modifiers, as in `ctrl+`.
+    #[error("no key stands behind the modifiers")]
     MissingKey,
     /// A number names no key: no character has it, as `U+D800`, or it isn't in the table, as in `f256` and `kitty1`. Leading zeros
     /// are wrong too, but not behind `U+`.
+    #[error("no key has this number")]
     BadNumber,
     /// No key has this name.
+    #[error("no key has this name")]
     UnknownName,
     /// The name `DEL` in capitals is Backspace to Emacs, and Delete to others. Write `backspace` or `delete`.
+    #[error("`DEL` may be Backspace or Delete")]
     Ambiguous,
     /// The key makes no press by itself: a modifier, a lock or a mark of a paste.
+    #[error("the key makes no press by itself")]
     NotAKey,
     /// Shift is written with a character that isn't a letter of ASCII. Write the character that it types, as `!` for `shift+1`.
+    #[error("Shift stands with a character: write what it types")]
     ShiftedCharacter,
     /// The text has more keys than a chord may have.
+    #[error("too many keys")]
     TooLong,
     /// The text has no key.
+    #[error("no key")]
     Empty,
 }
 
 /// Why a text isn't the name of a key or of a chord, and where. A program shows its user that place of the text.
-#[derive(Clone, Copy, PartialEq, Eq, Debug)]
+#[derive(Clone, Copy, PartialEq, Eq, Debug, Error)]
+#[error("byte {at}: {kind}")]
 pub struct ReadError {
     /// What is wrong.
     pub kind: ReadErrorKind,

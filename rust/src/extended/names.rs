@@ -1,7 +1,8 @@
 // The names of keys: read and printed by the library.
-use super::Chord;
-use crate::input::FAULT;
+use super::{Chord, KeyPress, KittyModifiers, ReportedKey};
+use crate::input::{KeyCode, KeyEvent, Modifiers, FAULT};
 use crate::raw;
+use std::str::FromStr;
 use std::{error, fmt, str};
 
 /// What is wrong with a text that should name keys.
@@ -23,19 +24,20 @@ pub enum KeyNameErrorKind {
     UnknownModifier,
     /// No key stands behind the modifiers, as in `ctrl+`.
     MissingKey,
-    /// A number names no key, as in `f256`, `kitty1` or `U+D800`, or has zeros in front.
+    /// A number names no key, as in `f256`, `f01`, `kitty1` or `U+D800`.
     BadNumber,
     /// No key has this name.
     UnknownName,
     /// `DEL` in capitals is Backspace to Emacs, and Delete to others. Write `backspace` or `delete`.
     Ambiguous,
-    /// The key makes no press by itself, as a modifier or a lock.
+    /// The key makes no press by itself, as a modifier or a lock. Of a [`KeyEvent`] or a
+    /// [`KeyCode`] it is also a key or a modifier that these can't have.
     NotAKey,
     /// Shift with a character that isn't a letter of ASCII. Write what it types, as `!` for
     /// `shift+1`.
     ShiftedCharacter,
     /// The text has more keys than a [`Chord`] may have, or more than the one of a
-    /// [`KeyPress`](super::KeyPress).
+    /// [`KeyPress`].
     TooLong,
     /// No key is in the text.
     Empty,
@@ -153,5 +155,87 @@ pub(super) fn print(keys: &[raw::KeyPress], f: &mut fmt::Formatter<'_>) -> fmt::
         }
         raw::PRINTED_NO_MEMORY => Err(fmt::Error),
         _ => unreachable!("{FAULT}"),
+    }
+}
+
+// Whether a character parts the keys of a text.
+pub(super) fn is_blank(c: char) -> bool {
+    c == ' ' || c == '\t'
+}
+
+// What has no name here is the key that a text names.
+fn not_a_key(text: &str) -> KeyNameError {
+    KeyNameError {
+        kind: KeyNameErrorKind::NotAKey,
+        at: text.len() - text.trim_start_matches(is_blank).len(),
+    }
+}
+
+// Prints the name of a press. A key that makes none is printed by its name in lower case.
+fn print_or_name(press: Option<KeyPress>, key: KeyCode, f: &mut fmt::Formatter<'_>) -> fmt::Result {
+    match press {
+        Some(press) => fmt::Display::fmt(&press, f),
+        None => f.pad(&format!("{key:?}").to_ascii_lowercase()),
+    }
+}
+
+/// Prints the name of the key's press, as `up` or `A`. A key that makes no press by itself is
+/// printed by its name in lower case, as `leftshift`.
+impl fmt::Display for KeyCode {
+    fn fmt(&self, f: &mut fmt::Formatter<'_>) -> fmt::Result {
+        let press = KeyPress::new(ReportedKey::Named(*self), KittyModifiers::NONE);
+        print_or_name(press, *self, f)
+    }
+}
+
+/// Reads the name of a key without modifiers, and returns the key of its press: `up` is `UpArrow`,
+/// and `numpad5` is `Char('5')`. It is `NotAKey` if modifiers are held with the press, or the key has
+/// no [`KeyCode`].
+impl FromStr for KeyCode {
+    type Err = KeyNameError;
+
+    fn from_str(text: &str) -> Result<KeyCode, KeyNameError> {
+        match text.parse::<KeyEvent>()? {
+            KeyEvent { key, modifiers } if modifiers == Modifiers::NONE => Ok(key),
+            _ => Err(not_a_key(text)),
+        }
+    }
+}
+
+/// Prints the name of the event's press, as `ctrl+shift+up`. Events that are one press have one
+/// name. A key that makes no press by itself is printed by its name in lower case, as `leftshift`.
+impl fmt::Display for KeyEvent {
+    fn fmt(&self, f: &mut fmt::Formatter<'_>) -> fmt::Result {
+        print_or_name(KeyPress::of_event(self), self.key, f)
+    }
+}
+
+/// Reads the name of one press, and returns the event that has its key and its modifiers. It is
+/// `NotAKey` if Hyper or Meta is held with it, or the key has no [`KeyCode`].
+impl FromStr for KeyEvent {
+    type Err = KeyNameError;
+
+    fn from_str(text: &str) -> Result<KeyEvent, KeyNameError> {
+        const MODIFIERS: [(KittyModifiers, Modifiers); 4] = [
+            (KittyModifiers::SHIFT, Modifiers::SHIFT),
+            (KittyModifiers::ALT, Modifiers::ALT),
+            (KittyModifiers::CTRL, Modifiers::CTRL),
+            (KittyModifiers::SUPER, Modifiers::SUPER),
+        ];
+        let press: KeyPress = text.parse()?;
+        let ReportedKey::Named(key) = press.key() else {
+            return Err(not_a_key(text));
+        };
+        let (mut left, mut modifiers) = (press.held(), Modifiers::NONE);
+        for (held, modifier) in MODIFIERS {
+            if left.contains(held) {
+                left = left.difference(held);
+                modifiers = modifiers.union(modifier);
+            }
+        }
+        if left != KittyModifiers::NONE {
+            return Err(not_a_key(text));
+        }
+        Ok(KeyEvent { key, modifiers })
     }
 }

@@ -237,10 +237,9 @@ impl FromStr for KeyPress {
 
 // The byte where the second key of a text starts. Blanks part its keys.
 fn second_key(text: &str) -> usize {
-    let is_blank = |c| c == ' ' || c == '\t';
-    let first = text.trim_start_matches(is_blank);
-    let behind = first.trim_start_matches(|c| !is_blank(c));
-    text.len() - behind.trim_start_matches(is_blank).len()
+    let first = text.trim_start_matches(names::is_blank);
+    let behind = first.trim_start_matches(|c| !names::is_blank(c));
+    text.len() - behind.trim_start_matches(names::is_blank).len()
 }
 
 impl PartialOrd for KeyPress {

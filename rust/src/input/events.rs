@@ -13,6 +13,18 @@ use crate::raw;
 /// };
 /// assert_eq!(format!("{event:?}"), "KeyEvent { key: Char('x'), modifiers: Modifiers(ALT) }");
 /// ```
+///
+/// It is printed by the [name](crate::extended::Chord) of its [press](crate::extended::KeyPress), and
+/// read from one:
+///
+/// ```
+/// use hedrugal::input::{KeyCode, KeyEvent, Modifiers};
+///
+/// let event: KeyEvent = "C-S-a".parse().unwrap();
+/// assert_eq!(event.key, KeyCode::Char('a'));
+/// assert_eq!(event.modifiers, Modifiers::CTRL.union(Modifiers::SHIFT));
+/// assert_eq!(event.to_string(), "ctrl+shift+a");
+/// ```
 #[derive(Debug, Clone, PartialEq, Eq, Hash)]
 #[cfg_attr(feature = "use_serde", derive(serde::Serialize, serde::Deserialize))]
 pub struct KeyEvent {

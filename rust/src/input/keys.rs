@@ -11,6 +11,16 @@
 /// assert_eq!(format!("{:?}", KeyCode::Function(5)), "Function(5)");
 /// assert_ne!(KeyCode::Char('a'), KeyCode::Char('A'));
 /// ```
+///
+/// A key is printed by its [name](crate::extended::Chord), and read from one. That is the key of its
+/// [press](crate::extended::KeyPress):
+///
+/// ```
+/// use hedrugal::input::KeyCode;
+///
+/// assert_eq!(KeyCode::ApplicationUpArrow.to_string(), "up");
+/// assert_eq!("pgdn".parse(), Ok(KeyCode::PageDown));
+/// ```
 #[derive(Debug, Clone, Copy, PartialEq, Eq, PartialOrd, Ord, Hash)]
 #[cfg_attr(feature = "use_serde", derive(serde::Serialize, serde::Deserialize))]
 pub enum KeyCode {

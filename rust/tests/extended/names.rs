@@ -185,6 +185,71 @@ fn keys_and_modifiers_make_presses() {
     assert_eq!(events.len(), 2);
 }
 
+// Keys and events of the port are printed by their presses, and read from their names.
+#[test]
+fn keys_and_events_have_names() {
+    let event = |key, modifiers| KeyEvent { key, modifiers };
+    let (none, ctrl) = (Modifiers::NONE, Modifiers::CTRL);
+    let all = [Modifiers::SHIFT, Modifiers::ALT, Modifiers::SUPER];
+    let all = all.into_iter().fold(ctrl, Modifiers::union);
+    let rows = [
+        (event(KeyCode::Char('x'), ctrl), "ctrl+x"),
+        (event(KeyCode::Char('\t'), none), "tab"),
+        (
+            event(KeyCode::ApplicationUpArrow, all),
+            "super+ctrl+alt+shift+up",
+        ),
+        (event(KeyCode::Char('a'), Modifiers::SHIFT), "A"),
+        (
+            event(KeyCode::Char('a'), ctrl.union(Modifiers::LEFT_CTRL)),
+            "ctrl+a",
+        ),
+        (event(KeyCode::Function(5), none), "f5"),
+    ];
+    for (event, name) in rows {
+        assert_eq!(event.to_string(), name);
+        let read: KeyEvent = name.parse().unwrap();
+        assert_eq!(
+            KeyPress::of_event(&read),
+            KeyPress::of_event(&event),
+            "{name}"
+        );
+        assert_eq!(read.to_string(), name);
+    }
+    assert_eq!(event(KeyCode::LeftShift, ctrl).to_string(), "leftshift");
+    assert_eq!(" C-Up".parse(), Ok(event(KeyCode::UpArrow, ctrl)));
+    assert_eq!(KeyCode::Numpad5.to_string(), "5");
+    assert_eq!(KeyCode::CapsLock.to_string(), "capslock");
+    assert_eq!(format!("{:>6}", KeyCode::Tab), "   tab");
+    assert_eq!("numpad5".parse(), Ok(KeyCode::Char('5')));
+    assert_eq!("begin".parse(), Ok(KeyCode::KeyPadBegin));
+    let wrong = |kind, at| KeyNameError { kind, at };
+    for text in ["\thyper+x", "\tmeta+x", "\tkitty57428", "\tcapslock"] {
+        assert_eq!(
+            text.parse::<KeyEvent>(),
+            Err(wrong(KeyNameErrorKind::NotAKey, 1)),
+            "{text}"
+        );
+        assert_eq!(
+            text.parse::<KeyCode>(),
+            Err(wrong(KeyNameErrorKind::NotAKey, 1)),
+            "{text}"
+        );
+    }
+    assert_eq!(
+        "ctrl+x".parse::<KeyCode>(),
+        Err(wrong(KeyNameErrorKind::NotAKey, 0))
+    );
+    assert_eq!(
+        "a b".parse::<KeyCode>(),
+        Err(wrong(KeyNameErrorKind::TooLong, 2))
+    );
+    assert_eq!(
+        "shift+1".parse::<KeyEvent>(),
+        Err(wrong(KeyNameErrorKind::ShiftedCharacter, 6))
+    );
+}
+
 // Each press is printed as the rules say, and read back.
 #[test]
 fn presses_are_read_back() {

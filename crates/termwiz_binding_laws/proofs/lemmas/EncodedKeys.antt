@@ -6,10 +6,13 @@ use Rattle.std.proofs.lemmas.List.Sums.{AllPass-from_list_all}
 use Rattle.std.proofs.lemmas.List.Elements.{All-contains, Contains-append_left, Contains-append_right}
 use Rattle.termwiz_keys.specs.declared.types.KeyCode.{KeyCode}
 use Rattle.termwiz_keys.specs.declared.types.KeyCode.TheVariants.{Char, Backspace, Tab, Enter, Escape, End, Home, LeftArrow, RightArrow, UpArrow, DownArrow, Insert, Delete, PageUp, PageDown, KeyPadHome, KeyPadEnd, KeyPadPageUp, KeyPadPageDown, KeyPadBegin, ApplicationLeftArrow, ApplicationRightArrow, ApplicationUpArrow, ApplicationDownArrow, Function, Numpad0, Numpad1, Numpad2, Numpad3, Numpad4, Numpad5, Numpad6, Numpad7, Numpad8, Numpad9, Decimal}
+use Rattle.termwiz_keys.specs.declared.types.KeyEvent.{KeyEvent}
+use Rattle.termwiz_keys.specs.declared.types.InputEvent.TheVariants as input
 use Rattle.termwiz_keys.specs.declared.encode.KeyCodeEncodeModes.{KeyCodeEncodeModes}
 use Rattle.termwiz_keys.specs.Encoding.{enc, key_text, normal_key, named_key, keypad_text, keypad_number_text, keypad_letter_text}
 use Rattle.termwiz_keys.specs.Keys.{NONE, SHIFT, CTRL}
 use Rattle.termwiz_keys.specs.KeyCodes.{holds, shifted}
+use Rattle.termwiz_grammar.specs.Grammar as port
 use Rattle.termwiz_grammar.specs.Table.{numbers}
 use Rattle.termwiz_grammar.proofs.lemmas.lists.ListMembers.{pairs, in_map, in_pairs, same_on}
 use Rattle.termwiz_grammar.proofs.lemmas.read_back.RuleReader.{AreRows, rows_for_are}
@@ -17,18 +20,24 @@ use Rattle.termwiz_laws.proofs.lemmas.further_keys.ComputedReadings.{mode, chars
 use Rattle.termwiz_laws.proofs.lemmas.further_keys.FurtherReadings.{bits}
 use Rattle.termwiz_laws.proofs.lemmas.further_keys.OtherKeys.{function_range}
 use Rattle.termwiz_laws.proofs.lemmas.further_keys.SingleKey.{among, among_contains}
-use Rattle.termwiz_extended_events.specs.declared.types.Reading.{Reading}
+use Rattle.termwiz_extended_events.specs.declared.types.ExtendedEvent.TheVariants.{Input}
+use Rattle.termwiz_extended_events.specs.EventKeys.{pressed_key}
 use Rattle.termwiz_kitty.proofs.lemmas.PortKeys.{at_number}
+use Rattle.termwiz_bindings.specs.declared.press.KeyPress.{KeyPress}
+use Rattle.termwiz_bindings.specs.Presses.{canonical}
 use Rattle.termwiz_binding_laws.specs.Twins.{twin}
-use Rattle.termwiz_binding_laws.specs.EncodedPresses.{at_first, any_of_four, IsCovered, is_newline, is_position, IsReadAsKey, PressesOfEncodedKeys, PressesInEveryReading}
+use Rattle.termwiz_binding_laws.specs.EncodedPresses.{at_first, any_of_four, IsCovered, is_newline, is_position, press_of_key, IsReadAsPress, IsReadAsKey, IsReadByPort, PressesOfEncodedKeys, PressesInEveryReading, PressesByPort}
 use Rattle.termwiz_binding_laws.proofs.lemmas.AsciiPresses as ascii
 use Rattle.termwiz_binding_laws.proofs.lemmas.AsciiPresses.{printable}
 use Rattle.termwiz_binding_laws.proofs.lemmas.BeginKey.{begin_is_read}
 use Rattle.termwiz_binding_laws.proofs.lemmas.ComputedPresses.{AllTold, part_of_key}
+use Rattle.termwiz_binding_laws.proofs.lemmas.LegacyReading.{port_key_read}
 use Rattle.termwiz_binding_laws.proofs.lemmas.ModeClasses.{InEveryClass}
 use Rattle.termwiz_binding_laws.proofs.lemmas.NamedPresses as named
 use Rattle.termwiz_binding_laws.proofs.lemmas.NamedPresses.{function_keys, functions, thirds, steady_keys, steady, cursor_keys, cursor, coded_keys, coded, enters, with_shift_or_ctrl, without_shift_and_ctrl}
 use Rattle.termwiz_binding_laws.proofs.lemmas.PortPresses.{told_key, told_key_at_first, told_in_all, rows_of_tab, rows_of_enter, rows_of_escape, rows_of_backspace, rows_of_character}
+use Rattle.termwiz_binding_laws.proofs.lemmas.Readers.{Reader, IsKeyReadBy, Knows, read_by_port}
+use Rattle.termwiz_binding_laws.proofs.lemmas.Readers.Reader.{extended, of_port}
 use Rattle.termwiz_binding_laws.proofs.lemmas.WidePresses.{wide_is_read}
 
 printable_told : (n : Bool) → InEveryClass (λ m. AllTold m printable) n
@@ -93,20 +102,20 @@ alone_is : (b : Bool) (held : ℕ) → (held == NONE) ≡ b → (true && not (he
 alone_is true held e apart = eqb-true held NONE e
 alone_is false held e apart = absurd (let never : not false ≡ false = subst (λ b. not b ≡ false) e apart in cc (never))
 
-module _ (reading : Reading) (held : ℕ) (modes : KeyCodeEncodeModes) (text : List ℕ) (here : Contains any_of_four held) where
+module _ (reader : Reader) (held : ℕ) (modes : KeyCodeEncodeModes) (text : List ℕ) (here : Contains any_of_four held) where
   abbrev Sends : KeyCode → Type 0
   Sends key = enc key (bits held) modes ≡ Some text
 
   abbrev Read : KeyCode → Type 0
-  Read key = IsReadAsKey reading text (twin key held modes)
+  Read key = IsKeyReadBy reader text (twin key held modes)
 
   steady_read : (key : KeyCode) → Contains steady_keys key → AreRows (part_of_key key) → Sends key → Read key
   steady_read key k are sends =
-      told_key reading modes steady key held text (named.steady_told _ _ _ _) (in_pairs steady_keys any_of_four key held k here) are sends
+      told_key reader modes steady key held text (named.steady_told _ _ _ _) (in_pairs steady_keys any_of_four key held k here) are sends
 
   function_read : (n : ℕ) → is_position (Function n) held ≡ false → Sends (Function n) → Read (Function n)
   function_read n apart sends =
-      told_key reading modes functions (Function n) held text (named.functions_told _ _ _ _) (go (n == 3) refl) (rows_for_are (Function n)) sends
+      told_key reader modes functions (Function n) held text (named.functions_told _ _ _ _) (go (n == 3) refl) (rows_for_are (Function n)) sends
     where
       range : (1 ≤ n) × (n ≤ 24)
       range = function_range n (bits held) modes text sends
@@ -138,7 +147,7 @@ module _ (reading : Reading) (held : ℕ) (modes : KeyCodeEncodeModes) (text : L
       Told a = AllTold (mode modes.encoding a modes.newline_mode modes.modify_other_keys) cursor
 
       by : Told modes.application_cursor_keys → Read key
-      by test = told_key reading modes cursor key held text test (in_pairs cursor_keys any_of_four key held k here) are sends
+      by test = told_key reader modes cursor key held text test (in_pairs cursor_keys any_of_four key held k here) are sends
 
       go : (a : Bool) → modes.application_cursor_keys ≡ a → Read key
       go true e = by (subst Told (sym e) (named.cursor_on_told _ _ _))
@@ -146,18 +155,18 @@ module _ (reading : Reading) (held : ℕ) (modes : KeyCodeEncodeModes) (text : L
 
   coded_read : (key : KeyCode) → Contains coded_keys key → AreRows (part_of_key key) → Sends key → Read key
   coded_read key k are sends =
-      told_in_all reading coded modes (coded_told modes.newline_mode) key held text
+      told_in_all reader coded modes (coded_told modes.newline_mode) key held text
       (Contains-append_left (pairs coded_keys any_of_four) (pairs (Enter ∷ []) with_shift_or_ctrl) (key, held)
       (in_pairs coded_keys any_of_four key held k here)) are sends
 
   enter_read : is_newline Enter held modes ≡ false → Sends Enter → Read Enter
   enter_read newline sends = ⊎_elim
       (λ (a : Contains with_shift_or_ctrl held).
-      told_in_all reading coded modes (coded_told modes.newline_mode) Enter held text
+      told_in_all reader coded modes (coded_told modes.newline_mode) Enter held text
       (Contains-append_right (pairs coded_keys any_of_four) (pairs (Enter ∷ []) with_shift_or_ctrl) (Enter, held)
       (in_pairs (Enter ∷ []) with_shift_or_ctrl Enter held (0, lit< tt, refl) a)) rows_of_enter sends)
       (λ (b : Contains without_shift_and_ctrl held).
-      told_in_all reading enters modes (subst (InEveryClass (λ m. AllTold m enters)) (sym (off b)) enters_told) Enter held text
+      told_in_all reader enters modes (subst (InEveryClass (λ m. AllTold m enters)) (sym (off b)) enters_told) Enter held text
       (in_pairs (Enter ∷ []) without_shift_and_ctrl Enter held (0, lit< tt, refl) b) rows_of_enter sends)
       (parted any_of_four with_shift_or_ctrl without_shift_and_ctrl refl held here)
     where
@@ -165,82 +174,97 @@ module _ (reading : Reading) (held : ℕ) (modes : KeyCodeEncodeModes) (text : L
       off b = no_newline modes.newline_mode (not (holds held SHIFT || holds held CTRL))
           (same_on (λ h. not (holds h SHIFT || holds h CTRL)) (λ h. true) without_shift_and_ctrl held plain_sets b) newline
 
-  character_read : (c : ℕ) → IsCovered (Char c) → Sends (Char c) → Read (Char c)
-  character_read c covered sends = go (below_or_not 128)
+  character_read : (c : ℕ) → IsCovered (Char c) → Knows reader (Char c) held modes → Sends (Char c) → Read (Char c)
+  character_read c covered known sends = go (below_or_not 128)
     where
       below_or_not : (n : ℕ) → (c < n) ⊎ (n ≤ c)
       below_or_not n = grind arith
 
       go : (c < 128) ⊎ (128 ≤ c) → Read (Char c)
-      go (inl small) = told_in_all reading printable modes (printable_told modes.newline_mode) (Char c) held text
+      go (inl small) = told_in_all reader printable modes (printable_told modes.newline_mode) (Char c) held text
           (in_pairs (chars (numbers 32 95)) any_of_four (Char c) held
           (in_map (λ d. Char d) (numbers 32 95) c (at_number 32 95 c covered.1 (omega (arith, covered.2)))) here)
           (rows_of_character c small) sends
-      go (inr high) = wide_is_read reading c held modes text covered.0 high here sends
+      go (inr high) = wide_is_read reader c held modes text covered.0 high here sends known
 
-  by_key : (key : KeyCode) → IsCovered key → is_newline key held modes ≡ false → is_position key held ≡ false → Sends key → text ≢ [] → Read key
+  begin_read : (r : Reader) → Knows r KeyPadBegin held modes → Sends KeyPadBegin → IsKeyReadBy r text (twin KeyPadBegin held modes)
+  begin_read (extended reading) known sends = begin_is_read reading held modes text here sends
+  begin_read of_port known sends = absurd (cc (known))
+
+  by_key : (key : KeyCode) → IsCovered key → is_newline key held modes ≡ false → is_position key held ≡ false → Knows reader key held modes
+      → Sends key → text ≢ [] → Read key
   unfolding enc key_text normal_key named_key shifted keypad_text keypad_number_text keypad_letter_text
-  by_key (Char c) covered newline apart sends some = character_read c covered sends
-  by_key Tab covered newline apart sends some = coded_read Tab (0, lit< tt, refl) rows_of_tab sends
-  by_key Escape covered newline apart sends some = coded_read Escape (1, lit< tt, refl) rows_of_escape sends
-  by_key Backspace covered newline apart sends some = coded_read Backspace (2, lit< tt, refl) rows_of_backspace sends
-  by_key Enter covered newline apart sends some = enter_read newline sends
-  by_key UpArrow covered newline apart sends some = cursor_read UpArrow (0, lit< tt, refl) (rows_for_are UpArrow) sends
-  by_key DownArrow covered newline apart sends some = cursor_read DownArrow (1, lit< tt, refl) (rows_for_are DownArrow) sends
-  by_key RightArrow covered newline apart sends some = cursor_read RightArrow (2, lit< tt, refl) (rows_for_are RightArrow) sends
-  by_key LeftArrow covered newline apart sends some = cursor_read LeftArrow (3, lit< tt, refl) (rows_for_are LeftArrow) sends
-  by_key Home covered newline apart sends some = cursor_read Home (4, lit< tt, refl) (rows_for_are Home) sends
-  by_key End covered newline apart sends some = cursor_read End (5, lit< tt, refl) (rows_for_are End) sends
-  by_key KeyPadHome covered newline apart sends some = cursor_read KeyPadHome (6, lit< tt, refl) (rows_for_are KeyPadHome) sends
-  by_key KeyPadEnd covered newline apart sends some = cursor_read KeyPadEnd (7, lit< tt, refl) (rows_for_are KeyPadEnd) sends
-  by_key ApplicationLeftArrow covered newline apart sends some =
+  by_key (Char c) covered newline apart known sends some = character_read c covered known sends
+  by_key Tab covered newline apart known sends some = coded_read Tab (0, lit< tt, refl) rows_of_tab sends
+  by_key Escape covered newline apart known sends some = coded_read Escape (1, lit< tt, refl) rows_of_escape sends
+  by_key Backspace covered newline apart known sends some = coded_read Backspace (2, lit< tt, refl) rows_of_backspace sends
+  by_key Enter covered newline apart known sends some = enter_read newline sends
+  by_key UpArrow covered newline apart known sends some = cursor_read UpArrow (0, lit< tt, refl) (rows_for_are UpArrow) sends
+  by_key DownArrow covered newline apart known sends some = cursor_read DownArrow (1, lit< tt, refl) (rows_for_are DownArrow) sends
+  by_key RightArrow covered newline apart known sends some = cursor_read RightArrow (2, lit< tt, refl) (rows_for_are RightArrow) sends
+  by_key LeftArrow covered newline apart known sends some = cursor_read LeftArrow (3, lit< tt, refl) (rows_for_are LeftArrow) sends
+  by_key Home covered newline apart known sends some = cursor_read Home (4, lit< tt, refl) (rows_for_are Home) sends
+  by_key End covered newline apart known sends some = cursor_read End (5, lit< tt, refl) (rows_for_are End) sends
+  by_key KeyPadHome covered newline apart known sends some = cursor_read KeyPadHome (6, lit< tt, refl) (rows_for_are KeyPadHome) sends
+  by_key KeyPadEnd covered newline apart known sends some = cursor_read KeyPadEnd (7, lit< tt, refl) (rows_for_are KeyPadEnd) sends
+  by_key ApplicationLeftArrow covered newline apart known sends some =
       steady_read ApplicationLeftArrow (0, lit< tt, refl) (rows_for_are ApplicationLeftArrow) sends
-  by_key ApplicationRightArrow covered newline apart sends some =
+  by_key ApplicationRightArrow covered newline apart known sends some =
       steady_read ApplicationRightArrow (1, lit< tt, refl) (rows_for_are ApplicationRightArrow) sends
-  by_key ApplicationUpArrow covered newline apart sends some =
+  by_key ApplicationUpArrow covered newline apart known sends some =
       steady_read ApplicationUpArrow (2, lit< tt, refl) (rows_for_are ApplicationUpArrow) sends
-  by_key ApplicationDownArrow covered newline apart sends some =
+  by_key ApplicationDownArrow covered newline apart known sends some =
       steady_read ApplicationDownArrow (3, lit< tt, refl) (rows_for_are ApplicationDownArrow) sends
-  by_key Insert covered newline apart sends some = steady_read Insert (4, lit< tt, refl) (rows_for_are Insert) sends
-  by_key Delete covered newline apart sends some = steady_read Delete (5, lit< tt, refl) (rows_for_are Delete) sends
-  by_key PageUp covered newline apart sends some = steady_read PageUp (6, lit< tt, refl) (rows_for_are PageUp) sends
-  by_key PageDown covered newline apart sends some = steady_read PageDown (7, lit< tt, refl) (rows_for_are PageDown) sends
-  by_key KeyPadPageUp covered newline apart sends some = steady_read KeyPadPageUp (8, lit< tt, refl) (rows_for_are KeyPadPageUp) sends
-  by_key KeyPadPageDown covered newline apart sends some = steady_read KeyPadPageDown (9, lit< tt, refl) (rows_for_are KeyPadPageDown) sends
-  by_key (Function n) covered newline apart sends some = function_read n apart sends
-  by_key KeyPadBegin covered newline apart sends some = begin_is_read reading held modes text here sends
-  by_key Numpad0 covered newline apart sends some = absurd covered
-  by_key Numpad1 covered newline apart sends some = absurd covered
-  by_key Numpad2 covered newline apart sends some = absurd covered
-  by_key Numpad3 covered newline apart sends some = absurd covered
-  by_key Numpad4 covered newline apart sends some = absurd covered
-  by_key Numpad5 covered newline apart sends some = absurd covered
-  by_key Numpad6 covered newline apart sends some = absurd covered
-  by_key Numpad7 covered newline apart sends some = absurd covered
-  by_key Numpad8 covered newline apart sends some = absurd covered
-  by_key Numpad9 covered newline apart sends some = absurd covered
-  by_key Decimal covered newline apart sends some = absurd covered
+  by_key Insert covered newline apart known sends some = steady_read Insert (4, lit< tt, refl) (rows_for_are Insert) sends
+  by_key Delete covered newline apart known sends some = steady_read Delete (5, lit< tt, refl) (rows_for_are Delete) sends
+  by_key PageUp covered newline apart known sends some = steady_read PageUp (6, lit< tt, refl) (rows_for_are PageUp) sends
+  by_key PageDown covered newline apart known sends some = steady_read PageDown (7, lit< tt, refl) (rows_for_are PageDown) sends
+  by_key KeyPadPageUp covered newline apart known sends some = steady_read KeyPadPageUp (8, lit< tt, refl) (rows_for_are KeyPadPageUp) sends
+  by_key KeyPadPageDown covered newline apart known sends some = steady_read KeyPadPageDown (9, lit< tt, refl) (rows_for_are KeyPadPageDown) sends
+  by_key (Function n) covered newline apart known sends some = function_read n apart sends
+  by_key KeyPadBegin covered newline apart known sends some = begin_read reader known sends
+  by_key Numpad0 covered newline apart known sends some = absurd covered
+  by_key Numpad1 covered newline apart known sends some = absurd covered
+  by_key Numpad2 covered newline apart known sends some = absurd covered
+  by_key Numpad3 covered newline apart known sends some = absurd covered
+  by_key Numpad4 covered newline apart known sends some = absurd covered
+  by_key Numpad5 covered newline apart known sends some = absurd covered
+  by_key Numpad6 covered newline apart known sends some = absurd covered
+  by_key Numpad7 covered newline apart known sends some = absurd covered
+  by_key Numpad8 covered newline apart known sends some = absurd covered
+  by_key Numpad9 covered newline apart known sends some = absurd covered
+  by_key Decimal covered newline apart known sends some = absurd covered
   -- nothing is sent for any other key
-  by_key key covered newline apart sends some = absurd (some (empty_text text (enc key (bits held) modes) (cc) sends))
+  by_key key covered newline apart known sends some = absurd (some (empty_text text (enc key (bits held) modes) (cc) sends))
 
 pub presses_in_every_reading : PressesInEveryReading
 presses_in_every_reading reading key held modes text covered here newline apart sends some =
-    by_key reading held modes text here key covered newline apart sends some
+    by_key (extended reading) held modes text here key covered newline apart tt sends some
 
--- under the first reading F3 with a modifier too
-third_read : (key : KeyCode) (held : ℕ) (modes : KeyCodeEncodeModes) (text : List ℕ) → Contains any_of_four held
-    → is_position key held ≡ true → enc key (bits held) modes ≡ Some text → IsReadAsKey at_first text (twin key held modes)
-third_read (Function n) held modes text here is sends =
+-- F3 with a modifier, by what the port reads
+third_read : (R : KeyPress → Type 0) (key : KeyCode) (held : ℕ) (modes : KeyCodeEncodeModes) (text : List ℕ)
+    → ((k : KeyEvent) (p : KeyPress) → port.Means text false (input.Key k ∷ []) [] → canonical (pressed_key k) ≡ Some p → R p)
+    → Contains any_of_four held → is_position key held ≡ true → enc key (bits held) modes ≡ Some text
+    → (p : KeyPress) × (press_of_key (twin key held modes) ≡ Some p) × R p
+third_read R (Function n) held modes text read here is sends =
     let parts = and_parts (n == 3) (not (held == NONE)) is in
     let third : n ≡ 3 = eqb-true n 3 parts.0 in
-    told_key_at_first modes thirds (Function n) held text (named.thirds_told _ _ _ _)
+    told_key_at_first R modes thirds (Function n) held text read (named.thirds_told _ _ _ _)
     (in_pairs (Function 3 ∷ []) any_of_four (Function n) held (0, lit< tt, ap (λ m. Function m) (sym third)) here)
     (rows_for_are (Function n)) sends
-third_read key held modes text here is sends = absurd (cc (is))
+third_read R key held modes text read here is sends = absurd (cc (is))
 
 pub presses_of_encoded_keys : PressesOfEncodedKeys
 presses_of_encoded_keys key held modes text covered here newline sends some = go (is_position key held) refl
   where
     go : (b : Bool) → is_position key held ≡ b → IsReadAsKey at_first text (twin key held modes)
-    go true e = third_read key held modes text here e sends
+    go true e = third_read (IsReadAsPress at_first text) key held modes text
+        (λ k p means is. (Input (input.Key k), port_key_read text k means, is)) here e sends
     go false e = presses_in_every_reading at_first key held modes text covered here newline e sends some
+
+pub presses_by_port : PressesByPort
+presses_by_port key held modes text covered here newline known sends some = go (is_position key held) refl
+  where
+    go : (b : Bool) → is_position key held ≡ b → (p : KeyPress) × (press_of_key (twin key held modes) ≡ Some p) × IsReadByPort text p
+    go true e = third_read (IsReadByPort text) key held modes text (read_by_port text) here e sends
+    go false e = by_key of_port held modes text here key covered newline e known sends some

@@ -1,11 +1,12 @@
 -- From what was computed to what is read, in every mode.
-use Rattle.std.proofs.Common.{◌≡◌, ◌∙◌, ℕ, ◌<◌, List, [], ◌∷◌, ◌++◌, Option, Some, None, refl, sym, ap, subst, Contains}
+use Rattle.std.proofs.Common.{◌≡◌, ◌∙◌, ℕ, ◌<◌, false, List, [], ◌∷◌, ◌++◌, Option, Some, None, refl, sym, ap, subst, Contains}
 use Rattle.termwiz_keys.specs.declared.types.KeyCode.{KeyCode}
 use Rattle.termwiz_keys.specs.declared.types.KeyCode.TheVariants.{Char, Tab, Enter, Escape, Backspace}
 use Rattle.termwiz_keys.specs.declared.types.KeyEvent.{KeyEvent}
 use Rattle.termwiz_keys.specs.declared.types.InputEvent.TheVariants as input
 use Rattle.termwiz_keys.specs.declared.encode.KeyCodeEncodeModes.{KeyCodeEncodeModes}
 use Rattle.termwiz_keys.specs.Encoding.{enc}
+use Rattle.termwiz_grammar.specs.Grammar as port
 use Rattle.termwiz_grammar.specs.Table.{TableRow}
 use Rattle.termwiz_grammar.proofs.lemmas.lists.ListMembers.{same_on}
 use Rattle.termwiz_grammar.proofs.lemmas.read_back.RuleReader.{AreRows, rows_for, rows_for_are, csi_u_rows_of, csi_u_are, both_are}
@@ -13,15 +14,15 @@ use Rattle.termwiz_laws.proofs.lemmas.further_keys.AlikeModes.{enc_same}
 use Rattle.termwiz_laws.proofs.lemmas.further_keys.ComputedReadings.{Held}
 use Rattle.termwiz_laws.proofs.lemmas.further_keys.FurtherReadings.{bits}
 use Rattle.termwiz_laws.proofs.lemmas.further_keys.WideReadings.{wide_reading, wide_means, wide_rows_are}
-use Rattle.termwiz_extended_events.specs.declared.types.Reading.{Reading}
-use Rattle.termwiz_extended_events.specs.declared.types.ExtendedEvent.TheVariants.{Input}
+use Rattle.termwiz_extended_events.specs.EventKeys.{pressed_key}
 use Rattle.termwiz_bindings.specs.declared.press.KeyPress.{KeyPress}
+use Rattle.termwiz_bindings.specs.Presses.{canonical}
 use Rattle.termwiz_binding_laws.specs.Twins.{twin}
-use Rattle.termwiz_binding_laws.specs.EncodedPresses.{at_first, IsReadAsPress, IsReadAsKey}
+use Rattle.termwiz_binding_laws.specs.EncodedPresses.{press_of_key}
 use Rattle.termwiz_binding_laws.proofs.lemmas.ComputedPresses.{AllTold, told, wanted, AllToldAtFirst, told_at_first, wanted_at_first, twin_press, part_of_key, coded_rows, press_read, presses_of_text, press_of_text}
-use Rattle.termwiz_binding_laws.proofs.lemmas.EveryReading.{IsToldAlike, read_anywhere}
-use Rattle.termwiz_binding_laws.proofs.lemmas.LegacyReading.{port_key_read}
+use Rattle.termwiz_binding_laws.proofs.lemmas.EveryReading.{IsToldAlike}
 use Rattle.termwiz_binding_laws.proofs.lemmas.ModeClasses.{twin_same, InEveryClass, in_all_modes}
+use Rattle.termwiz_binding_laws.proofs.lemmas.Readers.{Reader, IsKeyReadBy, read_by}
 
 -- what was computed of a text
 record Computed (part : List TableRow) (text : List ℕ) (press : KeyPress) : Type 0 where
@@ -43,11 +44,11 @@ computed part text p e = go (wide_reading part text) refl (let first : press_rea
     }
 
 -- a key of a list whose keys are all read as their twins
-pub told_key : (reading : Reading) (modes : KeyCodeEncodeModes) (cases : List Held) (key : KeyCode) (held : ℕ) (text : List ℕ)
+pub told_key : (reader : Reader) (modes : KeyCodeEncodeModes) (cases : List Held) (key : KeyCode) (held : ℕ) (text : List ℕ)
     → AllTold modes cases → Contains cases (key, held) → AreRows (part_of_key key) → enc key (bits held) modes ≡ Some text
-    → IsReadAsKey reading text (twin key held modes)
-told_key reading modes cases key held text test here are sends =
-    (press, cc (all), read_anywhere reading text it.key press (wide_means (part_of_key key) text it.key are it.is_read) it.is_told)
+    → IsKeyReadBy reader text (twin key held modes)
+told_key reader modes cases key held text test here are sends =
+    (press, cc (all), read_by reader text it.key press (wide_means (part_of_key key) text it.key are it.is_read) it.is_told)
   where
     press : KeyPress
     press = twin_press modes (key, held)
@@ -61,15 +62,15 @@ told_key reading modes cases key held text test here are sends =
     it : Computed (part_of_key key) text press
     it = computed (part_of_key key) text press (ap (presses_of_text (part_of_key key) press) (sym sends) ∙ rest)
 
--- the same under the first reading alone
-pub told_key_at_first : (modes : KeyCodeEncodeModes) (cases : List Held) (key : KeyCode) (held : ℕ) (text : List ℕ)
+-- the same where no reports are known of the text
+pub told_key_at_first : (R : KeyPress → Type 0) (modes : KeyCodeEncodeModes) (cases : List Held) (key : KeyCode) (held : ℕ) (text : List ℕ)
+    → ((k : KeyEvent) (p : KeyPress) → port.Means text false (input.Key k ∷ []) [] → canonical (pressed_key k) ≡ Some p → R p)
     → AllToldAtFirst modes cases → Contains cases (key, held) → AreRows (part_of_key key) → enc key (bits held) modes ≡ Some text
-    → IsReadAsKey at_first text (twin key held modes)
-told_key_at_first modes cases key held text test here are sends = (
+    → (p : KeyPress) × (press_of_key (twin key held modes) ≡ Some p) × R p
+told_key_at_first R modes cases key held text read test here are sends = (
   press,
   cc (all),
-  go (wide_reading (part_of_key key) text) refl
-      (ap (press_of_text (part_of_key key)) (sym sends) ∙ rest),
+  go (wide_reading (part_of_key key) text) refl (ap (press_of_text (part_of_key key)) (sym sends) ∙ rest),
 )
   where
     press : KeyPress
@@ -81,18 +82,18 @@ told_key_at_first modes cases key held text test here are sends = (
     rest : press_of_text (part_of_key key) (enc key (bits held) modes) ≡ Some press
     rest = cc (all)
 
-    go : (o : Option KeyEvent) → wide_reading (part_of_key key) text ≡ o → press_read o ≡ Some press → IsReadAsPress at_first text press
+    go : (o : Option KeyEvent) → wide_reading (part_of_key key) text ≡ o → press_read o ≡ Some press → R press
     go None found none = absurd (cc (none))
-    go (Some k) found gives = (Input (input.Key k), port_key_read text k (wide_means (part_of_key key) text k are found), gives)
+    go (Some k) found gives = read k press (wide_means (part_of_key key) text k are found) gives
 
 -- the same in all modes
-pub told_in_all : (reading : Reading) (cases : List Held) (modes : KeyCodeEncodeModes) → InEveryClass (λ m. AllTold m cases) modes.newline_mode
+pub told_in_all : (reader : Reader) (cases : List Held) (modes : KeyCodeEncodeModes) → InEveryClass (λ m. AllTold m cases) modes.newline_mode
     → (key : KeyCode) (held : ℕ) (text : List ℕ) → Contains cases (key, held) → AreRows (part_of_key key)
-    → enc key (bits held) modes ≡ Some text → IsReadAsKey reading text (twin key held modes)
-told_in_all reading cases modes all key held text here are =
-    in_all_modes (λ m. AllTold m cases) (λ m. enc key (bits held) m ≡ Some text → IsReadAsKey reading text (twin key held m))
-    (λ m test sends. told_key reading m cases key held text test here are sends)
-    (λ a b alike back sends. subst (IsReadAsKey reading text) (sym (twin_same a b alike key held))
+    → enc key (bits held) modes ≡ Some text → IsKeyReadBy reader text (twin key held modes)
+told_in_all reader cases modes all key held text here are =
+    in_all_modes (λ m. AllTold m cases) (λ m. enc key (bits held) m ≡ Some text → IsKeyReadBy reader text (twin key held m))
+    (λ m test sends. told_key reader m cases key held text test here are sends)
+    (λ a b alike back sends. subst (IsKeyReadBy reader text) (sym (twin_same a b alike key held))
     (back (sym (enc_same a b alike key (bits held)) ∙ sends)))
     modes all
 

@@ -34,7 +34,8 @@ wide_press c bits high =
     let upper : to_ascii_uppercase c ≡ c = grind (arith, nat_tests) in
     let no_space : (c == 32) ≡ false = grind (arith, nat_tests) in
     let no_capital : is_ascii_uppercase c ≡ false = grind (arith, nat_tests) in
-    rw (no_control, upper, if_same (rules.has_shift (bit_and bits all_but_locks)) c, no_space, no_capital) refl
+    rw (no_control, upper, if_same (rules.has_shift (bit_and bits all_but_locks)) c, no_space, no_capital)
+    (refl {a = Some (character_press c (without_shift (bit_and bits all_but_locks)))})
 
 -- what its twin holds
 abbrev pub wide_held : Bool → ℕ → ℕ

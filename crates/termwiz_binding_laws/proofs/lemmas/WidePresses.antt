@@ -1,5 +1,6 @@
 -- Characters beyond ASCII are read as the presses of their twins.
-use Rattle.std.proofs.Common.{◌≡◌, ◌∙◌, ◌⊎◌, inl, inr, ℕ, ◌+◌, ◌-◌, ◌≤◌, Bool, true, false, List, [], ◌∷◌, ◌++◌, map, Some, refl, sym, ap, subst, arith, Contains, ◌==◌, bit_and, decimal}
+use Rattle.std.proofs.Common.{◌≡◌, ◌∙◌, ◌⊎◌, inl, inr, ℕ, ◌+◌, ◌-◌, ◌≤◌, ◌<◌, Bool, true, false, not, List, [], ◌∷◌, ◌++◌, map, Some, refl, sym, ap, subst, arith, Contains, ◌==◌, ◌&&◌, bit_and, nat_le, decimal}
+use Rattle.std.proofs.lemmas.Bool.Decides.{nat_tests}
 use Rattle.std.specs.Prelude.{if◌then◌else◌}
 use Rattle.std.specs.Char.{IsScalar, encode_utf8}
 use Rattle.std.proofs.lemmas.Bool.{eqb-true}
@@ -18,20 +19,22 @@ use Rattle.termwiz_laws.specs.FurtherKeys.ReadsBackToo.{alt_beyond_ascii}
 use Rattle.termwiz_laws.proofs.lemmas.further_keys.FurtherReadings.{bits, further_keys_read_back}
 use Rattle.termwiz_laws.proofs.lemmas.further_keys.SingleCharacters.{first_high}
 use Rattle.termwiz_laws.proofs.lemmas.further_keys.OtherKeys.{on_false}
-use Rattle.termwiz_extended_events.specs.declared.types.ExtendedEvent.{ExtendedEvent}
 use Rattle.termwiz_extended_events.specs.declared.types.ExtendedEvent.TheVariants.{Input, Key}
 use Rattle.termwiz_extended_events.specs.declared.types.KeyEventKind.TheVariants.{Press}
 use Rattle.termwiz_extended_events.specs.declared.types.Reading.{Reading}
 use Rattle.termwiz_extended_events.specs.declared.types.ReportedKey.TheVariants.{Named}
+use Rattle.termwiz_extended_events.specs.EventKeys.{pressed_key}
 use Rattle.termwiz_extended_events.specs.KeyReports.{report_of}
 use Rattle.termwiz_extended_grammar.specs.ExtendedGrammar.{Means}
 use Rattle.termwiz_kitty.proofs.lemmas.legacy.ReadAsOne.{IsReportText, ReadAs, read_as as read_as_one, no_escape_before, second_range}
 use Rattle.termwiz_kitty.proofs.lemmas.legacy.ReadAsOne.ReadAs.{as_key, as_report, apart}
 use Rattle.termwiz_kitty.proofs.lemmas.read_back.SequenceForms.{written}
-use Rattle.termwiz_bindings.specs.Presses.{kitty_bits, character_press, without_shift, all_but_locks}
+use Rattle.termwiz_bindings.specs.Presses.{canonical, kitty_bits, character_press, without_shift, all_but_locks}
 use Rattle.termwiz_binding_laws.specs.Twins.{is_on, twin}
-use Rattle.termwiz_binding_laws.specs.EncodedPresses.{any_of_four, press_of_key, press_of_event, IsReadAsKey}
+use Rattle.termwiz_binding_laws.specs.EncodedPresses.{any_of_four, press_of_key, IsReadAsPress}
 use Rattle.termwiz_binding_laws.proofs.lemmas.BeginKey.{small_number}
+use Rattle.termwiz_binding_laws.proofs.lemmas.Readers.{Reader, IsReadBy, IsKeyReadBy, Knows, read_by_port}
+use Rattle.termwiz_binding_laws.proofs.lemmas.Readers.Reader.{extended, of_port}
 use Rattle.termwiz_binding_laws.proofs.lemmas.RowReports.{shape}
 use Rattle.termwiz_binding_laws.proofs.lemmas.OtherCodes.{form_is, code_means}
 use Rattle.termwiz_binding_laws.proofs.lemmas.WideCharacters.{wide_press, wide_held, wide_twin_is, sent_alone, sent_by_code, sent_plainly}
@@ -66,7 +69,7 @@ no_bits_off = refl
 no_sides : map sideless any_of_four ≡ map (λ held. held) any_of_four
 no_sides = refl
 
-module _ (reading : Reading) (c held : ℕ) (modes : KeyCodeEncodeModes) (text : List ℕ) (scalar : IsScalar c) (high : 128 ≤ c)
+module _ (reader : Reader) (c held : ℕ) (modes : KeyCodeEncodeModes) (text : List ℕ) (scalar : IsScalar c) (high : 128 ≤ c)
     (here : Contains any_of_four held) (sends : enc (Char c) (bits held) modes ≡ Some text) where
   sides : sideless held ≡ held
   sides = same_on sideless (λ h. h) any_of_four held no_sides here
@@ -79,78 +82,98 @@ module _ (reading : Reading) (c held : ℕ) (modes : KeyCodeEncodeModes) (text :
       ∙ ap (λ o. Some (character_press c (twin_bits o held))) e
 
   -- an event of this press, which is the whole text
-  read_as : (on : Bool) (t : List ℕ) (event : ExtendedEvent) → is_on modes ≡ on → enc (Char c) (bits held) modes ≡ Some t
-      → Means reading t false (event ∷ []) [] → press_of_event event ≡ Some (character_press c (twin_bits on held))
-      → IsReadAsKey reading text (twin (Char c) held modes)
-  read_as on t event e sent means is =
+  read_as : (on : Bool) (t : List ℕ) → is_on modes ≡ on → enc (Char c) (bits held) modes ≡ Some t
+      → IsReadBy reader t (character_press c (twin_bits on held)) → IsKeyReadBy reader text (twin (Char c) held modes)
+  read_as on t e sent is =
       let same : t ≡ text = (let s : Some t ≡ Some text = sym sent ∙ sends in cc (s)) in (
         character_press c (twin_bits on held),
         twin_press on e,
-        (event, subst (λ u. Means reading u false (event ∷ []) []) same means, is),
+        subst (λ u. IsReadBy reader u (character_press c (twin_bits on held))) same is,
       )
 
   -- the two texts are no reports, nor is what follows their ESC
-  no_report : (t : List ℕ) → (t ≡ encode_utf8 c) ⊎ (t ≡ ESC ++ encode_utf8 c) → IsReportText reading t → ⊥
-  no_report t (inl e) is = (let s = shape reading t is in no_escape_before c s.second s.rest scalar (sym e ∙ s.split))
-  no_report t (inr e) is =
+  no_report : (reading : Reading) (t : List ℕ) → (t ≡ encode_utf8 c) ⊎ (t ≡ ESC ++ encode_utf8 c) → IsReportText reading t → ⊥
+  no_report reading t (inl e) is = (let s = shape reading t is in no_escape_before c s.second s.rest scalar (sym e ∙ s.split))
+  no_report reading t (inr e) is =
       let s = shape reading t is in
       let first = first_high c s.second s.rest high (cc (e, s.split)) in
       let range = second_range s.second s.is_second in omega (arith, first, range.1)
 
-  none_behind : (t v : List ℕ) → (t ≡ encode_utf8 c) ⊎ (t ≡ ESC ++ encode_utf8 c) → t ≡ ESC ++ v → IsReportText reading v → ⊥
-  none_behind t v (inl e) split is =
+  none_behind : (reading : Reading) (t v : List ℕ) → (t ≡ encode_utf8 c) ⊎ (t ≡ ESC ++ encode_utf8 c) → t ≡ ESC ++ v → IsReportText reading v → ⊥
+  none_behind reading t v (inl e) split is =
       let s = shape reading v is in no_escape_before c 27 (s.second ∷ s.rest) scalar (sym e ∙ split ∙ ap (λ u. 27 ∷ u) s.split)
-  none_behind t v (inr e) split is =
+  none_behind reading t v (inr e) split is =
       let s = shape reading v is in no_escape_before c s.second s.rest scalar (cc (e, split, s.split))
 
   -- a key of the port
   by_port : (on : Bool) (t : List ℕ) (k : ℕ) → (t ≡ encode_utf8 c) ⊎ (t ≡ ESC ++ encode_utf8 c) → is_on modes ≡ on
       → enc (Char c) (bits held) modes ≡ Some t
       → port.Means t false (input.Key (key_with (Char c) k) ∷ []) [] → told_bits (xterm_number k) ≡ twin_bits on held
-      → IsReadAsKey reading text (twin (Char c) held modes)
-  by_port on t k form e sent means same = go (read_as_one reading t (key_with (Char c) k) false (record {
-    flushed = means;
-    means = means;
-    closed = λ h. cc (h.more_comes);
-    closed_after = λ v split h. cc (h.more_comes);
-  }))
+      → IsKeyReadBy reader text (twin (Char c) held modes)
+  by_port on t k form e sent means same = read_as on t e sent (go reader)
     where
-      go : ReadAs reading t (key_with (Char c) k) false → IsReadAsKey reading text (twin (Char c) held modes)
-      go (as_key it) = read_as on t (Input (input.Key (key_with (Char c) k))) e sent it
-          (wide_press c (xterm_number k) high ∙ ap (λ n. Some (character_press c n)) same)
-      go (as_report is it) = absurd (no_report t form is)
-      go (apart v splits is) = absurd (none_behind t v form splits is)
+      press : canonical (pressed_key (key_with (Char c) k)) ≡ Some (character_press c (twin_bits on held))
+      press = wide_press c (xterm_number k) high ∙ ap (λ n. Some (character_press c n)) same
+
+      as_one : (reading : Reading) → ReadAs reading t (key_with (Char c) k) false → IsReadAsPress reading t (character_press c (twin_bits on held))
+      as_one reading (as_key it) = (Input (input.Key (key_with (Char c) k)), it, press)
+      as_one reading (as_report is it) = absurd (no_report reading t form is)
+      as_one reading (apart v splits is) = absurd (none_behind reading t v form splits is)
+
+      go : (r : Reader) → IsReadBy r t (character_press c (twin_bits on held))
+      go (extended reading) = as_one reading (read_as_one reading t (key_with (Char c) k) false (record {
+        flushed = means;
+        means = means;
+        closed = λ h. cc (h.more_comes);
+        closed_after = λ v split h. cc (h.more_comes);
+      }))
+      go of_port = read_by_port t (key_with (Char c) k) (character_press c (twin_bits on held)) means press
 
   plain_means : port.Means (encode_utf8 c) false (input.Key (key_with (Char c) NONE) ∷ []) []
   plain_means = char_means c scalar (omega arith) (λ e. omega arith)
 
-  alone : held ≡ NONE → IsReadAsKey reading text (twin (Char c) held modes)
+  alone : held ≡ NONE → IsKeyReadBy reader text (twin (Char c) held modes)
   alone none = go (is_on modes) refl
     where
       sent : enc (Char c) (bits held) modes ≡ Some (encode_utf8 c)
       sent = subst (λ h. enc (Char c) (bits h) modes ≡ Some (encode_utf8 c)) (sym none) (sent_alone c modes high)
 
-      go : (b : Bool) → is_on modes ≡ b → IsReadAsKey reading text (twin (Char c) held modes)
+      go : (b : Bool) → is_on modes ≡ b → IsKeyReadBy reader text (twin (Char c) held modes)
       go true e = by_port true (encode_utf8 c) NONE (inl refl) e sent plain_means
           (subst (λ h. told_bits (xterm_number NONE) ≡ twin_bits true h) (sym none) no_bits_on)
       go false e = by_port false (encode_utf8 c) NONE (inl refl) e sent plain_means
           (subst (λ h. told_bits (xterm_number NONE) ≡ twin_bits false h) (sym none) no_bits_off)
 
-  by_code : (held == 0) ≡ false → is_on modes ≡ true → IsReadAsKey reading text (twin (Char c) held modes)
-  by_code some on =
-      let small = small_number held here in
-      let means = code_means (1 + xterm_number held) c (omega arith) (omega arith) high scalar reading in
-      read_as true (other_keys_form c held) (Key (report_of (Named (Char c)) (record { modifiers = xterm_number held; kind = Press })))
-      on (sent_by_code c held modes high sides some on)
-      (subst (λ t. Means reading t false (Key (report_of (Named (Char c)) (record { modifiers = xterm_number held; kind = Press })) ∷ []) [])
-      (sym (form_is c held (omega arith)))
-      (subst (λ n. Means reading (written (50 ∷ 55 ∷ 59 ∷ (48 + (1 + xterm_number held)) ∷ 59 ∷ decimal c) 126) false
-      (Key (report_of (Named (Char c)) (record { modifiers = n; kind = Press })) ∷ []) [])
-      (let e : 1 + xterm_number held - 1 ≡ xterm_number held = omega arith in e) means))
-      (wide_press c (xterm_number held) high
-      ∙ ap (λ n. Some (character_press c n)) (same_on (λ h. told_bits (xterm_number h)) (twin_bits true) any_of_four held bits_by_code here))
+  by_code : Knows reader (Char c) held modes → (held == 0) ≡ false → is_on modes ≡ true → IsKeyReadBy reader text (twin (Char c) held modes)
+  by_code known some on =
+      read_as true (other_keys_form c held) on (sent_by_code c held modes high sides some on) (go reader known)
+    where
+      small : xterm_number held < 8
+      small = small_number held here
 
-  plainly : (held == 0) ≡ false → is_on modes ≡ false → IsReadAsKey reading text (twin (Char c) held modes)
+      means : (reading : Reading) → Means reading (other_keys_form c held) false
+          (Key (report_of (Named (Char c)) (record { modifiers = xterm_number held; kind = Press })) ∷ []) []
+      means reading =
+          subst (λ t. Means reading t false (Key (report_of (Named (Char c)) (record { modifiers = xterm_number held; kind = Press })) ∷ []) [])
+          (sym (form_is c held (omega (arith, small))))
+          (subst (λ n. Means reading (written (50 ∷ 55 ∷ 59 ∷ (48 + (1 + xterm_number held)) ∷ 59 ∷ decimal c) 126) false
+          (Key (report_of (Named (Char c)) (record { modifiers = n; kind = Press })) ∷ []) [])
+          (let e : 1 + xterm_number held - 1 ≡ xterm_number held = omega arith in e)
+          (code_means (1 + xterm_number held) c (omega arith) (omega (arith, small)) high scalar reading))
+
+      go : (r : Reader) → Knows r (Char c) held modes → IsReadBy r (other_keys_form c held) (character_press c (twin_bits true held))
+      go (extended reading) k = (
+        Key (report_of (Named (Char c)) (record { modifiers = xterm_number held; kind = Press })),
+        means reading,
+        wide_press c (xterm_number held) high
+            ∙ ap (λ n. Some (character_press c n))
+            (same_on (λ h. told_bits (xterm_number h)) (twin_bits true) any_of_four held bits_by_code here),
+      )
+      go of_port k =
+          let wide : nat_le 128 c ≡ true = grind (arith, nat_tests) in
+          absurd (let never : (true && (true && not false)) ≡ false = (rw (wide, on, some) at k) in cc (never))
+
+  plainly : (held == 0) ≡ false → is_on modes ≡ false → IsKeyReadBy reader text (twin (Char c) held modes)
   plainly some off = go (holds held ALT) refl
     where
       sent : enc (Char c) (bits held) modes ≡ Some (escape_if_alt held ++ encode_utf8 c)
@@ -167,7 +190,7 @@ module _ (reading : Reading) (c held : ℕ) (modes : KeyCodeEncodeModes) (text :
           let t : back.0 ≡ ESC ++ encode_utf8 c = cc (e) in
           subst (λ u. port.Means u false (input.Key (key_with (Char c) ALT) ∷ []) []) t back.2
 
-      go : (b : Bool) → holds held ALT ≡ b → IsReadAsKey reading text (twin (Char c) held modes)
+      go : (b : Bool) → holds held ALT ≡ b → IsKeyReadBy reader text (twin (Char c) held modes)
       go true alt = by_port false (ESC ++ encode_utf8 c) ALT (inr refl) off
           (sent ∙ ap (λ (b : Bool). Some ((if b then ESC else []) ++ encode_utf8 c)) alt) escaped
           (sym (ap (λ (b : Bool). told_bits (xterm_number (if b then ALT else NONE))) alt) ∙ same)
@@ -175,10 +198,10 @@ module _ (reading : Reading) (c held : ℕ) (modes : KeyCodeEncodeModes) (text :
           (sent ∙ ap (λ (b : Bool). Some ((if b then ESC else []) ++ encode_utf8 c)) none) plain_means
           (sym (ap (λ (b : Bool). told_bits (xterm_number (if b then ALT else NONE))) none) ∙ same)
 
-  pub wide_is_read : IsReadAsKey reading text (twin (Char c) held modes)
-  wide_is_read = go (held == 0) refl (is_on modes) refl
+  pub wide_is_read : Knows reader (Char c) held modes → IsKeyReadBy reader text (twin (Char c) held modes)
+  wide_is_read known = go (held == 0) refl (is_on modes) refl
     where
-      go : (b : Bool) → (held == 0) ≡ b → (o : Bool) → is_on modes ≡ o → IsReadAsKey reading text (twin (Char c) held modes)
+      go : (b : Bool) → (held == 0) ≡ b → (o : Bool) → is_on modes ≡ o → IsKeyReadBy reader text (twin (Char c) held modes)
       go true e o on = alone (eqb-true held 0 e)
-      go false e true on = by_code e on
+      go false e true on = by_code known e on
       go false e false off = plainly e off

@@ -1,5 +1,5 @@
 -- One step of the reading of a chord.
-use Rattle.std.proofs.Common.{◌≡◌, ◌∙◌, ℕ, ◌+◌, ◌-◌, ◌<◌, ◌≤◌, zero, suc, Bool, true, false, List, [], ◌∷◌, ◌++◌, length, take, drop, get_or, map, nat_lt, refl, sym, ap, arith, append-nil, append_assoc, Option, Some, None, Result, Ok, Err}
+use Rattle.std.proofs.Common.{◌≡◌, ◌∙◌, ℕ, ◌+◌, ◌-◌, ◌<◌, ◌≤◌, zero, suc, true, false, List, [], ◌∷◌, ◌++◌, length, take, drop, get_or, map, nat_lt, refl, sym, ap, arith, append_assoc, Some, None, Result, Ok, Err}
 use Rattle.std.specs.Prelude.{if◌then◌else◌, slice_get}
 use Rattle.std.specs.List.{join_with_byte}
 use Rattle.std.specs.Char.{len_utf8}
@@ -10,7 +10,7 @@ use Rattle.termwiz_bindings.specs.declared.names.ReadError.{ReadError}
 use Rattle.termwiz_bindings.specs.declared.names.ReadErrorKind.TheVariants.{TooLong}
 use Rattle.termwiz_bindings.specs.Names.{error_at, read_key, printed}
 use Rattle.termwiz_bindings.specs.ChordNames.{is_blank, is_refused, control_at, with_key, read_keys, printed_chord}
-use Rattle.termwiz_bindings.proofs.lemmas.TextPlaces.{part_and_rest, part_to_end, byte_and_rest, part_length, part_grown}
+use Rattle.termwiz_bindings.proofs.lemmas.TextPlaces.{part_to_end, byte_and_rest, part_length, part_grown}
 
 -- control characters
 pub no_more_refused : (at : ℕ) (cs : List ℕ) → cs ≡ [] → control_at at cs ≡ None

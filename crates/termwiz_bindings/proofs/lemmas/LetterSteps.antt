@@ -1,6 +1,5 @@
 -- One step of the reading of modifiers in letters.
-use Rattle.std.proofs.Common.{◌≡◌, ◌∙◌, ℕ, ◌+◌, ◌<◌, ◌≤◌, true, false, List, [], ◌∷◌, length, drop, get_or, refl, sym, ap, arith, Option, Some, None, Err}
-use Rattle.std.specs.Prelude.{if◌then◌else◌}
+use Rattle.std.proofs.Common.{◌≡◌, ◌∙◌, ℕ, ◌+◌, ◌<◌, ◌≤◌, true, false, List, [], ◌∷◌, length, drop, get_or, refl, sym, ap, arith, Some, None, Err}
 use Rattle.termwiz_bindings.specs.declared.names.keys.Style.{Style}
 use Rattle.termwiz_bindings.specs.declared.names.ReadErrorKind.TheVariants.{ModifierTwice}
 use Rattle.termwiz_bindings.specs.Presses.{has_any}

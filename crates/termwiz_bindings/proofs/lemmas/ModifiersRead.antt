@@ -1,11 +1,11 @@
 -- The modifiers that are printed are read back.
-use Rattle.std.proofs.Common.{◌≡◌, ◌∙◌, ℕ, ◌+◌, ◌<◌, zero, suc, Bool, true, false, not, ◌==◌, ◌&&◌, List, [], ◌∷◌, ◌++◌, length, bit_or, codes, refl, sym, ap, subst, arith, append_assoc}
+use Rattle.std.proofs.Common.{◌≡◌, ◌∙◌, ℕ, ◌+◌, ◌<◌, zero, suc, Bool, true, false, not, ◌==◌, ◌&&◌, List, [], ◌++◌, bit_or, codes, refl, sym, ap, subst, arith, append_assoc}
 use Rattle.std.specs.Prelude.{if◌then◌else◌}
 use Rattle.std.proofs.lemmas.Bool.{and_parts}
 use Rattle.std.proofs.lemmas.Bool.Decides.{nat_tests}
 use Rattle.termwiz_bindings.specs.Presses.{SHIFT, ALT, CTRL, SUPER, HYPER, META, has_any}
 use Rattle.termwiz_bindings.specs.Words.{modifier_of_word, modifier_words}
-use Rattle.termwiz_bindings.specs.Names.{worded_press, one_character, printed_modifier, printed_modifiers}
+use Rattle.termwiz_bindings.specs.Names.{worded_press, printed_modifier, printed_modifiers}
 
 -- what passes a test below a number
 abbrev pub all_below : (ℕ → Bool) → ℕ → Bool

@@ -1,11 +1,11 @@
 -- The printed name of a key is read as that key.
-use Rattle.std.proofs.Common.{◌≡◌, ◌∙◌, ℕ, ◌+◌, ◌-◌, ◌/◌, ◌%◌, ◌<◌, ◌≤◌, zero, suc, Bool, true, false, not, ◌==◌, ◌&&◌, ◌||◌, List, [], ◌∷◌, ◌++◌, length, replicate, nat_lt, nat_le, codes, refl, sym, ap, subst, arith, append-nil, append_assoc, Option, Some, None, Result, Ok, Err, lt_trans, lit<, ⊎_elim}
+use Rattle.std.proofs.Common.{◌≡◌, ◌∙◌, ℕ, ◌+◌, ◌-◌, ◌/◌, ◌%◌, ◌<◌, ◌≤◌, Bool, true, false, not, ◌==◌, ◌&&◌, ◌||◌, List, [], ◌∷◌, ◌++◌, length, replicate, nat_lt, nat_le, codes, refl, sym, ap, subst, arith, append-nil, append_assoc, Some, None, Ok, lt_trans, lit<, ⊎_elim}
 use lib.Utf8.{encode, scalar_cases}
 use Rattle.std.specs.Prelude.{if◌then◌else◌}
 use Rattle.std.specs.List.{list_all}
 use Rattle.std.specs.Char.{IsScalar, encode_utf8}
 use Rattle.std.specs.Fmt.{decimal, digits}
-use Rattle.std.specs.Str.{chars, chars_after, is_utf8, encode_utf8_all}
+use Rattle.std.specs.Str.{chars, is_utf8}
 use Rattle.std.specs.Str.Parse.{AllDigits, IsNumeral}
 use Rattle.std.proofs.lemmas.Bool.{and_parts, cases_lt}
 use Rattle.std.proofs.lemmas.Bool.Decides.{nat_tests}
@@ -18,9 +18,8 @@ use Rattle.termwiz_extended_events.specs.declared.types.ReportedKey.{ReportedKey
 use Rattle.termwiz_extended_events.specs.declared.types.ReportedKey.TheVariants.{Named, Functional}
 use Rattle.termwiz_extended_events.specs.Numbers.{is_scalar}
 use Rattle.termwiz_extended_events.specs.ReportedKeys.{is_functional}
-use Rattle.termwiz_bindings.specs.declared.names.ReadErrorKind.{ReadErrorKind}
 use Rattle.termwiz_bindings.specs.Words.{printed_word, worded_keys, other_words, worded_key, key_of_word, modifier_of_word, modifier_words}
-use Rattle.termwiz_bindings.specs.Names.{one_character, only_character, is_separator, function_key, kitty_key, numbered, number_within, value_in, word_key, code_point_number, code_point_key, character_key, spelled_key, named_key, named_press, last_press, worded_press, code_point, printed_character, printed_key, is_shown}
+use Rattle.termwiz_bindings.specs.Names.{one_character, only_character, is_separator, function_key, kitty_key, numbered, number_within, value_in, word_key, code_point_number, code_point_key, spelled_key, named_key, named_press, last_press, worded_press, code_point, printed_character, printed_key, is_shown}
 use Rattle.termwiz_bindings.specs.MainKeys.{makes_no_press, is_modifier_number}
 use Rattle.termwiz_bindings.proofs.lemmas.NumberNames.{number_behind, code_point_read}
 

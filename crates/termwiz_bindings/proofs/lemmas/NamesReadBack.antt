@@ -1,5 +1,5 @@
 -- The laws of names.
-use Rattle.std.proofs.Common.{◌≡◌, ℕ, ◌+◌, ◌<◌, ◌≤◌, suc, Bool, true, false, ◌&&◌, List, [], ◌∷◌, ◌++◌, length, nat_lt, refl, sym, subst, arith, length-append, Option, Some, None, Result, Ok, Err}
+use Rattle.std.proofs.Common.{◌≡◌, ℕ, ◌+◌, ◌<◌, ◌≤◌, Bool, true, false, List, [], ◌∷◌, ◌++◌, length, nat_lt, refl, sym, subst, arith, length-append, Option, Some, None, Result, Ok, Err}
 use Rattle.std.specs.Prelude.{if◌then◌else◌, IfOk}
 use Rattle.std.specs.List.{All}
 use Rattle.std.specs.Str.{chars}
@@ -13,7 +13,7 @@ use Rattle.termwiz_bindings.specs.declared.names.ReadError.{ReadError}
 use Rattle.termwiz_bindings.specs.Codes.{IsKeyInRange, IsPress}
 use Rattle.termwiz_bindings.specs.declared.names.ReadErrorKind.TheVariants.{TooLong}
 use Rattle.termwiz_bindings.specs.Names.{error_at, read_key}
-use Rattle.termwiz_bindings.specs.ChordNames.{is_blank, control_at, most_keys, pushed, with_key, read_keys, some_presses, unless_refused, read}
+use Rattle.termwiz_bindings.specs.ChordNames.{is_blank, control_at, pushed, with_key, read_keys, some_presses, unless_refused, read}
 use Rattle.termwiz_bindings.specs.NameLaws.{NamesReadBack, ReadsPresses, AreRead}
 use Rattle.termwiz_bindings.proofs.lemmas.NamesRead.{HasScalar, HasByte}
 use Rattle.termwiz_bindings.proofs.lemmas.PressesRead.{IsKeyPress}

@@ -1,7 +1,7 @@
 -- The printed name of a press is read as that press.
-use Rattle.std.proofs.Common.{◌≡◌, ◌∙◌, ℕ, ◌+◌, ◌-◌, ◌<◌, ◌≤◌, Bool, true, false, not, ◌==◌, ◌&&◌, ◌||◌, List, [], ◌∷◌, ◌++◌, length, nat_lt, nat_le, codes, refl, sym, ap, subst, arith, append_assoc, Option, Some, None, Result, Ok, Err, lt_trans, lit<, ⊎_elim}
-use Rattle.std.specs.Prelude.{if◌then◌else◌, is_some, slice_index}
-use Rattle.std.specs.Char.{IsScalar, encode_utf8, is_ascii_alphabetic, is_ascii_uppercase, to_ascii_uppercase, to_ascii_lowercase}
+use Rattle.std.proofs.Common.{◌≡◌, ◌∙◌, ℕ, ◌<◌, ◌≤◌, Bool, true, false, not, ◌==◌, ◌&&◌, ◌||◌, List, [], ◌∷◌, ◌++◌, codes, refl, sym, ap, subst, arith, append_assoc, Some, None, Ok, lt_trans, lit<, ⊎_elim}
+use Rattle.std.specs.Prelude.{if◌then◌else◌}
+use Rattle.std.specs.Char.{encode_utf8, is_ascii_alphabetic, is_ascii_uppercase, to_ascii_uppercase, to_ascii_lowercase}
 use Rattle.std.specs.Fmt.{decimal}
 use Rattle.std.proofs.lemmas.Bool.{cases_lt}
 use Rattle.std.proofs.lemmas.Bool.Decides.{nat_tests}
@@ -12,7 +12,6 @@ use Rattle.termwiz_keys.specs.declared.types.KeyCode.TheVariants.{Char, Function
 use Rattle.termwiz_extended_events.specs.declared.types.ReportedKey.{ReportedKey}
 use Rattle.termwiz_extended_events.specs.declared.types.ReportedKey.TheVariants.{Named, Functional}
 use Rattle.termwiz_bindings.specs.declared.press.KeyPress.{KeyPress}
-use Rattle.termwiz_bindings.specs.declared.names.ReadError.{ReadError}
 use Rattle.termwiz_bindings.specs.declared.names.keys.Style.TheVariants.{Emacs}
 use Rattle.termwiz_bindings.specs.MainKeys.{main_key}
 use Rattle.termwiz_bindings.specs.Presses.{SHIFT, ALT, CTRL, SUPER, HYPER, META, canonical, character, character_press, has_any, has_shift, with_shift, without_shift, cased_press, capital_press, unshifted_press, lowered_press, all_but_shift_and_alt}
@@ -20,10 +19,9 @@ use Rattle.termwiz_bindings.specs.PressLaws.{report_of_press}
 use Rattle.termwiz_bindings.specs.Words.{printed_word}
 use Rattle.termwiz_bindings.specs.Names.{between_brackets, modifier_of_letter, modifier_before, begins_as_emacs, worded_press, lettered_press, key_between, read_key, named_press, press_of, is_shifted_character, may_have_shift, lowered_key, printed, printed_key, printed_character, printed_modifier, printed_modifiers, is_shown, code_point}
 use Rattle.termwiz_bindings.proofs.lemmas.HeldBits.{held_below, no_shift, others_stay}
-use Rattle.termwiz_bindings.proofs.lemmas.CharacterRules.{IsMainPress, main_stays}
 use Rattle.termwiz_bindings.proofs.lemmas.SettledPresses.{canonical_is_press}
 use Rattle.termwiz_bindings.proofs.lemmas.ModifiersRead.{below_passes, modifiers_read}
-use Rattle.termwiz_bindings.proofs.lemmas.NamesRead.{HasScalar, HasByte, HighBytes, high_bytes, FirstDigit, first_digit, key_read}
+use Rattle.termwiz_bindings.proofs.lemmas.NamesRead.{HasScalar, HasByte, HighBytes, high_bytes, first_digit, key_read}
 
 -- ## Neither Vim's nor Emacs's
 

@@ -12,7 +12,7 @@ use Rattle.termwiz_bindings.specs.declared.names.keys.Style.TheVariants.{Vim, Em
 use Rattle.termwiz_bindings.specs.Presses.{canonical, has_any}
 use Rattle.termwiz_bindings.specs.PressLaws.{report_of_press}
 use Rattle.termwiz_bindings.specs.Words.{modifier_of_word}
-use Rattle.termwiz_bindings.specs.Names.{is_separator, is_empty, one_character, named_press, press_at, press_of, is_shifted_character, named_report, named_key, spelled_key, word_key, last_press, worded_press, with_modifier, modifier_before, lettered_press, lettered_name, emacs_key, between_brackets, begins_as_emacs, key_between, read_key}
+use Rattle.termwiz_bindings.specs.Names.{is_separator, is_empty, one_character, named_press, press_at, press_of, is_shifted_character, named_report, named_key, word_key, last_press, worded_press, with_modifier, modifier_before, lettered_press, lettered_name, emacs_key, between_brackets, begins_as_emacs, key_between, read_key}
 use Rattle.termwiz_bindings.proofs.lemmas.SettledPresses.{presses_settle}
 use Rattle.termwiz_bindings.proofs.lemmas.WordSteps as words
 use Rattle.termwiz_bindings.proofs.lemmas.LetterSteps as letters

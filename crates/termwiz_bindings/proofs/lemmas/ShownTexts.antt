@@ -1,12 +1,12 @@
 -- What is printed has no blanks within a key, and no control characters.
-use Rattle.std.proofs.Common.{◌≡◌, ◌∙◌, ◌⊎◌, ℕ, ◌+◌, ◌-◌, ◌^◌, ◌<◌, ◌≤◌, zero, suc, Bool, true, false, not, ◌==◌, ◌&&◌, ◌||◌, List, [], ◌∷◌, ◌++◌, length, replicate, nat_lt, nat_le, codes, refl, sym, ap, subst, arith, append-nil, append_assoc, lt_trans, lit<, lit≤, inl, inr, ⊎_elim}
+use Rattle.std.proofs.Common.{◌≡◌, ◌∙◌, ◌⊎◌, ℕ, ◌-◌, ◌^◌, ◌<◌, ◌≤◌, zero, suc, Bool, true, false, not, ◌==◌, ◌&&◌, ◌||◌, List, [], ◌∷◌, ◌++◌, length, replicate, nat_le, codes, refl, sym, ap, subst, arith, append-nil, lt_trans, lit<, lit≤, inl, inr, ⊎_elim}
 use Rattle.std.specs.Prelude.{if◌then◌else◌}
 use Rattle.std.specs.List.{list_all, list_any}
 use Rattle.std.specs.Char.{IsScalar, encode_utf8, is_ascii_graphic, digit_value}
 use Rattle.std.specs.Fmt.{decimal, digits}
 use Rattle.std.specs.Str.{encode_utf8_all, all_scalars}
 use Rattle.std.specs.Str.Parse.{AllDigits}
-use Rattle.std.proofs.lemmas.Bool.{and_parts, cases_lt}
+use Rattle.std.proofs.lemmas.Bool.{and_parts}
 use Rattle.std.proofs.lemmas.Bool.Decides.{nat_tests}
 use Rattle.std.proofs.lemmas.Fmt.{decimal_is_IsNumeral, digits_is_IsNumeral}
 use Rattle.std.proofs.lemmas.Str.{encode_ascii, encodes-append}
@@ -21,7 +21,7 @@ use Rattle.termwiz_bindings.specs.MainKeys.{makes_no_press}
 use Rattle.termwiz_bindings.specs.Words.{printed_word}
 use Rattle.termwiz_bindings.specs.Names.{printed, printed_key, printed_character, printed_modifier, printed_modifiers, is_shown, shown_characters, code_point}
 use Rattle.termwiz_bindings.specs.ChordNames.{is_refused}
-use Rattle.termwiz_bindings.proofs.lemmas.NamesRead.{IsSolid, HasScalar, HasByte, HighBytes, high_bytes, functional_numbers}
+use Rattle.termwiz_bindings.proofs.lemmas.NamesRead.{IsSolid, HasScalar, HasByte, high_bytes, functional_numbers}
 
 -- the character isn't refused
 abbrev pub IsFine : ℕ → Bool

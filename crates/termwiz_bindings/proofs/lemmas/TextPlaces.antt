@@ -1,5 +1,5 @@
 -- A part of a text between two places, and the byte behind it.
-use Rattle.std.proofs.Common.{◌≡◌, ◌∙◌, ℕ, ◌+◌, ◌-◌, ◌<◌, ◌≤◌, suc, List, [], ◌∷◌, ◌++◌, length, take, drop, get_or, drop-cons, length-drop, refl, sym, ap, arith}
+use Rattle.std.proofs.Common.{◌≡◌, ◌∙◌, ℕ, ◌+◌, ◌-◌, ◌<◌, ◌≤◌, suc, List, [], ◌∷◌, ◌++◌, length, take, drop, get_or, drop-cons, length-drop, sym, ap, arith}
 use Rattle.std.proofs.lemmas.List.{take-append-drop, take_all, take_more, length-take-le, get_or-drop}
 use Rattle.std.proofs.Math.Seq.{drop-drop}
 

@@ -1,4 +1,4 @@
-use Rattle.std.proofs.Common.{◌≡◌, ◌∙◌, ◌++◌, ◌∷◌, [], sym, ap, arith, take, nat_lt, append-nil, append_assoc, string_bytes}
+use Rattle.std.proofs.Common.{◌∙◌, ◌++◌, ◌∷◌, [], sym, ap, arith, take, nat_lt, append-nil, append_assoc, string_bytes}
 use Rattle.std.specs.Prelude.{if◌then◌else◌}
 use Rattle.termwiz_bindings.specs.Names.{printed}
 use Rattle.termwiz_bindings.specs.ChordNames.{printed_chord}

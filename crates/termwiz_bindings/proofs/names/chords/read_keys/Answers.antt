@@ -1,4 +1,4 @@
-use Rattle.std.proofs.Common.{◌≡◌, ◌∙◌, ◌+◌, ◌-◌, [], take, drop, refl, sym, ap, arith, Err}
+use Rattle.std.proofs.Common.{◌∙◌, ◌+◌, ◌-◌, take, drop, refl, sym, ap, arith}
 use Rattle.std.proofs.lemmas.Result.{err_from_is_err_and}
 use Rattle.termwiz_bindings.specs.ChordNames.{with_key, read_keys}
 use Rattle.termwiz_bindings.proofs.lemmas.TextPlaces.{rest_of}

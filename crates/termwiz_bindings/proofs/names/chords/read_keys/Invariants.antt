@@ -1,4 +1,4 @@
-use Rattle.std.proofs.Common.{◌≡◌, ◌+◌, ◌-◌, ◌≤◌, [], take, drop}
+use Rattle.std.proofs.Common.{◌≡◌, ◌-◌, ◌≤◌, [], take, drop}
 use Rattle.termwiz_bindings.specs.ChordNames.{read_keys}
 use Rattle.termwiz_bindings.proofs.names.chords.read_keys.Given as goal
 

@@ -1,4 +1,4 @@
-use Rattle.std.proofs.Common.{◌≡◌, ◌∙◌, ◌+◌, sym, ap, arith, Err, drop, length-drop}
+use Rattle.std.proofs.Common.{◌∙◌, ◌+◌, sym, ap, arith, Err, drop, length-drop}
 use Rattle.std.proofs.lemmas.Result.{err_from_is_err_and}
 use Rattle.termwiz_bindings.specs.Names.{lettered_press}
 use Rattle.termwiz_bindings.proofs.lemmas.TextPlaces.{rest_of}

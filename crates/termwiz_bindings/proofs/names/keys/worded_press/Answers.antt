@@ -1,4 +1,4 @@
-use Rattle.std.proofs.Common.{◌≡◌, ◌∙◌, ◌+◌, ◌-◌, [], take, drop, refl, sym, ap, arith, Err}
+use Rattle.std.proofs.Common.{◌∙◌, ◌+◌, ◌-◌, [], take, drop, refl, sym, ap, arith, Err}
 use Rattle.std.specs.Prelude.{is_some}
 use Rattle.std.proofs.lemmas.Result.{err_from_is_err_and}
 use Rattle.termwiz_bindings.specs.Names.{last_press, worded_press}

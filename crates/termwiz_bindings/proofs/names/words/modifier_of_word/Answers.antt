@@ -1,5 +1,3 @@
-use Rattle.std.proofs.Common.{rules, arith}
-use Rattle.std.proofs.lemmas.Grind.{common_steps}
 use Rattle.termwiz_bindings.specs.Words.{modifier_words, modifier_of_word}
 use Rattle.termwiz_bindings.proofs.names.words.modifier_of_word.Goals as goal
 
