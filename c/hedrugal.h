@@ -27,8 +27,8 @@
  * - A pointer of length 0 may be NULL. Every other pointer must be non-null.
  * - Two pointers of one call must not lead to the same memory, but for a table that parsers share. Each leads to as much as its type or
  *   length says.
- * - A hed_parser, a hed_extended and a hed_keymap are all zero (HED_PARSER_NONE, HED_EXTENDED_NONE, HED_KEYMAP_NONE) or as a call of this
- *   library left them.
+ * - A hed_parser, a hed_extended, a hed_keymap and a hed_bindings are all zero (HED_PARSER_NONE, HED_EXTENDED_NONE, HED_KEYMAP_NONE,
+ *   HED_BINDINGS_NONE) or as a call of this library left them. What is said here of a map holds of bindings too.
  * - Any thread may call, but no two calls on the same parser or the same map may run at the same time, not even two that only read.
  *   Parsers that share a table are different parsers.
  * - A parser or a map that one thread has used may be used by another once the two are ordered, as by a lock or by a join.
@@ -37,8 +37,8 @@
  *
  * The caller owns all memory that it passes. The library keeps no pointer to it, and reads and writes nothing else of the caller's. A call
  * with a const pointer to a parser or a map changes neither the struct nor what it leads to, but for the number of parsers that share its
- * table. What a parser or a map owns it gets from malloc and realloc, and hed_parser_free, hed_extended_free or hed_keymap_free frees it.
- * That what it owns may pass from thread to thread is proved.
+ * table. What a parser or a map owns it gets from malloc and realloc, and hed_parser_free, hed_extended_free, hed_keymap_free or
+ * hed_bindings_free frees it. That what it owns may pass from thread to thread is proved.
  *
  * The library is built for Linux on x86-64, and so are its layouts: for anything else this header doesn't compile. The numbers are those
  * of c/numbers.txt, and a number never changes its meaning. */
