@@ -26,22 +26,6 @@ static void put_flags(const char *field, const flag *flags, unsigned set) {
   putchar(']');
 }
 
-/* The length of a character in UTF-8, by its first byte. The text of a paste is always UTF-8. */
-static size_t character_length(uint8_t first) {
-  if (first < 0x80) return 1;
-  if (first < 0xe0) return 2;
-  return first < 0xf0 ? 3 : 4;
-}
-
-/* The code point of the character at the front of a text. */
-static uint32_t code_point(const uint8_t *first) {
-  static const uint8_t masks[] = { 0, 0x7f, 0x1f, 0x0f, 0x07 };
-  size_t length = character_length(*first);
-  uint32_t code = *first & masks[length];
-  for (size_t i = 1; i < length; i++) code = code << 6 | (first[i] & 0x3f);
-  return code;
-}
-
 static void put_character(uint32_t code) {
   if (code == '"' || code == '\\') printf("\\%c", (char)code);
   else if (code >= ' ' && code < 0x7f) putchar((int)code);
@@ -49,8 +33,15 @@ static void put_character(uint32_t code) {
   else printf("\\u%04x\\u%04x", (unsigned)(0xd800 + ((code - 0x10000) >> 10)), (unsigned)(0xdc00 + (code & 0x3ff)));
 }
 
-static void put_text(const uint8_t *characters, size_t length) {
-  for (size_t at = 0; at < length; at += character_length(characters[at])) put_character(code_point(characters + at));
+/* A text in UTF-8, as that of a paste always is. */
+static void put_text(const char *characters, size_t length) {
+  for (size_t at = 0, taken; at < length; at += taken) put_character(text_code_point(characters + at, &taken));
+}
+
+static void put_field(const char *before, const char *name, const char *value) {
+  printf("%s\"%s\":\"", before, name);
+  put_text(value, strlen(value));
+  putchar('"');
 }
 
 /* The bytes that the event brought: a text, or those of a sequence in hexadecimal. */
@@ -62,7 +53,7 @@ static bool put_brought(const group *its, const reader *reader) {
   if (!brought) return false;
   reader_text(reader, brought, length);
   printf(",\"length\":%zu,\"%s\":\"", length, is_text ? "text" : "data");
-  if (is_text) put_text(brought, length);
+  if (is_text) put_text((const char *)brought, length);
   else put_hex(brought, length);
   putchar('"');
   free(brought);
@@ -126,17 +117,63 @@ static bool brings_bytes(uint8_t kind) {
   return kind == HED_KIND_PASTE || kind == HED_KIND_REPORT || (kind >= HED_KIND_CSI && kind != HED_KIND_SIDE_BUTTON);
 }
 
-bool json_event(const line *of, const group *its, const reader *reader) {
+static void put_presses(const group *its) {
+  static const char *const fields[PRESSES_MOST] = { "press", "second" };
+  for (size_t i = 0; i < its->press_count; i++) put_field(",", fields[i], its->presses[i]);
+}
+
+/* The object of keys and their command, which is null if they have none. */
+static void put_command(const char *before, const char *keys, const char *command) {
+  put_field(before, "keys", keys);
+  if (command) put_field(",", "command", command);
+  else printf(",\"command\":null");
+  putchar('}');
+}
+
+static void put_outcomes(const line *of, size_t first) {
+  const char *before = ",\"outcomes\":[{";
+  for (size_t place = first; place < of->outcome_count; place++) {
+    put_command(before, outcome_keys(&of->outcomes[place]), of->outcomes[place].command);
+    before = ",{";
+  }
+  if (first < of->outcome_count) putchar(']');
+}
+
+/* The presses that are pending, and the chords that may follow. */
+static void put_pending(const bindings *bound) {
+  size_t first, end;
+  if (!bindings_following(bound, &first, &end)) return;
+  const char *before = "\",\"continuations\":[{";
+  printf(",\"pending\":\"");
+  for (size_t place = first; place < end; place++) {
+    continuation it = bindings_at(bound, place);
+    if (place == first) put_text(it.chord, (size_t)(it.rest - it.chord) - 1);
+    put_command(before, it.rest, it.command);
+    before = ",{";
+  }
+  putchar(']');
+}
+
+bool json_event(const line *of, const group *its, const reader *reader, const bindings *bound) {
   begin_object(of, its->start, its->length, kind_name(its->event.kind));
   put_fields(&its->event);
   bool has_memory = !brings_bytes(its->event.kind) || put_brought(its, reader);
+  put_presses(its);
+  put_outcomes(of, its->first_outcome);
+  if (its->press_count > 0) put_pending(bound);
   puts("}");
   return has_memory;
+}
+
+void json_pause(const line *of, size_t first) {
+  begin_object(of, of->settled, 0, "pause");
+  put_outcomes(of, first);
+  puts("}");
 }
 
 void json_waiting(const line *of, const char *reason) {
   begin_object(of, of->settled, line_waiting(of), "waiting");
   printf(",\"reason\":\"");
-  put_text((const uint8_t *)reason, strlen(reason));
+  put_text(reason, strlen(reason));
   puts("\"}");
 }

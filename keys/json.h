@@ -2,11 +2,16 @@
 #ifndef KEYS_JSON_H
 #define KEYS_JSON_H
 
+#include "bindings.h"
 #include "line.h"
 #include "reader.h"
 
-/* Writes the object of a group's event. The bytes that it brought are the reader's. Returns false if memory is refused. */
-bool json_event(const line *of, const group *its, const reader *reader);
+/* Writes the object of a group's event, with the outcomes from its first one on, and the chords that may follow. The bytes that it brought
+ * are the reader's. Returns false if memory is refused. */
+bool json_event(const line *of, const group *its, const reader *reader, const bindings *bound);
+
+/* Writes the object of a pause: the outcomes from a place on. */
+void json_pause(const line *of, size_t first);
 
 /* Writes the object of the bytes that are buffered at the end. */
 void json_waiting(const line *of, const char *reason);

@@ -7,33 +7,25 @@ static size_t doubled(size_t room, size_t least) {
   return room;
 }
 
-static bool reserve_bytes(line *it, size_t length) {
-  size_t room = doubled(it->room, length);
-  uint8_t *bytes = room == it->room ? it->bytes : realloc(it->bytes, room);
-  if (!bytes) return false;
-  it->bytes = bytes;
-  it->room = room;
-  return true;
-}
-
-static bool reserve_groups(line *it, size_t count) {
-  size_t room = doubled(it->group_room, count);
-  group *groups = room == it->group_room ? it->groups : realloc(it->groups, room * sizeof *groups);
-  if (!groups) return false;
-  it->groups = groups;
-  it->group_room = room;
-  return true;
+/* Makes room for at least so many items of a size. Returns where they are, or NULL if memory is refused: then nothing changed. */
+static void *reserve(void *items, size_t *room, size_t least, size_t size) {
+  size_t wanted = doubled(*room, least);
+  void *moved = wanted == *room ? items : realloc(items, wanted * size);
+  if (moved) *room = wanted;
+  return moved;
 }
 
 bool line_begin(line *it, const uint8_t *bytes, size_t length) {
   size_t waiting = line_waiting(it);
-  if (!reserve_bytes(it, it->length + length)) return false;
+  uint8_t *joined = reserve(it->bytes, &it->room, it->length + length, 1);
+  if (!joined) return false;
+  it->bytes = joined;
   if (it->settled > 0) memmove(it->bytes, it->bytes + it->settled, waiting);
   if (length > 0) memcpy(it->bytes + waiting, bytes, length);
   it->read++;
   it->earlier = waiting;
   it->length = waiting + length;
-  it->settled = it->group_count = 0;
+  it->settled = it->group_count = it->outcome_count = 0;
   return true;
 }
 
@@ -45,15 +37,30 @@ static size_t kept_of(const line *it, const hed_extended_event *event, size_t wa
 }
 
 group *line_settle(line *it, const hed_extended_event *event, size_t waiting, size_t paste_start) {
-  if (!reserve_groups(it, it->group_count + 1)) return NULL;
+  group *groups = reserve(it->groups, &it->group_room, it->group_count + 1, sizeof *groups);
+  if (!groups) return NULL;
+  it->groups = groups;
   group *added = &it->groups[it->group_count++];
   memset(added, 0, sizeof *added);
   it->kept = kept_of(it, event, waiting, paste_start);
   added->start = it->settled;
   added->length = line_waiting(it) + it->kept - waiting;
   added->event = *event;
+  added->first_outcome = it->outcome_count;
   it->settled += added->length;
   return added;
+}
+
+bool line_decide(line *it, const outcome *decided) {
+  outcome *outcomes = reserve(it->outcomes, &it->outcome_room, it->outcome_count + 1, sizeof *outcomes);
+  if (!outcomes) return false;
+  it->outcomes = outcomes;
+  it->outcomes[it->outcome_count++] = *decided;
+  return true;
+}
+
+const char *outcome_keys(const outcome *it) {
+  return it->command ? it->chord : it->press;
 }
 
 size_t line_waiting(const line *it) {
@@ -73,5 +80,6 @@ void line_forget(line *it) {
 void line_free(line *it) {
   free(it->bytes);
   free(it->groups);
+  free(it->outcomes);
   memset(it, 0, sizeof *it);
 }

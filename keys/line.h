@@ -1,16 +1,28 @@
-/* The line of a read: its bytes in groups, each with the event that consumed it. Bytes at the end that no event consumed are buffered. */
+/* The line of a read: its bytes in groups, each with the event that consumed it, and what the keys did by a file of bindings. Bytes at the
+ * end that no event consumed are buffered. */
 #ifndef KEYS_LINE_H
 #define KEYS_LINE_H
 
 #include "hedrugal.h"
 
-enum { TEXT_SHOWN = 16 };
+/* An event has at most two presses. PRESS_SIZE is room for the name of one, with all modifiers and a final 0. */
+enum { TEXT_SHOWN = 16, PRESSES_MOST = 2, PRESS_SIZE = 64 };
 
 typedef struct group {
   size_t start, length; /* its bytes, among the line's */
   hed_extended_event event;
   uint8_t text[TEXT_SHOWN]; /* how the bytes begin that the event brought */
+  char presses[PRESSES_MOST][PRESS_SIZE]; /* the names of its press and of its second press */
+  size_t press_count;
+  size_t first_outcome; /* the place of the first outcome that it brought */
 } group;
+
+/* What keys did that were pressed. */
+typedef struct outcome {
+  const char *command; /* NULL if a key is bound to none */
+  const char *chord; /* the name of the keys that have a command */
+  char press[PRESS_SIZE]; /* the name of the key that has none */
+} outcome;
 
 typedef struct line {
   size_t read; /* the number of the read, from 1 on; 0 before the first */
@@ -21,6 +33,8 @@ typedef struct line {
   size_t kept; /* how many bytes of groups are buffered still: the part of a paste or of a string leaves its start there */
   group *groups;
   size_t group_count, group_room;
+  outcome *outcomes;
+  size_t outcome_count, outcome_room;
 } line;
 
 /* Begins the line of the next read. What was buffered on the line before comes first. Returns false if memory is refused: then it is
@@ -30,6 +44,12 @@ bool line_begin(line *it, const uint8_t *bytes, size_t length);
 /* Adds the group of an event, which consumed all bytes but those that are still buffered. A paste starts with paste_start bytes. Returns
  * NULL if memory is refused. */
 group *line_settle(line *it, const hed_extended_event *event, size_t waiting, size_t paste_start);
+
+/* Adds an outcome. Returns false if memory is refused. */
+bool line_decide(line *it, const outcome *decided);
+
+/* The name of an outcome's keys. */
+const char *outcome_keys(const outcome *it);
 
 /* The number of buffered bytes that belong to no group. */
 size_t line_waiting(const line *it);

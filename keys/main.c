@@ -3,7 +3,9 @@
  * It has no grammar of its own: the library says which bytes an event consumed, and why others are buffered. ^C, ^Z and ^\ are keys like
  * any other (ISIG is off). The terminal is restored whenever the program ends or stops, as in c/live.c. */
 #define _POSIX_C_SOURCE 200809L
+#include "bindings.h"
 #include "json.h"
+#include "names.h"
 #include "options.h"
 #include "reader.h"
 #include "screen.h"
@@ -27,12 +29,14 @@ typedef struct keys {
   screen screen;
   line line;
   reader reader;
+  bindings bindings;
   int input, wake;
   bool is_live; /* whether the input is a terminal, where pauses count */
   bool was_end; /* whether the last event was ^D */
   bool is_over; /* whether ^D came twice */
   const char *failure; /* why the program ends, if nobody asked for it */
   int error; /* the system's number for that, 0 if it has none */
+  bool is_refused; /* whether the file of bindings is, and standard error says why */
 } keys;
 
 static const char no_memory[] = "out of memory";
@@ -76,12 +80,41 @@ static void note_end(keys *it, const hed_extended_event *event) {
   it->was_end = is_end;
 }
 
+/* Adds what the pending presses did to the line, as far as it is decided. */
+static bool decide(keys *it, bool more) {
+  outcome decided;
+  uint32_t next;
+  while ((next = bindings_next(&it->bindings, more, &decided)) == HED_NEXT_EVENT)
+    if (!line_decide(&it->line, &decided)) return fail(it, no_memory, 0);
+  return next == HED_NEXT_NONE || fail(it, no_memory, 0);
+}
+
+/* Gives up waiting for keys that may follow. */
+static bool give_up(keys *it) {
+  size_t first = it->line.outcome_count;
+  if (!bindings_is_pending(&it->bindings)) return true;
+  if (!decide(it, false)) return false;
+  if (it->options.is_json) json_pause(&it->line, first);
+  return true;
+}
+
+/* Names an event's presses, and reads them by the bindings. */
+static bool handle_presses(keys *it, group *of) {
+  hed_key_press presses[PRESSES_MOST];
+  of->press_count = reader_presses(&it->reader, &of->event, presses);
+  for (size_t i = 0; i < of->press_count; i++)
+    if (!print_chord(of->presses[i], PRESS_SIZE, &presses[i], 1)) return fail(it, no_memory, 0);
+  if (of->press_count > 0) bindings_press(&it->bindings, presses, of->press_count, now_ms());
+  return decide(it, true);
+}
+
 /* Adds the event's group to the line. */
 static bool handle_event(keys *it, const hed_extended_event *event) {
   group *added = line_settle(&it->line, event, reader_waiting(&it->reader), it->reader.paste_start);
   if (!added) return fail(it, no_memory, 0);
   if (event->text_len > 0) reader_text(&it->reader, added->text, sizeof added->text);
-  if (it->options.is_json && !json_event(&it->line, added, &it->reader)) return fail(it, no_memory, 0);
+  if (!handle_presses(it, added)) return false;
+  if (it->options.is_json && !json_event(&it->line, added, &it->reader, &it->bindings)) return fail(it, no_memory, 0);
   if (event->text_len > 0) reader_drop_text(&it->reader);
   note_end(it, event);
   return true;
@@ -103,24 +136,35 @@ static bool take_paste(keys *it) {
   return taken == HED_NEXT_NONE || fail(it, no_memory, 0);
 }
 
-static void draw(keys *it, const text *reason) {
-  if (!it->options.is_json) screen_draw(&it->screen, &it->line, reason->bytes);
+static void draw(keys *it, const reasons *why) {
+  if (!it->options.is_json) screen_draw(&it->screen, &it->line, &it->bindings, why);
 }
 
-/* Shows the line with what is buffered. Without pauses the next read settles that, so the line is shown then. */
+/* Draws the line with one reason for what is buffered and what is pending. */
+static void draw_undecided(keys *it, const text *reason) {
+  draw(it, &(reasons){ .bytes = *reason, .presses = *reason });
+}
+
+/* Whether bytes are buffered or presses pending. */
+static bool is_undecided(const keys *it) {
+  return reader_waiting(&it->reader) > 0 || bindings_is_pending(&it->bindings);
+}
+
+/* Shows the line with what is undecided. Without pauses the next read decides that, so the line is shown then. */
 static void show(keys *it) {
-  text reason = { .length = 0 };
-  if (!it->is_live && reader_waiting(&it->reader) > 0) return;
-  add_waiting(&reason, &it->reader, &it->line);
-  if (it->is_live) add_waiting_for(&reason, &it->reader, now_ms());
-  draw(it, &reason);
+  reasons why = { .lists_keys = true };
+  if (!it->is_live && is_undecided(it)) return;
+  add_waiting(&why.bytes, &it->reader, &it->line);
+  if (it->is_live) add_waiting_for(&why.bytes, &it->reader, now_ms());
+  if (it->is_live) add_pending(&why.presses);
+  draw(it, &why);
 }
 
-/* What is buffered belongs to a group of the next line. */
+/* The next line decides what is undecided. */
 static void leave_line(keys *it) {
   text reason = { .length = 0 };
   text_add(&reason, "goes on in read %zu", it->line.read + 1);
-  if (reader_waiting(&it->reader) > 0 && (!it->screen.is_drawn || screen_can_replace(&it->screen))) draw(it, &reason);
+  if (is_undecided(it) && (!it->screen.is_drawn || screen_can_replace(&it->screen))) draw_undecided(it, &reason);
   screen_next(&it->screen);
 }
 
@@ -140,24 +184,26 @@ static bool handle_input(keys *it) {
   return count > 0 && handle_bytes(it, bytes, (size_t)count);
 }
 
-/* Does nothing before what is buffered has waited as long as it may. */
+/* Does nothing before what is buffered or pending has waited as long as it may. */
 static bool handle_pause(keys *it) {
   hed_extended_event event;
   uint32_t next;
   while ((next = reader_expire(&it->reader, now_ms(), &event)) == HED_NEXT_EVENT)
     if (!handle_event(it, &event)) return false;
+  if (next != HED_NEXT_NONE) return fail(it, no_memory, 0);
+  if (bindings_timeout(&it->bindings, now_ms()) == 0 && !give_up(it)) return false;
   show(it);
-  return next == HED_NEXT_NONE || fail(it, no_memory, 0);
+  return true;
 }
 
-/* Flushes what is buffered once nothing more can come. An open paste stays. */
+/* Flushes what is buffered once nothing more can come, and gives up what is pending. An open paste stays. */
 static bool handle_end(keys *it) {
   text reason = { .length = 0 };
-  if (reader_waiting(&it->reader) == 0) return true;
-  if (!handle_events(it, false)) return false;
+  if (!is_undecided(it)) return true;
+  if (!handle_events(it, false) || !give_up(it)) return false;
   add_waiting(&reason, &it->reader, &it->line);
   text_add(&reason, ": its end never came");
-  draw(it, &reason);
+  draw_undecided(it, &reason);
   return true;
 }
 
@@ -174,9 +220,10 @@ static bool enter_terminal(keys *it) {
 static void forget_waiting(keys *it) {
   text reason = { .length = 0 };
   text_add(&reason, "forgotten, since another program had the terminal");
-  if (line_waiting(&it->line) > 0) draw(it, &reason);
+  if (line_waiting(&it->line) > 0 || bindings_is_pending(&it->bindings)) draw_undecided(it, &reason);
   reader_reset(&it->reader);
   line_forget(&it->line);
+  bindings_forget(&it->bindings);
 }
 
 /* Another program had the terminal: what was buffered before no longer counts, and the size may be new. */
@@ -200,9 +247,18 @@ static bool handle_wake(keys *it) {
   return true;
 }
 
+/* How long nothing has to come until something is decided: -1 if a pause decides nothing. */
+static int32_t timeout(keys *it) {
+  uint64_t now = now_ms();
+  int32_t bytes = reader_timeout(&it->reader, now);
+  int32_t presses = bindings_timeout(&it->bindings, now);
+  if (bytes < 0 || presses < 0) return bytes < 0 ? presses : bytes;
+  return bytes < presses ? bytes : presses;
+}
+
 static bool wait_and_handle(keys *it) {
   struct pollfd ready[2] = { { .fd = it->input, .events = POLLIN }, { .fd = it->wake, .events = POLLIN } };
-  int count = poll(ready, 2, reader_timeout(&it->reader, now_ms()));
+  int count = poll(ready, 2, timeout(it));
   if (count == 0) return handle_pause(it);
   if (count < 0) return errno == EINTR || fail(it, "the terminal can't be polled", errno);
   return ready[1].revents ? handle_wake(it) : handle_input(it);
@@ -242,19 +298,34 @@ static bool open_input(keys *it) {
   return it->input >= 0 || fail(it, it->options.file, errno);
 }
 
+static bool read_bindings(keys *it) {
+  if (!it->options.bindings) return true;
+  switch (bindings_read(&it->bindings, it->options.bindings)) {
+    case BINDINGS_WRONG: it->is_refused = true; return false;
+    case BINDINGS_NO_FILE: return fail(it, it->options.bindings, errno);
+    case BINDINGS_NO_MEMORY: return fail(it, no_memory, 0);
+    default: return true;
+  }
+}
+
+static bool start(keys *it) {
+  if (!read_bindings(it) || !open_input(it)) return false;
+  if (!reader_init(&it->reader, it->options.reading)) return fail(it, no_memory, 0);
+  return !it->is_live || start_live(it);
+}
+
 static void show_input(keys *it) {
   screen_find(&it->screen);
   take_size(it);
   it->screen.is_hex = it->options.is_hex;
-  if (!open_input(it)) return;
-  if (!reader_init(&it->reader, it->options.reading)) fail(it, no_memory, 0);
-  else if (!it->is_live || start_live(it)) {
+  if (start(it)) {
     run(it);
     finish(it);
   }
   terminal_leave(&it->terminal);
   reader_free(&it->reader);
   line_free(&it->line);
+  bindings_free(&it->bindings);
 }
 
 static void print_words(keys *it) {
@@ -270,6 +341,7 @@ static void print_error(const char *words, int error) {
 
 static int status_of(const keys *it) {
   if (signals_ending()) signals_end(signals_ending());
+  if (it->is_refused) return 2;
   if (!it->failure) return 0;
   print_error(it->failure, it->error);
   return 1;

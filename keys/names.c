@@ -99,6 +99,31 @@ void add_key(text *out, uint16_t key, uint32_t detail) {
   else text_add(out, "%.*s", length, name);
 }
 
+bool print_chord(char *out, size_t size, const hed_key_press *keys, size_t count) {
+  size_t length;
+  if (hed_key_print(keys, count, (uint8_t *)out, size - 1, &length) != HED_PRINTED_NAME) return false;
+  out[length] = '\0';
+  return true;
+}
+
+const char *key_error(uint32_t named) {
+  static const char *const words[] = {
+    [HED_NAMED_CONTROL_CHARACTER] = "a control character is in the name",
+    [HED_NAMED_MODIFIER_TWICE] = "a modifier is there twice",
+    [HED_NAMED_UNKNOWN_MODIFIER] = "no modifier has this name",
+    [HED_NAMED_MISSING_KEY] = "no key is behind the modifiers",
+    [HED_NAMED_BAD_NUMBER] = "no key has this number",
+    [HED_NAMED_UNKNOWN_NAME] = "no key has this name",
+    [HED_NAMED_AMBIGUOUS] = "DEL is either backspace or delete",
+    [HED_NAMED_NOT_A_KEY] = "the key makes no press by itself",
+    [HED_NAMED_SHIFTED_CHARACTER] = "shift with a character that isn't a letter",
+    [HED_NAMED_TOO_LONG] = "there are too many keys",
+    [HED_NAMED_EMPTY] = "there is no key",
+    [HED_NAMED_BAD_TEXT] = "the name isn't UTF-8",
+  };
+  return words[named];
+}
+
 void add_flags(text *out, const flag *flags, unsigned set) {
   const char *before = "";
   for (const flag *it = flags; it->name; it++) {

@@ -1,4 +1,4 @@
-/* The names of bytes, keys, modifiers and buttons. Keys, modifiers and buttons have those that keyshow prints. */
+/* The names of bytes, keys, presses, modifiers and buttons. Keys, modifiers and buttons have those that keyshow prints. */
 #ifndef KEYS_NAMES_H
 #define KEYS_NAMES_H
 
@@ -33,6 +33,13 @@ void add_byte(text *out, uint8_t byte, bool is_hex);
 
 /* Appends a key: U+0061, F5, UpArrow. One without a name is its number in Kitty's table. */
 void add_key(text *out, uint16_t key, uint32_t detail);
+
+/* Writes the name of a chord, or of a press, and a final 0 to out, which has PRESS_SIZE bytes for each press. Returns false if memory is
+ * refused. */
+bool print_chord(char *out, size_t size, const hed_key_press *keys, size_t count);
+
+/* What is wrong with the name of a chord, by what hed_key_read returned. */
+const char *key_error(uint32_t named);
 
 /* Appends the names of the flags that are in a set: SHIFT+ALT, or NONE. */
 void add_flags(text *out, const flag *flags, unsigned set);

@@ -15,11 +15,13 @@ const char options_help[] =
     "  --kitty-keyboard            it reports keys by Kitty's protocol, with repeats and releases; implies --extended=kitty\n"
     "  --extended, --extended=kitty\n"
     "                              also reads what terminals send beyond the sequence table; =kitty as Kitty's protocol means it\n"
+    "  --bindings FILE             shows what the keys do by the bindings of a file, and which keys may follow;\n"
+    "                              a line of it is a command and the keys of a chord: save ctrl+x ctrl+s\n"
     "  --hex                       bytes in hexadecimal\n"
     "  --json                      an object on a line for each event\n"
     "  --help, --version           print this, or the version, and end\n"
     "\n"
-    "A line has the read's number, then groups: bytes -> event. Bytes of earlier reads are in parentheses.\n"
+    "A line has the read's number, then groups: bytes -> event = press. Bytes of earlier reads are in parentheses.\n"
     "Bytes that wait are dimmed, and the reason follows. SP is a space, ^A to ^_ and ^? are control characters,\n"
     "and two hexadecimal digits any byte from 80 on. NO_COLOR switches off colours.\n";
 
@@ -37,6 +39,14 @@ static bool read_mode(options *it, const char *word) {
 static bool read_file(options *it, const char *word) {
   if (it->file) text_add(&it->refused, "wants one file, and '%s' is another; --help says more", word);
   it->file = word;
+  return it->refused.length == 0;
+}
+
+/* The file is the next word, NULL if there is none. */
+static bool read_bindings(options *it, const char *word) {
+  if (!word) text_add(&it->refused, "--bindings wants a file behind it; --help says more");
+  else if (it->bindings) text_add(&it->refused, "wants one file of bindings, and '%s' is another; --help says more", word);
+  it->bindings = word;
   return it->refused.length == 0;
 }
 
@@ -70,7 +80,9 @@ static bool check_modes(options *it, bool has_terminal) {
 }
 
 bool options_read(options *it, int count, char **words, bool has_terminal) {
-  for (int i = 1; i < count; i++)
-    if (!read_word(it, words[i])) return false;
+  for (int i = 1; i < count; i++) {
+    bool wants_next = strcmp(words[i], "--bindings") == 0;
+    if (wants_next ? !read_bindings(it, words[++i]) : !read_word(it, words[i])) return false;
+  }
   return it->wants_help || it->wants_version || check_modes(it, has_terminal);
 }

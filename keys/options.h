@@ -12,6 +12,7 @@ typedef struct options {
   reading reading;
   bool modes[MODE_COUNT];
   const char *file; /* NULL if none is named */
+  const char *bindings; /* the file of bindings, NULL if none is named */
   text refused; /* what is wrong with the words, if they are refused */
 } options;
 

@@ -1,6 +1,8 @@
 #include "reader.h"
 #include <string.h>
 
+enum { SEQUENCE_MOST = 256 };
+
 /* The length of the sequence that starts a paste, which the sequence table has. */
 static size_t paste_start_length(const hed_parser *parser) {
   hed_event event;
@@ -79,6 +81,20 @@ size_t reader_text(const reader *it, uint8_t *out, size_t length) {
 void reader_drop_text(reader *it) {
   if (it->is_extended) hed_extended_drop_text(&it->extended);
   else hed_parser_drop_paste(&it->usual);
+}
+
+/* The press of a report. The text that the key types is shorter than its sequence. */
+static bool press_of_report(const reader *it, const hed_extended_event *event, hed_key_press *press) {
+  uint8_t typed[SEQUENCE_MOST];
+  size_t length = event->text_len < sizeof typed ? event->text_len : 0;
+  if (length > 0) reader_text(it, typed, sizeof typed);
+  return hed_key_of_report(&event->report, typed, length, press);
+}
+
+size_t reader_presses(const reader *it, const hed_extended_event *event, hed_key_press presses[2]) {
+  if (event->kind == HED_KIND_KEY) return hed_key_of_event(&event->input, presses);
+  if (event->kind != HED_KIND_REPORT || !press_of_report(it, event, presses)) return 0;
+  return 1 + hed_key_second(&event->report, presses + 1);
 }
 
 size_t reader_waiting(const reader *it) {

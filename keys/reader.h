@@ -37,6 +37,9 @@ uint32_t reader_expire(reader *it, uint64_t now, hed_extended_event *event);
 size_t reader_text(const reader *it, uint8_t *out, size_t length);
 void reader_drop_text(reader *it);
 
+/* Writes the press of an event to presses, and its second press behind it. Returns how many there are. */
+size_t reader_presses(const reader *it, const hed_extended_event *event, hed_key_press presses[2]);
+
 size_t reader_waiting(const reader *it);
 uint32_t reader_waiting_kind(const reader *it);
 

@@ -82,14 +82,24 @@ static void put_word(screen *it, const char *style, const char *word) {
   set_style(it, plain);
 }
 
-static void put_words(screen *it, const char *style, const char *words) {
-  while (*words) {
+/* Puts the words of a text in UTF-8, up to its end. */
+static void put_words_to(screen *it, const char *style, const char *words, const char *end) {
+  while (words < end) {
     text word = { .length = 0 };
     size_t length = strcspn(words, " ");
-    text_add(&word, "%.*s", (int)length, words);
+    text_add_ascii(&word, words, length);
     put_word(it, style, word.bytes);
     words += length + (words[length] == ' ');
   }
+}
+
+static void put_words(screen *it, const char *style, const char *words) {
+  put_words_to(it, style, words, words + strlen(words));
+}
+
+static void put_meaning(screen *it, const char *arrow_style, const char *style, const char *meaning) {
+  put_word(it, arrow_style, "->");
+  put_words(it, style, meaning);
 }
 
 /* A group, or what is buffered: its bytes, of which those of earlier reads are in parentheses, and what they mean. */
@@ -131,8 +141,7 @@ static void put_bytes(screen *it, const item *of) {
 
 static void put_item_words(screen *it, const item *of) {
   put_bytes(it, of);
-  put_word(it, of->arrow_style, "->");
-  put_words(it, of->meaning_style, of->meaning);
+  put_meaning(it, of->arrow_style, of->meaning_style, of->meaning);
 }
 
 /* Whether an item has no room on the rest of the row. */
@@ -212,9 +221,15 @@ static void add_event(text *out, const group *of) {
   }
 }
 
+static void add_presses(text *out, const group *of) {
+  static const char *const before[PRESSES_MOST] = { " = ", " or " };
+  for (size_t i = 0; i < of->press_count; i++) text_add(out, "%s%s", before[i], of->presses[i]);
+}
+
 static void put_group(screen *it, const line *shown, const group *of) {
   text event = { .length = 0 };
   add_event(&event, of);
+  add_presses(&event, of);
   item put = { .bytes = shown->bytes + of->start,
                .length = of->length,
                .earlier = line_earlier(shown, of->start, of->length),
@@ -241,6 +256,36 @@ static void put_waiting(screen *it, const line *shown, const char *reason) {
   if (length > 0) put_item(it, &put, shown->group_count == 0);
 }
 
+static void put_outcomes(screen *it, const line *shown) {
+  for (size_t i = 0; i < shown->outcome_count; i++) {
+    const outcome *of = &shown->outcomes[i];
+    begin_row(it);
+    put_words(it, coloured, outcome_keys(of));
+    put_meaning(it, plain, of->command ? bold : plain, of->command ? of->command : "unbound");
+  }
+}
+
+static void put_following(screen *it, const bindings *bound, size_t first, size_t end) {
+  for (size_t place = first; place < end; place++) {
+    continuation follows = bindings_at(bound, place);
+    begin_row(it);
+    put_space(it);
+    put_words(it, dim, follows.rest);
+    put_meaning(it, dim, dim, follows.command);
+  }
+}
+
+/* The presses that are pending, and what may follow. */
+static void put_pending(screen *it, const bindings *bound, const reasons *why) {
+  size_t first, end;
+  if (!bindings_following(bound, &first, &end)) return;
+  continuation follows = bindings_at(bound, first);
+  begin_row(it);
+  put_words_to(it, dim, follows.chord, follows.rest);
+  put_meaning(it, dim, dim, why->presses.bytes);
+  if (why->lists_keys) put_following(it, bound, first, end);
+}
+
 bool screen_can_replace(const screen *it) {
   return it->can_rewrite && it->rows > 0 && it->rows < it->height;
 }
@@ -259,12 +304,14 @@ static void put_number(screen *it, size_t read) {
   put_space(it);
 }
 
-void screen_draw(screen *it, const line *shown, const char *reason) {
+void screen_draw(screen *it, const line *shown, const bindings *bound, const reasons *why) {
   erase(it);
   it->rows = it->column = 0;
   put_number(it, shown->read);
   put_groups(it, shown);
-  put_waiting(it, shown, reason);
+  put_waiting(it, shown, why->bytes.bytes);
+  put_outcomes(it, shown);
+  put_pending(it, bound, why);
   end_row(it);
   it->is_drawn = true;
 }

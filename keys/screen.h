@@ -2,8 +2,15 @@
 #ifndef KEYS_SCREEN_H
 #define KEYS_SCREEN_H
 
+#include "bindings.h"
 #include "line.h"
 #include "text.h"
+
+/* Why the last bytes of a line are buffered, and why presses are pending. */
+typedef struct reasons {
+  text bytes, presses;
+  bool lists_keys; /* whether the chords that may follow are listed */
+} reasons;
 
 /* All is printable ASCII. On a terminal the program breaks the rows itself, so it knows how many rows a line takes, and can write the line
  * again in its place. */
@@ -24,8 +31,8 @@ void screen_find(screen *it);
 /* Takes the terminal's size. What is written stays where it is, so the line before can't be written in place any more. */
 void screen_resize(screen *it, size_t width, size_t height);
 
-/* Writes a line, in place of what was written of it. The reason is why its last bytes are buffered; they are dimmed. */
-void screen_draw(screen *it, const line *shown, const char *reason);
+/* Writes a line, in place of what was written of it, and below it what its keys did. What is buffered or pending is dimmed. */
+void screen_draw(screen *it, const line *shown, const bindings *bound, const reasons *why);
 
 /* Whether the line that is written can be written again in its place. */
 bool screen_can_replace(const screen *it);

@@ -1,6 +1,5 @@
 #include "text.h"
 #include <stdarg.h>
-#include <stdint.h>
 
 void text_add(text *it, const char *format, ...) {
   size_t room = TEXT_SIZE - it->length;
@@ -9,6 +8,22 @@ void text_add(text *it, const char *format, ...) {
   int added = vsnprintf(it->bytes + it->length, room, format, values);
   va_end(values);
   if (added > 0) it->length += (size_t)added < room ? (size_t)added : room - 1;
+}
+
+uint32_t text_code_point(const char *front, size_t *length) {
+  static const uint8_t masks[] = { 0, 0x7f, 0x1f, 0x0f, 0x07 };
+  const uint8_t *bytes = (const uint8_t *)front;
+  *length = *bytes < 0x80 ? 1 : *bytes < 0xe0 ? 2 : *bytes < 0xf0 ? 3 : 4;
+  uint32_t code = *bytes & masks[*length];
+  for (size_t i = 1; i < *length; i++) code = code << 6 | (bytes[i] & 0x3f);
+  return code;
+}
+
+void text_add_ascii(text *it, const char *characters, size_t length) {
+  for (size_t at = 0, taken; at < length; at += taken) {
+    uint32_t code = text_code_point(characters + at, &taken);
+    text_add(it, taken == 1 ? "%c" : "U+%04X", (unsigned)code);
+  }
 }
 
 /* How many bytes the character in UTF-8 at the front has, 0 if it is a control character or none. */

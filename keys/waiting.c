@@ -129,3 +129,9 @@ void add_waiting_for(text *out, reader *reader, uint64_t now) {
   add_time(out, left);
   if (kind == HED_WAITING_ESCAPE) text_add(out, ": key Escape %s", reader_waiting(reader) == 1 ? "NONE" : "ALT");
 }
+
+void add_pending(text *out) {
+  text_add(out, "waits up to ");
+  add_time(out, CHORD_PAUSE_MS);
+  text_add(out, " for");
+}

@@ -1,7 +1,8 @@
-/* Why bytes are buffered, in plain words. */
+/* Why bytes are buffered, and presses are pending, in plain words. */
 #ifndef KEYS_WAITING_H
 #define KEYS_WAITING_H
 
+#include "bindings.h"
 #include "line.h"
 #include "reader.h"
 #include "text.h"
@@ -11,5 +12,8 @@ void add_waiting(text *out, reader *reader, const line *shown);
 
 /* Appends what they wait for, and how long, where pauses count. */
 void add_waiting_for(text *out, reader *reader, uint64_t now);
+
+/* Appends how long pending presses wait for those that are listed. */
+void add_pending(text *out);
 
 #endif

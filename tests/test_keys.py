@@ -16,7 +16,7 @@ from terminal import END, ENDING_SIGNALS, LONG_PAUSE, PAUSE, SECONDS, START, Ter
 
 WIDE = (200, 24)
 HELLO = "hedrugal-keys: press keys; ^D twice ends it."
-CTRL_D = "^D -> key U+0064 CTRL"
+CTRL_D = "^D -> key U+0064 CTRL = ctrl+d"
 MODES = {
     "--application-cursor-keys": {"?1": True},
     "--modify-other-keys=1": {">4": 1},
@@ -72,6 +72,17 @@ def start(on_terminal):
 
 
 @pytest.fixture
+def bound(tmp_path):
+    """Writes a file of bindings, that of the page if no other is said, and returns its name."""
+
+    def write(text=None):
+        (tmp_path / "bindings").write_bytes(listings()[3].encode() if text is None else text)
+        return str(tmp_path / "bindings")
+
+    return write
+
+
+@pytest.fixture
 def show(start):
     """Plays steps, waits for their lines, and ends the program."""
 
@@ -91,6 +102,13 @@ def run(*words, typed=b"", program=HEDRUGAL_KEYS, out=subprocess.PIPE, **variabl
     return done.returncode, (done.stdout or b"").decode("ascii"), done.stderr.decode()
 
 
+def listings():
+    """The listings of docs/keys.md that are tested here."""
+    page = (TOP / "docs/keys.md").read_text(encoding="utf-8")
+    listing = r"<!-- not run: tests/test_keys[^>]*-->\n```(?:sh)?\n(.*?)\n```"
+    return re.findall(listing, page, re.S)
+
+
 def begins(count, *keys, up_to=UP_TO):
     """The reason of a sequence that may become so many, with the keys that are named."""
     text = f"the beginning of {count} sequence{'s' * (count > 1)}: {', '.join(keys)}"
@@ -102,16 +120,16 @@ def spelled(typed):
 
 
 def characters(text):
-    return "".join(f" | {it} -> key U+{ord(it):04X} NONE" for it in text)
+    return "".join(f" | {it} -> key U+{ord(it):04X} NONE = {it}" for it in text)
 
 
 MANY = entries_after(b"\033[")
 ARROWS = ["UpArrow", "DownArrow", "RightArrow"]
-BRACKET = "ESC [ -> key U+005B ALT"
+BRACKET = "ESC [ -> key U+005B ALT = alt+["
 # What is typed, for which reason it stays buffered, and what a pause makes of it in its place.
 FLUSHED = {
-    "Escape": (b"\033", ESCAPE, "ESC -> key Escape NONE"),
-    "Alt-Escape": (b"\033\033", ALT_ESCAPE, "ESC ESC -> key Escape ALT"),
+    "Escape": (b"\033", ESCAPE, "ESC -> key Escape NONE = escape"),
+    "Alt-Escape": (b"\033\033", ALT_ESCAPE, "ESC ESC -> key Escape ALT = alt+escape"),
     "two bytes": (b"\033[", begins(MANY, *ARROWS, up_to="waits up to 100 ms"), BRACKET),
     "after ESC": (b"\033\033[", begins(MANY, *(f"Alt-{it}" for it in ARROWS)), f"ESC {BRACKET}"),
     "longer": (b"\033[15", begins(26, "F5", "Shift-F5", "Alt-F5"), BRACKET + characters("15")),
@@ -131,9 +149,9 @@ OSC = "a string of 6 bytes so far: waits up to 6 s"
 BEGUN = "   1  ESC -> goes on in read 2"
 THREE_READS = [b"a\033[1", UP_TO, PAUSE, b";5", "   2  ", PAUSE, b"Ab"]
 THREE_LINES = [
-    "   1  a -> key U+0061 NONE | ESC [ 1 -> goes on in read 2",
+    "   1  a -> key U+0061 NONE = a | ESC [ 1 -> goes on in read 2",
     "   2  (ESC [ 1) ; 5 -> goes on in read 3",
-    "   3  (ESC [ 1 ; 5) A -> key UpArrow CTRL | b -> key U+0062 NONE",
+    "   3  (ESC [ 1 ; 5) A -> key UpArrow CTRL = ctrl+up | b -> key U+0062 NONE = b",
 ]
 STRING = [
     "   1  ESC ] 1 1 ; r -> goes on in read 2",
@@ -142,13 +160,21 @@ STRING = [
 KEYPAD = f"the beginning of a key with modifiers: {UP_TO}"
 KEYPAD_KEY = [
     "   1  ESC O 2 -> goes on in read 2",
-    "   2  (ESC O 2) P -> report F1 SHIFT press",
+    "   2  (ESC O 2) P -> report F1 SHIFT press = shift+f1",
 ]
 # The words, what is typed in time, with texts to wait for and pauses, and the lines. The line of a
 # read says where its bytes went. A second ESC belongs to the group of the first.
 IN_TIME = {
-    "ESC, then [ A": ("", [b"\033", ESCAPE, b"[A"], [BEGUN, "   2  (ESC) [ A -> key UpArrow NONE"]),
-    "ESC, then ESC": ("", [b"\033", ESCAPE, b"\033"], [BEGUN, "   2  (ESC) ESC -> key Escape ALT"]),
+    "ESC, then [ A": (
+        "",
+        [b"\033", ESCAPE, b"[A"],
+        [BEGUN, "   2  (ESC) [ A -> key UpArrow NONE = up"],
+    ),
+    "ESC, then ESC": (
+        "",
+        [b"\033", ESCAPE, b"\033"],
+        [BEGUN, "   2  (ESC) ESC -> key Escape ALT = alt+escape"],
+    ),
     "a sequence over three reads": ("", THREE_READS, THREE_LINES),
     "a key over two reads": ("--extended", [b"\033O2", KEYPAD, b"P"], KEYPAD_KEY),
     "a string over two reads": ("--extended", [b"\033]11;r", OSC, b"\007\033[I"], STRING),
@@ -166,21 +192,23 @@ def test_held_key(start):
     """Its bytes don't put off the end of what they follow."""
     keys = start("--extended", size=WIDE)
     keys.play([b"\033]l", f"the beginning of a command (OSC): {UP_TO}", *[b"j", 0.03] * 50])
-    keys.expect_exact("(ESC ]) -> key U+005D ALT | (l) -> key U+006C NONE", timeout=0.3)
+    keys.expect_exact("(ESC ]) -> key U+005D ALT = alt+] | (l) -> key U+006C NONE = l", timeout=0.3)
     keys.end()
 
 
 def test_half_a_character(show):
     """No pause flushes it."""
     half = ["   1  c3 -> half a character: waits for the rest"]
-    lines = ["   1  c3 -> goes on in read 2", "   2  (c3) a9 -> key U+00E9 NONE"]
+    lines = ["   1  c3 -> goes on in read 2", "   2  (c3) a9 -> key U+00E9 NONE = U+00E9"]
     show([b"\xc3", half, LONG_PAUSE, half, b"\xa9"], lines)
 
 
 def test_open_paste(show):
     """No pause flushes it, and ^D twice is text of it."""
     first, second = "   1  ESC [ 2 0 0 ~ h ^D ^D -> ", "   2  (ESC [ 2 0 0 ~ h ^D ^D) ESC [ 2 -> "
-    third = "   3  (ESC [ 2 0 0 ~ h ^D ^D ESC [ 2) 0 1 ~ -> paste 3:680404 | q -> key U+0071 NONE"
+    third = (
+        "   3  (ESC [ 2 0 0 ~ h ^D ^D ESC [ 2) 0 1 ~ -> paste 3:680404 | q -> key U+0071 NONE = q"
+    )
     begun = [f"{first}a paste of 3 bytes so far: waits for its end"]
     more = [f"{first}goes on in read 2", f"{second}a paste of 6 bytes so far: waits for its end"]
     steps = [START + b"h\x04\x04", begun, LONG_PAUSE, begun, b"\033[2", more, b"01~q"]
@@ -189,16 +217,18 @@ def test_open_paste(show):
 
 
 # The words, what is typed in one read, and its lines.
-CONTROL = """   1  ^@ -> key U+0000 NONE | ^A -> key U+0061 CTRL | ^M -> key Enter NONE |
-      ^? -> key Backspace NONE | SP -> key U+0020 NONE"""
-BROKEN = """   1  ff -> key U+FFFD NONE | c3 -> key U+FFFD NONE | a -> key U+0061 NONE |
-      9b -> key U+FFFD NONE"""
+CONTROL = """   1  ^@ -> key U+0000 NONE = ctrl+space | ^A -> key U+0061 CTRL = ctrl+a |
+      ^M -> key Enter NONE = enter | ^? -> key Backspace NONE = backspace |
+      SP -> key U+0020 NONE = space"""
+BROKEN = """   1  ff -> key U+FFFD NONE = U+FFFD | c3 -> key U+FFFD NONE = U+FFFD |
+      a -> key U+0061 NONE = a | 9b -> key U+FFFD NONE = U+FFFD"""
 PASTED_CONTROL = """   1  ESC [ 2 0 0 ~ ESC ] 0 ; x ^G 9b ^M ^J ESC [ 2 0 1 ~ -> paste
       11:1b5d303b7807efbfbd0d0a"""
 # What a terminal's driver may obey: the keys of signals, and those that stop and start output.
-DRIVER = """   1  ^C -> key U+0063 CTRL | ^Z -> key U+007A CTRL | ^\\ -> key U+001C NONE |
-      ^S -> key U+0073 CTRL | ^Q -> key U+0071 CTRL"""
-HEX = "   1  61 -> key U+0061 NONE | 1b 5b 41 -> key UpArrow NONE"
+DRIVER = """   1  ^C -> key U+0063 CTRL = ctrl+c | ^Z -> key U+007A CTRL = ctrl+z |
+      ^\\ -> key U+001C NONE = ctrl+\\ | ^S -> key U+0073 CTRL = ctrl+s |
+      ^Q -> key U+0071 CTRL = ctrl+q"""
+HEX = "   1  61 -> key U+0061 NONE = a | 1b 5b 41 -> key UpArrow NONE = up"
 SHOWN = {
     "control characters": ([], b"\x00\x01\r\x7f ", CONTROL),
     "bytes that aren't UTF-8": ([], b"\xff\xc3a\x9b", BROKEN),
@@ -225,9 +255,9 @@ def test_long_paste(start):
     keys.end()
 
 
-HEAD = ["   1  a -> key U+0061 NONE |", "      b -> key U+0062 NONE |"]
+HEAD = ["   1  a -> key U+0061 NONE = a |", "      b -> key U+0062 NONE = b |"]
 REASON = ["      ESC -> may begin a key; if nothing", "      follows in 50 ms: key Escape NONE"]
-WAITING, SETTLED = HEAD + REASON, [*HEAD, "      ESC -> key Escape NONE"]
+WAITING, SETTLED = HEAD + REASON, [*HEAD, "      ESC -> key Escape NONE = escape"]
 
 
 @pytest.mark.parametrize(
@@ -268,14 +298,15 @@ def test_new_size(start):
     keys.end()
 
 
-A_AND_ESCAPE = "   1  a -> key U+0061 NONE | ESC -> key Escape NONE"
+A_AND_ESCAPE = "   1  a -> key U+0061 NONE = a | ESC -> key Escape NONE = escape"
 
 
 # By the convention of that name an empty variable counts as none.
 @pytest.mark.parametrize("value", [None, ""], ids=["no NO_COLOR", "an empty NO_COLOR"])
 def test_colours(show, value):
     keys = show([b"a\033"], [A_AND_ESCAPE], NO_COLOR=value)
-    wanted = "   1  _a_ -> *key* *U+0061* *NONE* | _ESC_ -> *key* *Escape* *NONE*"
+    wanted = "   1  _a_ -> *key* *U+0061* *NONE* *=* *a* | "
+    wanted += "_ESC_ -> *key* *Escape* *NONE* *=* *escape*"
     assert keys.screen().styled()[1] == wanted
     # What is buffered is dimmed.
     dimmed = b"\033[2mESC\033[0m \033[2m->\033[0m \033[2mmay\033[0m \033[2mbegin"
@@ -290,7 +321,7 @@ def test_no_colours(show):
 @pytest.mark.parametrize("term", ["dumb", None], ids=["TERM=dumb", "no TERM"])
 def test_without_moves(show, term):
     """Where the cursor can't be moved, the settled line comes below."""
-    lines = [f"   1  ESC -> {ESCAPE}", "   1  ESC -> key Escape NONE"]
+    lines = [f"   1  ESC -> {ESCAPE}", "   1  ESC -> key Escape NONE = escape"]
     keys = show([b"\033"], lines, TERM=term, NO_COLOR=None)
     assert b"\033" not in keys.output
 
@@ -305,8 +336,9 @@ def test_mode(start, word, switched):
 
 def test_one_ctrl_d_is_no_end(show):
     """^D, another key and ^D are three keys."""
-    line = f"   1  {CTRL_D} | a -> key U+0061 NONE | {CTRL_D}"
-    show([b"\x04a\x04", [line], b"b"], [line, "   2  b -> key U+0062 NONE"])
+    line = f"   1  {CTRL_D} | a -> key U+0061 NONE = a | {CTRL_D}"
+    lines = [line, "   2  b -> key U+0062 NONE = b"]
+    show([b"\x04a\x04", [line], b"b"], lines, size=WIDE)
 
 
 def test_end_over_two_reads(start):
@@ -327,7 +359,9 @@ def test_kitty_keyboard(start):
     """In Kitty's protocol ^D is a report. Releases and modifier keys between two don't count."""
     keys = start("--kitty-keyboard", size=WIDE)
     release = "ESC [ 9 7 ; 5 : 3 u -> report U+0061 CTRL release"
-    keys.play([b"\033[97;5:3u\033[A", [f"   1  {release} | ESC [ A -> report UpArrow NONE press"]])
+    keys.play(
+        [b"\033[97;5:3u\033[A", [f"   1  {release} | ESC [ A -> report UpArrow NONE press = up"]]
+    )
     keys.send(b"\033[100;5u\033[100;5:3u\033[57442;5u\033[100;69u")
     keys.check_end(0)
 
@@ -348,7 +382,7 @@ def test_flags_of_kitty_nest(start):
 def test_signal(start, number):
     keys = start(*ALL_MODES)
     assert keys.modes() == ALL_SWITCHED
-    keys.play([b"a", ["   1  a -> key U+0061 NONE"]])
+    keys.play([b"a", ["   1  a -> key U+0061 NONE = a"]])
     keys.end_by(number)
 
 
@@ -362,7 +396,7 @@ def test_sigtstp_sigcont_sigterm(start):
     keys.continue_in_foreground()
     keys.wait_for(lambda: keys.modes() == ALL_SWITCHED, "modes")
     assert keys.is_raw()
-    keys.play([b"b", [first, second, "   2  b -> key U+0062 NONE"]])
+    keys.play([b"b", [first, second, "   2  b -> key U+0062 NONE = b"]])
     keys.stop()
     keys.end_by(signal.SIGTERM, signal.SIGCONT)
 
@@ -374,7 +408,7 @@ def test_sigtstp_where_no_shell_could_continue_it(start):
     keys.wait_for(lambda: keys.output.count(b"\033[?1004h") == 2, "focus mode again")
     assert keys.is_raw()
     keys.send(b"b")
-    keys.end("   1  b -> key U+0062 NONE")
+    keys.end("   1  b -> key U+0062 NONE = b")
 
 
 def test_end_of_the_input(start):
@@ -383,7 +417,7 @@ def test_end_of_the_input(start):
     keys.let_end_input()
     keys.send(b"z\033[\x04\x04")
     keys.check_end(0)
-    assert keys.lines()[1:] == [f"   1  z -> key U+007A NONE | {BRACKET}"]
+    assert keys.lines()[1:] == [f"   1  z -> key U+007A NONE = z | {BRACKET}"]
 
 
 def test_terminal_that_is_gone(start):
@@ -447,10 +481,10 @@ def joined(items):
 TEXT = 'h\x1b"\U0001f600'
 WHEEL = {"x": 3, "y": 4, "buttons": ["VERT_WHEEL", "WHEEL_POSITIVE"], "modifiers": []}
 ALL_KINDS = [
-    (b"a", {"kind": "key", "key": "U+0061", "modifiers": []}),
-    (b"\033[1;5A", {"kind": "key", "key": "UpArrow", "modifiers": ["CTRL"]}),
+    (b"a", {"kind": "key", "key": "U+0061", "modifiers": [], "press": "a"}),
+    (b"\033[1;5A", {"kind": "key", "key": "UpArrow", "modifiers": ["CTRL"], "press": "ctrl+up"}),
     (b"\033[<64;3;4M", {"kind": "mouse", **WHEEL}),
-    (b"\xc3\xa9", {"kind": "key", "key": "U+00E9", "modifiers": []}),
+    (b"\xc3\xa9", {"kind": "key", "key": "U+00E9", "modifiers": [], "press": "é"}),
     (START + TEXT.encode() + END, {"kind": "paste", "length": 7, "text": TEXT}),
     (START + b"x", {"kind": "waiting", "reason": "a paste of 1 bytes so far"}),
 ]
@@ -460,13 +494,13 @@ PASTED = {"kind": "paste", "length": len(EDGES.encode()), "text": EDGES}
 ALL_EDGES = [(START + EDGES.encode() + END, PASTED)]
 # What the table doesn't know, the line of each, and what is told of it in JSON.
 A = {"kind": "report", "key": "U+0061", "modifiers": ["SHIFT"], "action": "repeat"}
-A.update(shifted=65, base=99, length=1, text="A")
+A.update(shifted=65, base=99, length=1, text="A", press="A")
 VOLUME = {"kind": "report", "key": "functional 57428", "modifiers": [], "action": "press"}
-VOLUME.update(length=0, text="")
+VOLUME.update(length=0, text="", press="kitty57428")
 BACK = {"kind": "button", "number": 8, "action": "press", "x": 3, "y": 4, "modifiers": []}
 FORWARD = {**BACK, "number": 9, "action": "release", "modifiers": ["ALT"]}
 SIZE = {"kind": "resize", "rows": 24, "columns": 80, "height": 480, "width": 800}
-A_LINE = "report U+0061 SHIFT repeat shifted U+0041 base U+0063 text 1:41"
+A_LINE = "report U+0061 SHIFT repeat shifted U+0041 base U+0063 text 1:41 = A"
 REPORTS = [
     (b"\033[97:65:99;2:2;65u", A_LINE, A),
     (b"\033[24;80R", "cursor 24 80", {"kind": "cursor", "row": 24, "column": 80}),
@@ -479,7 +513,7 @@ REPORTS = [
     (b"\033P>|\033\\", "dcs 2:3e7c", {"kind": "dcs", "length": 2, "data": "3e7c"}),
     (b"\033_Gi=\033\\", "apc 3:47693d", {"kind": "apc", "length": 3, "data": "47693d"}),
     (b"\033]4;", "osc cut 2:343b", {"kind": "cut", "of": "osc", "length": 2, "data": "343b"}),
-    (b"\033[57428u", "report functional 57428 NONE press", VOLUME),
+    (b"\033[57428u", "report functional 57428 NONE press = kitty57428", VOLUME),
     (b"\033[<128;3;4M", "button 8 press 3 4 NONE", BACK),
     (b"\033[<137;3;4m", "button 9 release 3 4 ALT", FORWARD),
     (b"\033[162;3;4M", "button 10 press 3 4 NONE", {**BACK, "number": 10}),
@@ -488,8 +522,22 @@ REPORTS = [
 REPORTS_AS_LINE = " | ".join(f"{spelled(typed)} -> {line}" for typed, line, _ in REPORTS)
 REPORTS_AS_JSON = as_json((typed, told) for typed, _, told in REPORTS)
 OPEN = "   1  ESC [ 2 0 0 ~ x -> a paste of 1 bytes so far: its end never came\n"
-QUIT = "   1  q -> key U+0071 NONE | ESC [ A -> key UpArrow NONE | ESC -> key Escape NONE\n"
+QUIT = "   1  q -> key U+0071 NONE = q | ESC [ A -> key UpArrow NONE = up"
+QUIT += " | ESC -> key Escape NONE = escape\n"
 UP = b"\033[1;9A"
+# Keys with their presses. A release has none, and neither has Shift alone, nor a key that types two
+# characters.
+NAMED = """   1  ^@ -> key U+0000 NONE = ctrl+space | A -> key U+0041 NONE = A
+ESC ^M -> key Enter ALT = alt+enter | SP -> key U+0020 NONE = space
+ESC [ 9 7 ; 5 : 3 u -> report U+0061 CTRL release | ESC [ 5 7 4 4 1 u -> report LeftShift NONE press
+ESC [ 9 7 ; ; 9 7 : 9 8 u -> report U+0061 NONE press text 2:6162
+ESC [ 1 0 8 9 : : 9 9 ; 5 u -> report U+0441 CTRL press base U+0063 = ctrl+U+0441 or ctrl+c
+"""
+NAMED = NAMED.strip().replace("\n", " | ")
+ES = b"\033[1089::99;5u"
+NAMED_KEYS = b"\0A\033\r \033[97;5:3u\033[57441u\033[97;;97:98u" + ES
+TWO_NAMES = {"kind": "report", "key": "U+0441", "modifiers": ["CTRL"], "action": "press"}
+TWO_NAMES |= {"base": 99, "length": 0, "text": "", "press": "ctrl+\u0441", "second": "ctrl+c"}
 # The words, what is read, and what is printed of it.
 PRINTED = {
     "keys": ("", b"q\033[A\033", QUIT),
@@ -500,8 +548,14 @@ PRINTED = {
     "JSON of characters of each length": ("--json", joined(ALL_EDGES), as_json(ALL_EDGES)),
     "reports": ("--extended", joined(REPORTS), f"   1  {REPORTS_AS_LINE}\n"),
     "reports as JSON": ("--extended --json", joined(REPORTS), REPORTS_AS_JSON),
-    "entries": ("--extended", UP, f"   1  {spelled(UP)} -> key UpArrow ALT\n"),
-    "Kitty": ("--extended=kitty", UP, f"   1  {spelled(UP)} -> report UpArrow SUPER press\n"),
+    "entries": ("--extended", UP, f"   1  {spelled(UP)} -> key UpArrow ALT = alt+up\n"),
+    "Kitty": (
+        "--extended=kitty",
+        UP,
+        f"   1  {spelled(UP)} -> report UpArrow SUPER press = super+up\n",
+    ),
+    "presses": ("--extended", NAMED_KEYS, f"   {NAMED}\n"),
+    "two presses as JSON": ("--extended --json", ES, as_json([(ES, TWO_NAMES)])),
     "all events by --extended": ("--extended --json", joined(ALL_KINDS), as_json(ALL_KINDS)),
 }
 
@@ -522,10 +576,152 @@ def test_reads_of_4096_bytes(tmp_path):
     status, out, errors = run(tmp_path / "typed")
     assert (status, errors) == (0, "")
     first, second = out.splitlines()
-    assert first.count("a -> key U+0061 NONE") == 4094
+    assert first.count("a -> key U+0061 NONE = a") == 4094
     assert first.endswith(" | ESC [ -> goes on in read 2")
-    wanted = "   2  (ESC [) A -> key UpArrow NONE | b -> key U+0062 NONE | ESC -> key Escape NONE"
-    assert second == wanted
+    wanted = "   2  (ESC [) A -> key UpArrow NONE = up | b -> key U+0062 NONE = b"
+    assert second == f"{wanted} | ESC -> key Escape NONE = escape"
+
+
+CTRL_X, CTRL_S = "^X -> key U+0078 CTRL = ctrl+x", "^S -> key U+0073 CTRL = ctrl+s"
+G, Z = "g -> key U+0067 NONE = g", "z -> key U+007A NONE = z"
+CLICK = "ESC [ < 0 ; 3 ; 4 M -> mouse 3 4 LEFT NONE"
+# What is typed, with what the keys do by the bindings of the page. A key that is pending waits for
+# others over a mouse report, and at the end no more.
+DONE_BY = b"\x18\033[<0;3;4M\x13gz\x18"
+DONE = ["ctrl+x ctrl+s -> save", "g -> down", "z -> unbound", "ctrl+x -> unbound"]
+
+
+def did(keys, command):
+    return {"keys": keys, "command": command}
+
+
+AFTER_CTRL_X = {
+    "pending": "ctrl+x",
+    "continuations": [did("ctrl+c", "quit"), did("ctrl+s", "save")],
+}
+DONE_AS_JSON = [
+    {"kind": "key", **AFTER_CTRL_X},
+    {"kind": "mouse"},
+    {"kind": "key", "outcomes": [did("ctrl+x ctrl+s", "save")]},
+    {"kind": "key", "pending": "g", "continuations": [did("g", "top")]},
+    {"kind": "key", "outcomes": [did("g", "down"), did("z", None)]},
+    {"kind": "key", **AFTER_CTRL_X},
+    {"kind": "pause", "outcomes": [did("ctrl+x", None)]},
+]
+
+
+def rows(*texts):
+    return "".join(f"      {it}\n" for it in texts)
+
+
+def test_what_keys_do(bound):
+    groups = " | ".join([CTRL_X, CLICK, CTRL_S, G, Z, CTRL_X])
+    wanted = f"   1  {groups}\n" + rows(*DONE)
+    assert run("--bindings", bound(), typed=DONE_BY) == (0, wanted, "")
+
+
+def test_what_keys_do_as_json(bound):
+    status, out, errors = run("--json", "--bindings", bound(), typed=DONE_BY)
+    told = [json.loads(line) for line in out.splitlines()]
+    fields = ["kind", "outcomes", "pending", "continuations"]
+    shown = [{name: it[name] for name in fields if name in it} for it in told]
+    assert (status, errors, shown) == (0, "", DONE_AS_JSON)
+    assert told[-1] == {"read": 1, "bytes": "", "earlier": 0} | DONE_AS_JSON[-1]
+
+
+def test_chord_over_two_reads(bound, tmp_path):
+    (tmp_path / "typed").write_bytes(b"a" * 4095 + b"\x18\x13")
+    status, out, errors = run("--bindings", bound(), tmp_path / "typed")
+    first = rows(*["a -> unbound"] * 4095, "ctrl+x -> goes on in read 2")
+    assert (status, errors) == (0, "")
+    assert out.endswith(f"\n{first}   2  {CTRL_S}\n{rows('ctrl+x ctrl+s -> save')}")
+
+
+# Bindings, the words, what is typed, and what the keys do.
+DID = {
+    "a second press": (b"copy ctrl+c", "--extended", ES, ["ctrl+c -> copy"]),
+    "a first press": ("copy ctrl+с".encode(), "--extended", ES, ["ctrl+U+0441 -> copy"]),
+    "a release": (b"copy a", "--extended", b"\033[97;1:3u", []),
+    "no bindings": (b"", "", b"a", ["a -> unbound"]),
+    "blanks": (b" \t\n  # a b\n\tcopy \t a \t b \n", "", b"ab", ["a b -> copy"]),
+    "a #": (b"copy C-# #\n#copy a\n", "", b"\033[35;5u#", ["ctrl+# # -> copy"]),
+}
+
+
+@pytest.mark.parametrize("text, words, typed, done", DID.values(), ids=DID)
+def test_bindings(bound, text, words, typed, done):
+    status, out, errors = run("--bindings", bound(text), *words.split(), typed=typed)
+    assert (status, out.split("\n", 1)[1], errors) == (0, rows(*done), "")
+
+
+# Lines of bindings, and what is said of them behind the file's name.
+WRONG_LINES = {
+    "no chord": (b"copy\n", ["1:5: there is no key"]),
+    "no key": (b"copy  ctrl+\n", ["1:12: no key is behind the modifiers"]),
+    "no such key": (b"copy a\n\nquit ctrl+x foo", ["3:13: no key has this name"]),
+    "bytes count": ("copy é foo".encode(), ["1:9: no key has this name"]),
+    "a shifted character": (b"copy shift+1", ["1:12: shift with a character that isn't a letter"]),
+    "no UTF-8": (b"copy a \xff", ["1:8: the name isn't UTF-8"]),
+    "a zero": (b"copy a\0", ["1:7: a control character is in the name"]),
+    "a command of other bytes": (
+        "copié a".encode(),
+        ["1:5: a command has printable characters of ASCII alone"],
+    ),
+    "a chord twice": (b"copy C-c\nquit ctrl+c", ["2:6: ctrl+c is bound already, to copy"]),
+    "several lines": (b"a\nb b\nc foo\n", ["1:2: there is no key", "3:3: no key has this name"]),
+}
+
+
+@pytest.mark.parametrize("text, says", WRONG_LINES.values(), ids=WRONG_LINES)
+def test_wrong_bindings(bound, text, says):
+    name = bound(text)
+    wanted = "".join(f"{name}:{it}\n" for it in says)
+    assert run("--bindings", name, typed=b"a") == (2, "", wanted)
+
+
+def test_wrong_bindings_on_a_terminal(bound):
+    """The terminal isn't touched."""
+    name = bound(b"copy\n")
+    with Keys(HEDRUGAL_KEYS, "--mouse", "--bindings", name, size=WIDE) as keys:
+        keys.check_end(2)
+    assert keys.output.decode() == f"{name}:1:5: there is no key\r\n"
+
+
+@pytest.mark.timed
+def test_bindings_of_the_page(start, bound):
+    """The screens that docs/keys.md shows."""
+    screen, following = (it.split("\n") for it in listings()[4:])
+    keys = start("--bindings", bound())
+    keys.play([b"\x18", following, b"\x13", "save", b"g", "top", LONG_PAUSE, b"z", screen])
+    keys.end()
+
+
+@pytest.mark.timed
+def test_pause_of_a_chord(start, bound):
+    """Bytes that wait, and events without a press, don't put off its end."""
+    keys = start("--bindings", bound(), "--mouse", size=WIDE)
+    keys.play([b"g", "top", 0.4, b"\033[<0;3;4M", "mouse", 0.4, b"\xc3", "half"])
+    keys.expect_exact("g -> down", timeout=0.5)
+    keys.end()
+
+
+def test_chord_without_moves(show, bound):
+    """Where the cursor can't be moved, a list of keys stays, and what they did comes below."""
+    lines = [f"   1  {CTRL_X}", "      ctrl+x -> waits up to 1 s for"]
+    lines += ["        ctrl+c -> quit", "        ctrl+s -> save"]
+    lines += [f"   1  {CTRL_X}", "      ctrl+x -> unbound"]
+    show([b"\x18"], lines, "--bindings", bound(), TERM="dumb")
+
+
+def test_chord_before_a_stop(start, bound):
+    """What is pending is forgotten when another program has the terminal."""
+    keys = start("--bindings", bound(), size=WIDE)
+    keys.play([b"\x18", "save"])
+    keys.stop()
+    keys.continue_in_foreground()
+    keys.play(["ctrl+x -> forgotten, since another program had the terminal"])
+    keys.play([b"\x13", "ctrl+s -> unbound"])
+    keys.end()
 
 
 PASTE, COMMAND = ("paste", START, END), ("osc", b"\033]52;", b"\007")
@@ -548,8 +744,9 @@ def test_file_on_a_terminal(tmp_path):
         keys.check_end(0)
     screen = keys.screen()
     assert (screen.modes, screen.frames) == ({}, [])
-    first = "   1  a -> key U+0061 NONE | b -> key U+0062 NONE | c -> key U+0063 NONE |"
-    assert screen.text() == [first, "      d -> key U+0064 NONE | ESC -> key Escape NONE"]
+    first = "   1  a -> key U+0061 NONE = a | b -> key U+0062 NONE = b |"
+    second = "      c -> key U+0063 NONE = c | d -> key U+0064 NONE = d |"
+    assert screen.text() == [first, second, "      ESC -> key Escape NONE = escape"]
 
 
 def test_random_bytes():
@@ -581,12 +778,13 @@ def test_full_disk(words):
 
 
 @pytest.mark.parametrize("words", [[], ["--json"]], ids=["lines", "JSON"])
-def test_memory_refused(compiled, tmp_path, words):
+@pytest.mark.parametrize("has_bindings", [False, True], ids=["", "bindings"])
+def test_memory_refused(compiled, tmp_path, bound, words, has_bindings):
     """Each request is refused in turn. The program says so, or needed no more than granted."""
     wraps = ["-Wl,--wrap=malloc", "-Wl,--wrap=realloc"]
     program = compiled("refusing", "c11", *wraps, *TOP.glob("keys/*.c"), TOP / "tests/refuse.c")
     (tmp_path / "typed").write_bytes(b"abc" * 50 + START + b"x" * 5000 + END)
-    words = [*words, tmp_path / "typed"]
+    words = [*words, *["--bindings", bound()] * has_bindings, tmp_path / "typed"]
     for count in range(1000):
         found = run(*words, program=program, GRANTED=str(count))
         if found[0] == 0:
@@ -611,6 +809,14 @@ REFUSED = {
     "an unknown level": unknown("--modify-other-keys=3"),
     "two files": ("a b", 2, f"wants one file, and 'b' is another; {MORE}"),
     "a mode without a terminal": ("--mouse", 2, NO_TERMINAL),
+    "no file of bindings": ("--bindings", 2, f"--bindings wants a file behind it; {MORE}"),
+    "two files of bindings": (
+        "--bindings a --bindings b",
+        2,
+        f"wants one file of bindings, and 'b' is another; {MORE}",
+    ),
+    "no such file of bindings": ("--bindings /no", 1, "/no: No such file or directory"),
+    "bindings in a folder": ("--bindings /", 1, "/: Is a directory"),
     "no such file": ("/no/such", 1, "/no/such: No such file or directory"),
     "a folder": ("/", 1, "the input can't be read: Is a directory"),
 }
@@ -640,7 +846,7 @@ def test_version():
 def test_help():
     status, out, errors = run("--help")
     assert (status, errors) == (0, "")
-    for word in [*MODES, "--extended", "--hex", "--json", "--version"]:
+    for word in [*MODES, "--extended", "--bindings", "--hex", "--json", "--version"]:
         name, _, level = word.partition("=")
         assert (f"{name}=1|2" if level else name) in out
 
@@ -648,9 +854,7 @@ def test_help():
 @pytest.mark.timed
 def test_screen_of_the_page(start):
     """The screen that docs/keys.md shows, and the line that it shows before."""
-    page = (TOP / "docs/keys.md").read_text(encoding="utf-8")
-    listing = r"<!-- not run: tests/test_keys[^>]*-->\n```(?:sh)?\n(.*?)\n```"
-    before, screen, waiting = re.findall(listing, page, re.S)
+    before, screen, waiting = listings()[:3]
     assert before == "hedrugal-keys"
     pasted = START + b"hi\r" + END
     reads = [b"a", b"\033", b"\033[1", b";5A", b"\033[<0;3;4M", b"\xc3", b"\xa9", pasted, b"\033[1"]

@@ -1,0 +1,168 @@
+#define _POSIX_C_SOURCE 200809L
+#include "bindings.h"
+#include "names.h"
+#include <errno.h>
+#include <stdarg.h>
+#include <stdio.h>
+#include <stdlib.h>
+#include <string.h>
+
+static const char blanks[] = " \t";
+
+/* What the file says of a chord. The number that the chord is bound to is its address. */
+typedef struct binding {
+  const char *chord; /* its name, behind the command */
+  char command[];
+} binding;
+
+static binding *binding_of(uint64_t value) {
+  return (binding *)(uintptr_t)value;
+}
+
+/* A line of the file. */
+typedef struct source {
+  const char *file;
+  size_t number;
+  const char *text;
+  size_t length;
+  bool is_wrong; /* whether this line or one before is */
+} source;
+
+static void tell(source *at, size_t place, const char *format, ...) {
+  va_list values;
+  va_start(values, format);
+  text_print(stderr, at->file);
+  fprintf(stderr, ":%zu:%zu: ", at->number, place + 1);
+  vfprintf(stderr, format, values);
+  fputc('\n', stderr);
+  va_end(values);
+  at->is_wrong = true;
+}
+
+/* Returns false if memory is refused. */
+static bool bind(bindings *it, const char *command, size_t length, const hed_key_press *keys, size_t count) {
+  char chord[HED_CHORD_MOST * PRESS_SIZE];
+  if (!print_chord(chord, sizeof chord, keys, count)) return false;
+  binding *added = malloc(sizeof *added + length + strlen(chord) + 2);
+  if (!added) return false;
+  memcpy(added->command, command, length);
+  added->command[length] = '\0';
+  added->chord = strcpy(added->command + length + 1, chord);
+  if (hed_bindings_bind(&it->chords, keys, count, (uintptr_t)added) == HED_BOUND_VALUE) return true;
+  free(added);
+  return false;
+}
+
+/* Binds the chord whose name starts at a place. Returns false if memory is refused. */
+static bool bind_named(bindings *it, source *at, const char *command, size_t length, size_t name) {
+  hed_key_press keys[HED_CHORD_MOST];
+  size_t count, wrong;
+  uint64_t before;
+  uint32_t named = hed_key_read((const uint8_t *)at->text + name, at->length - name, keys, HED_CHORD_MOST, &count, &wrong);
+  if (named != HED_NAMED_KEYS) tell(at, name + wrong, "%s", key_error(named));
+  else if (hed_bindings_lookup(&it->chords, keys, count, &before) != HED_BOUND_VALUE) return bind(it, command, length, keys, count);
+  else tell(at, name, "%s is bound already, to %s", binding_of(before)->chord, binding_of(before)->command);
+  return true;
+}
+
+static bool read_line(bindings *it, source *at) {
+  size_t start = strspn(at->text, blanks);
+  size_t length = strcspn(at->text + start, blanks);
+  size_t end = start + length;
+  if (start == at->length || at->text[start] == '#') return true;
+  for (size_t place = start; place < end; place++) {
+    if (at->text[place] > ' ' && at->text[place] < 0x7f) continue;
+    tell(at, place, "a command has printable characters of ASCII alone");
+    return true;
+  }
+  return bind_named(it, at, at->text + start, length, end + strspn(at->text + end, blanks));
+}
+
+static bool read_lines(bindings *it, source *at, FILE *from) {
+  char *line = NULL;
+  size_t room = 0;
+  bool has_memory = hed_bindings_init(&it->chords);
+  for (ssize_t length; has_memory && (length = getline(&line, &room, from)) >= 0;) {
+    at->number++;
+    at->text = line;
+    at->length = (size_t)length - (line[length - 1] == '\n');
+    line[at->length] = '\0';
+    has_memory = read_line(it, at);
+  }
+  free(line);
+  return has_memory;
+}
+
+bindings_answer bindings_read(bindings *it, const char *file) {
+  source at = { .file = file };
+  FILE *from = fopen(file, "r");
+  if (!from) return BINDINGS_NO_FILE;
+  bool has_memory = read_lines(it, &at, from);
+  bool was_read = feof(from);
+  int error = errno;
+  fclose(from);
+  errno = error;
+  if (!has_memory) return BINDINGS_NO_MEMORY;
+  if (!was_read) return BINDINGS_NO_FILE;
+  return at.is_wrong ? BINDINGS_WRONG : BINDINGS_READ;
+}
+
+void bindings_press(bindings *it, const hed_key_press *presses, size_t count, uint64_t now) {
+  hed_matcher_press_either(&it->matcher, &it->chords, presses, count);
+  it->pressed = now;
+}
+
+uint32_t bindings_next(bindings *it, bool more, outcome *decided) {
+  hed_outcome found;
+  uint32_t kind = hed_matcher_next(&it->matcher, &it->chords, more, &found);
+  memset(decided, 0, sizeof *decided);
+  if (kind == HED_OUTCOME_BOUND) {
+    decided->command = binding_of(found.value)->command;
+    decided->chord = binding_of(found.value)->chord;
+    return HED_NEXT_EVENT;
+  }
+  if (kind != HED_OUTCOME_UNBOUND) return HED_NEXT_NONE;
+  return print_chord(decided->press, PRESS_SIZE, &found.press, 1) ? HED_NEXT_EVENT : HED_NEXT_NO_MEMORY;
+}
+
+int32_t bindings_timeout(const bindings *it, uint64_t now) {
+  if (!bindings_is_pending(it)) return -1;
+  uint64_t passed = now - it->pressed;
+  return passed < CHORD_PAUSE_MS ? (int32_t)(CHORD_PAUSE_MS - passed) : 0;
+}
+
+bool bindings_is_pending(const bindings *it) {
+  return it->matcher.count > 0;
+}
+
+void bindings_forget(bindings *it) {
+  hed_matcher_cancel(&it->matcher, NULL, 0);
+}
+
+bool bindings_following(const bindings *it, size_t *first, size_t *end) {
+  const hed_matcher *matcher = &it->matcher;
+  return bindings_is_pending(it) && hed_bindings_continuations(&it->chords, matcher->keys, matcher->count, first, end) == HED_BOUND_VALUE;
+}
+
+/* A chord's name behind so many keys, of which it has more. */
+static const char *behind(const char *chord, size_t keys) {
+  for (; keys > 0; keys--) chord = strchr(chord, ' ') + 1;
+  return chord;
+}
+
+/* The binding at a place of them all. */
+static binding *binding_at(const bindings *it, size_t place) {
+  size_t count;
+  uint64_t value;
+  return hed_bindings_entry(&it->chords, place, NULL, 0, &count, &value) == HED_BOUND_VALUE ? binding_of(value) : NULL;
+}
+
+continuation bindings_at(const bindings *it, size_t place) {
+  const binding *found = binding_at(it, place);
+  return (continuation){ found->chord, behind(found->chord, it->matcher.count), found->command };
+}
+
+void bindings_free(bindings *it) {
+  for (size_t place = 0; place < hed_bindings_len(&it->chords); place++) free(binding_at(it, place));
+  hed_bindings_free(&it->chords);
+}
