@@ -5,6 +5,7 @@ docs/pictures has two of them."""
 import base64
 import json
 import os
+import re
 import shutil
 import time
 from pathlib import Path
@@ -78,6 +79,10 @@ PASTE = """(() => {
   document.body.ariaBusy = true;
   return $('text').dispatchEvent(new ClipboardEvent('paste', how));
 })()"""
+
+
+# What the console says of a name that the server refuses.
+REFUSED = "api/encode.*400"
 
 
 def typed(text):
@@ -249,6 +254,12 @@ class Page:
             Path(os.environ["SCREENSHOTS"], f"{name}.png").write_bytes(data)
 
 
+def check_refused(page):
+    """The server has refused names, and the console says nothing else."""
+    faults = page.faults()
+    assert faults and all(re.search(REFUSED, it) for it in faults)
+
+
 @pytest.fixture(scope="module")
 def driver():
     options = ChromeOptions()
@@ -354,6 +365,8 @@ def test_pressing_keys(page):
         page.wait_for_text("pressed", f"{line} sends ")
         lines.append(line)
     page.check(lines)
+    names = ["ctrl+up", "a", "enter", "shift+f5", "ctrl+c", "alt+x"]
+    assert page.texts("#items .press") == names
     assert "key U+0078 ALT" in page.text("key-count")
     page.press(Keys.ESCAPE)
     page.check(lines, "ESC")
@@ -574,15 +587,62 @@ def test_keys_in_every_mode(page):
     page.click("#modifiers input[value=CTRL]")
     page.wait_for_text("key-count", "key U+0069 CTRL sends")
     rows = page.cells("#sent")
-    assert len(rows) == 6
-    assert rows[0] == ["xterm, modifyOtherKeys off (chosen above)", "^I", "≠ key Tab NONE"]
-    assert ["CSI u, modifyOtherKeys off", "ESC [ 1 0 5 ; 5 u", "✓ key U+0069 CTRL"] in rows
+    assert len(rows) == 7
+    first = ["xterm, modifyOtherKeys off (chosen above)", "^I", "key Tab NONE", "≠ tab"]
+    sent = ["ESC [ 1 0 5 ; 5 u", "key U+0069 CTRL", "✓ ctrl+i"]
+    assert rows[0] == first
+    assert ["CSI u, modifyOtherKeys off", *sent] in rows
+    assert rows[-1] == ["Kitty’s protocol", sent[0], "report U+0069 CTRL press", sent[2]]
     page.enter("Enter", "key")
     page.click("#modifiers input[value=CTRL]")
     page.wait_for_text("key-count", "key Enter NONE sends")
     assert "newline mode" in page.text("sent")
+
+
+# Names, and what is said of their keys.
+NAMED_KEYS = {
+    "ctrl+up": "key UpArrow CTRL sends the same bytes in all 24 modes.",
+    "<C-W>": "key U+0077 CTRL sends ",
+    "uparrow": "key UpArrow NONE sends 2 different texts in 24 modes, by application cursor keys.",
+    "LeftShift": "key LeftShift NONE sends the same bytes in all 24 modes.",
+    "Hyper+X": "key U+0078 SHIFT+HYPER can be sent by Kitty’s protocol alone.",
+    "C-x C-s": "key U+0078 CTRL sends ",
+}
+
+
+def test_typed_names(page):
+    """The name of a key or a chord shows what each key sends."""
+    for name, says in NAMED_KEYS.items():
+        page.enter(name, "key")
+        page.wait_for_text("key-count", says)
+        assert (page.text("key-fault"), page.run("$('key').ariaInvalid")) == ("", "false")
+    assert "key U+0073 CTRL sends" in page.text("key-count")
+    rows = page.cells("#sent")
+    headings = [place for place, row in enumerate(rows) if len(row) == 1]
+    assert [rows[it] for it in headings] == [["ctrl+x"], ["ctrl+s"]]
+    assert rows[headings[1] + 1][1:] == ["^S", "key U+0073 CTRL", "✓ ctrl+s"]
+    page.run("$$('#sent tbody:last-child tr:last-child a')[0].click()")
+    page.check(["report U+0073 CTRL press"])
+    assert page.run(READING) == "kitty"
+
+
+def test_typing_a_name(page):
+    """A name is read as it is typed. What is wrong is said with its place, and goes."""
+    page.focus("key")
+    page.run("$('key').select()")
+    page.press("ctrl+")
+    page.wait_for_text("key-fault", "no key is behind the modifiers, at byte ")
+    assert page.run("$('key').ariaInvalid") == "true"
+    page.press("x shift+1")
+    wrong = "shift with a character that isn't a letter, at byte 13: '1'."
+    page.wait_for_text("key-fault", wrong)
+    page.press(4 * Keys.BACKSPACE + Keys.BACKSPACE * 4)
+    page.wait_for_text("key-fault", "")
+    page.wait("$('key-fault').innerText", "")
+    page.wait_for_text("key-count", "key U+0078 CTRL sends")
     page.enter("NoKey", "key")
-    page.wait_for_text("key-fault", "No key is called ‘NoKey’.")
+    page.wait_for_text("key-fault", "no key has this name, at byte 0: 'NoKey'.")
+    check_refused(page)
 
 
 def test_link(page):
@@ -619,7 +679,7 @@ def test_broken_links(page):
 def test_reports(page):
     page.open("#bytes=1b5b411b&cut=2")
     wanted = "bytes: 1b 5b 41 1b\nthen: more bytes may come\nread: cut after byte 2\n"
-    assert page.report().startswith(f"{wanted}key UpArrow NONE\nwaiting 1\nhedrugal ")
+    assert page.report().startswith(f"{wanted}key UpArrow NONE = up\nwaiting 1\nhedrugal ")
 
 
 def test_bytes_that_are_no_text(page):
@@ -634,7 +694,8 @@ def test_input_is_never_html(page):
     assert page.texts("#items .glyphs") == ["<b>x</b>"]
     page.enter(EVIL, "find")
     page.enter(EVIL, "key")
-    page.wait_for_text("key-fault", "<script>alert(1)</script>", "includes")
+    page.wait_for_text("key-fault", "script>alert(1)</script>", "includes")
+    check_refused(page)
     page.wait_for_text("found", f"0 of {ENTRIES} rows")
     page.focus("press")
     event = f"new KeyboardEvent('keydown', {{key: {json.dumps(EVIL)}, bubbles: true}})"

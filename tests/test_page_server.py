@@ -1,9 +1,11 @@
 """The server of the page, python/hedrugal/page, over sockets: what it refuses, and that its answers
 are the library's. Names, origins, methods, paths and bodies of any size are tried."""
 import contextlib
+import functools
 import http.client
 import itertools
 import json
+import operator
 import random
 import re
 import signal
@@ -13,12 +15,13 @@ import subprocess
 import sys
 import time
 import unittest.mock
+import urllib.parse
 from concurrent.futures import ThreadPoolExecutor
 
 import hedrugal
 import pytest
 from conftest import TOP, entries_after, header_constant, run_without_terminal
-from hedrugal import InputParser, KeyCode, Modifiers, encode
+from hedrugal import Function, KeyCode, KeyPress, Modifiers, encode
 from hedrugal.page import meanings
 from hedrugal.page.server import AT_ONCE, FILES, MOST, Handler, Server
 
@@ -134,13 +137,15 @@ class Client:
             waiting, kind = parser.waiting_len, parser.waiting
         items, told = self.all_items(data, end, reading)
         assert [it[1] for it in items] == [meanings.line(event) for event in wanted], data
+        presses = [KeyPress.of_event(event) for event in wanted]
+        assert [it[3].split(" ")[0] for it in items] == [str(it or "") for it in presses], data
         assert told["flushed"] == (None if end == "more" else flushed)
         waits = told["waits"] or {"length": 0, "kind": "Nothing"}
         assert (waits["length"], waits["kind"]) == (waiting, meanings.waiting_name(kind))
         assert sum(it[0] for it in items) + waiting == len(data)
         # Each item's bytes, read alone, emit its event, and no other.
         at = 0
-        for length, line, _ in items[: None if end == "more" else flushed]:
+        for length, line, *_ in items[: None if end == "more" else flushed]:
             assert meanings.lines(data[at : at + length], reading) == [line], data[at : at + length]
             at += length
         cuts = (f"cut?at={at}&" for at in (0, 1, len(data) // 2, len(data), len(data) + 9))
@@ -186,7 +191,7 @@ def test_hosts(client, path):
     assert [it for it in others if client.status_of(path, Host=it) != 403] == []
 
 
-@pytest.mark.parametrize("path", ["/", "/api/table", "/api/encode?key=F1", "/api/read"])
+@pytest.mark.parametrize("path", ["/", "/api/table", "/api/encode?name=F1", "/api/read"])
 def test_origins(client, path):
     here, evil = f"http://{client.host}", "http://evil.example"
     others = ["null", evil, f"https://{client.host}", f"{here}1", f"{here}/", "http://127.0.0.1"]
@@ -305,12 +310,15 @@ def test_queries(client):
 
 
 def test_queries_for_encodings(client):
-    wrong = "Up|U%2BD800|U%2B110000|F25|F256|a|F1&modifiers=HYPER|InternalPasteStart2|".split("|")
-    for query in ("", *(f"key={it}" for it in wrong)):
+    wrong = "U%2BD800|U%2B110000|F256|F1&modifiers=HYPER|F1&modifiers=LEADER|a%00".split("|")
+    wrong += ["InternalPasteStart2", "", "+".join(33 * "a"), "ctrl%2B", "capslock", "%ff"]
+    for query in ("", "key=F1", *(f"name={it}" for it in wrong)):
         assert client.status("GET", f"/api/encode?{query}") == 400, query
-    status, headers, body = client.ask("GET", "/api/encode?key=<script>alert(1)</script>")
+    status, headers, body = client.ask("GET", "/api/encode?name=<script>alert(1)</script>")
     assert (status, headers["Content-Type"]) == (400, "text/plain; charset=utf-8")
-    assert b"no key is called" in body
+    assert body == b"no key has this name, at byte 1: 'script>alert(1)</script>'\n"
+    says = client.ask("GET", "/api/encode?name=ctrl%2Bx+shift%2B1")[2]
+    assert says == b"shift with a character that isn't a letter, at byte 13: '1'\n"
 
 
 def test_one_connection(client):
@@ -340,7 +348,7 @@ def test_at_one_time(client):
     def work(letter):
         for length in range(1, 20):
             items = client.told("/api/read", letter.encode() * length)["items"]
-            assert items == [[1, f"key U+{ord(letter):04X} NONE", letter]] * length
+            assert items == [[1, f"key U+{ord(letter):04X} NONE", letter, letter]] * length
 
     with client.connect() as slow, ThreadPoolExecutor(2 * AT_ONCE) as threads:
         head = f"POST /api/read HTTP/1.1\r\nHost: {client.host}\r\nContent-Length: 5\r\n\r\nq"
@@ -439,11 +447,21 @@ REPORTS = [
 ]
 
 
+# The names of the presses of those that have one, in their order. Another case has two names.
+PRESSES = "a A ä super+hyper+meta+ctrl+alt+shift+a enter f2 shift+f11 ctrl+f2 f3".split()
+PRESSES = dict(zip((it for _, it, _ in REPORTS if "report" in it and "release" not in it), PRESSES))
+
+
 @pytest.mark.parametrize("reading", ["extended", "kitty"])
 @pytest.mark.parametrize("data, line, glyphs", REPORTS)
 def test_lines_beyond_the_table(client, reading, data, line, glyphs):
     items, told = client.check(data, "more", reading)
-    assert (items, told["waits"]) == ([[len(data), line, glyphs]], None)
+    assert (items, told["waits"]) == ([[len(data), line, glyphs, PRESSES.get(line, "")]], None)
+
+
+def test_second_press(client):
+    items, _ = client.check(b"\x1b[1089::99;5u", "more", "kitty")
+    assert items[0][3] == "ctrl+с or ctrl+c"
 
 
 @pytest.mark.parametrize("reading", ["extended", "kitty"])
@@ -534,26 +552,96 @@ def test_table(client):
         assert meanings.key_name(meanings.key_of(name)) == name
 
 
-ENCODED = "UpArrow NONE, U+0069 CTRL, Enter CTRL+ALT, F5 SHIFT, U+20AC ALT, Tab SHIFT".split(", ")
+# Names with further modifiers, and of each key what it is, what is held, its line and its press.
+ENCODED = [
+    ("UpArrow", "NONE", [(KeyCode.UP_ARROW, "NONE", "key UpArrow NONE", "up")]),
+    ("up", "CTRL", [(KeyCode.UP_ARROW, "CTRL", "key UpArrow CTRL", "ctrl+up")]),
+    ("U+0069", "CTRL", [("i", "CTRL", "key U+0069 CTRL", "ctrl+i")]),
+    ("C-i", "NONE", [("i", "CTRL", "key U+0069 CTRL", "ctrl+i")]),
+    (
+        "Ctrl+Alt+Enter",
+        "NONE",
+        [(KeyCode.ENTER, "ALT+CTRL", "key Enter ALT+CTRL", "ctrl+alt+enter")],
+    ),
+    ("<S-F5>", "NONE", [(Function(5), "SHIFT", "key F5 SHIFT", "shift+f5")]),
+    ("€", "ALT", [("€", "ALT", "key U+20AC ALT", "alt+€")]),
+    ("A", "SHIFT", [("A", "SHIFT", "key U+0041 SHIFT", "A")]),
+    ("shift+tab", "NONE", [(KeyCode.TAB, "SHIFT", "key Tab SHIFT", "shift+tab")]),
+    (
+        "C-x C-s",
+        "NONE",
+        [("x", "CTRL", "key U+0078 CTRL", "ctrl+x"), ("s", "CTRL", "key U+0073 CTRL", "ctrl+s")],
+    ),
+]
 
 
-@pytest.mark.parametrize("words", ENCODED)
-def test_encodings(client, words):
-    name, modifiers = words.split()
-    query = f"key={name}&modifiers={modifiers}".replace("+", "%2B")
-    told = client.told(f"/api/encode?{query}")
-    key, held = meanings.key_of(name), meanings.modifiers_of(modifiers)
-    assert told["sent"] == [encode(key, held, modes).hex() for modes in meanings.MODES]
-    assert len(told["sent"]) == 24
-    for text, lines in told["reads"].items():
-        with InputParser() as parser:
-            events = parser.parse(bytes.fromhex(text), False)
-        assert lines == [meanings.line(event) for event in events]
+def encodings(client, name, modifiers="NONE"):
+    words = urllib.parse.urlencode({"name": name, "modifiers": modifiers})
+    return client.told(f"/api/encode?{words}")["keys"]
+
+
+def modifiers_of(names):
+    return functools.reduce(operator.or_, map(Modifiers.__getitem__, names.split("+")))
+
+
+@pytest.mark.parametrize("name, modifiers, keys", ENCODED)
+def test_encodings(client, name, modifiers, keys):
+    told = encodings(client, name, modifiers)
+    assert [(it["line"], it["press"]) for it in told] == [it[2:] for it in keys]
+    for (key, held, _, press), it in zip(keys, told):
+        sent = [encode(key, modifiers_of(held), modes).hex() for modes in meanings.MODES]
+        assert [text for text, *_ in it["sent"]] == sent
+        assert (len(it["sent"]), len(it["kitty"])) == (24, 4)
+        for reading, texts in {"table": it["sent"], "kitty": it["kitty"]}.items():
+            for text, *said in texts:
+                with meanings.READINGS[reading]() as parser:
+                    events = parser.parse(bytes.fromhex(text), False)
+                names = ", ".join(meanings.press_name(event) for event in events)
+                lines = ", ".join(map(meanings.line, events))
+                assert said == [lines, names, names == press]
+
+
+def sent(texts):
+    return [bytes.fromhex(it[0]) if it else None for it in texts]
 
 
 def test_encodings_in_all_modes(client):
-    told = client.told("/api/encode?key=UpArrow&modifiers=CTRL")
-    assert {*told["sent"]} == {b"\x1b[1;5A".hex()}
+    told = encodings(client, "ctrl+up")[0]
+    assert {*sent(told["sent"] + told["kitty"])} == {b"\x1b[1;5A"}
+
+
+# What is sent under Kitty's flags 1, 5, 9 and 29.
+BY_KITTY = {
+    "a": [b"a", b"a", b"\x1b[97u", b"\x1b[97;;97u"],
+    "A": [b"A", b"A", b"\x1b[97;2u", b"\x1b[97:65;2;65u"],
+    "ctrl+i": [b"\x1b[105;5u"] * 4,
+    "ctrl+shift+a": [b"\x1b[97;6u", b"\x1b[97:65;6u", b"\x1b[97;6u", b"\x1b[97:65;6u"],
+    "enter": [b"\r", b"\r", b"\x1b[13u", b"\x1b[13u"],
+    "hyper+x": [b"\x1b[120;17u"] * 4,
+    "kitty57428": [b"\x1b[57428u"] * 4,
+}
+
+
+@pytest.mark.parametrize("name, texts", BY_KITTY.items())
+def test_encodings_by_kitty(client, name, texts):
+    """Each is read back. What has no modifier or key of that kind elsewhere is sent by it alone."""
+    told = encodings(client, name)[0]
+    assert (told["press"], sent(told["kitty"])) == (name, texts)
+    assert [it[2:] for it in told["kitty"]] == [[name, True]] * 4
+    is_alone = name in ("hyper+x", "kitty57428")
+    assert [it is None for it in told["sent"]] == [is_alone] * 24
+
+
+def test_keys_that_are_no_press(client):
+    """A name of keyshow is that key: Shift sends nothing, and Kitty's protocol reports it."""
+    told = encodings(client, "LeftShift")[0]
+    assert (told["line"], told["press"], {*sent(told["sent"])}) == ("key LeftShift NONE", "", {b""})
+    assert told["kitty"][-1][1:] == ["report LeftShift NONE press", "no press", True]
+
+
+def test_encodings_that_are_read_as_another(client):
+    told = encodings(client, "ctrl+i")[0]
+    assert told["sent"][0] == ["09", "key Tab NONE", "tab", False]
 
 
 def test_names_are_those_of_keyshow():
@@ -565,7 +653,7 @@ def test_names_are_those_of_keyshow():
     keys = {*re.findall(r"\bkey (\S+) ([A-Z+]+)(?=[,;|\s])", recorded)}
     assert len(keys) > 20
     for key, held in keys:
-        line = meanings.key_line(meanings.key_of(key), meanings.modifiers_of(held))
+        line = meanings.key_line(meanings.key_of(key), modifiers_of(held))
         assert line == f"key {key} {held}"
 
 

@@ -8,6 +8,7 @@ from typing import Any, Callable, Dict, Iterable, Iterator, List, Optional, Tupl
 
 from hedrugal import (
     Apc,
+    Chord,
     Completions,
     Csi,
     CursorPosition,
@@ -26,7 +27,11 @@ from hedrugal import (
     KeyCode,
     KeyCodeEncodeModes,
     KeyEvent,
+    KeyNameError,
+    KeyPress,
     KeyReport,
+    KittyKeyboardFlags,
+    KittyModifiers,
     Modifiers,
     MouseEvent,
     Osc,
@@ -115,7 +120,7 @@ def waiting_name(kind: Waiting) -> str:
     return kind.name.title()
 
 
-def key_line(key: Key, modifiers: Modifiers) -> str:
+def key_line(key: ReportedKey, modifiers: Union[Modifiers, KittyModifiers]) -> str:
     return f"key {key_name(key)} {set_name(modifiers)}"
 
 
@@ -180,9 +185,21 @@ def glyphs(event: ExtendedEvent) -> str:
     )
 
 
+def press_name(event: ExtendedEvent) -> str:
+    """The name of an event's press, and that of its second press. Empty if it has none."""
+    press = KeyPress.of_event(event)
+    second = KeyPress.second(event) if isinstance(event, KeyReport) else None
+    return " or ".join(str(it) for it in (press, second) if it)
+
+
 def printed(text: str) -> str:
     shown = "".join(it if it.isprintable() else " " for it in text[:SHOWN])
     return shown + ("…" if len(text) > SHOWN else "")
+
+
+def item(length: int, event: ExtendedEvent) -> List[Any]:
+    """How many bytes an event consumed, and what is shown of it."""
+    return [length, line(event), glyphs(event), press_name(event)]
 
 
 def opening(part: StringPart) -> int:
@@ -272,33 +289,45 @@ def completions(rest: bytes) -> Completions:
         return parser.completions()
 
 
-def key_of(name: str) -> Key:
-    """The key that has a name."""
-    character, function = re.fullmatch(r"U\+([0-9A-F]{4,6})", name), re.fullmatch(
-        r"F([0-9]{1,3})", name
-    )
-    if function:
-        return Function(int(function[1]))
-    if character and int(character[1], 16) < 0x110000:
-        return chr(int(character[1], 16))
-    for code, known in KEY_NAMES.items():
-        if known == name:
-            return code
-    raise Wrong(f"no key is called {name!r}")
+def key_of(name: str) -> Optional[Key]:
+    """The key that keyshow calls so."""
+    found = re.fullmatch(r"U\+([0-9A-F]{4,6})|F([0-9]{1,3})", name)
+    code, number = (found and found[1]), (found and found[2])
+    if number and int(number) < 256:
+        return Function(int(number))
+    if code and (int(code, 16) < 0xD800 or 0xDFFF < int(code, 16) < 0x110000):
+        return chr(int(code, 16))
+    return next((code for code, known in KEY_NAMES.items() if known == name), None)
 
 
-def modifiers_of(names: str) -> Modifiers:
+def keys_of(name: str) -> List[Tuple[ReportedKey, KittyModifiers]]:
+    """The keys that a text names, as keyshow or as people name them, and what is held with each."""
+    key = key_of(name)
+    if key is not None:
+        return [(key, KittyModifiers.NONE)]
+    try:
+        return [(press.key, press.held) for press in Chord.read(name)]
+    except KeyNameError as error:
+        wrong = name.encode(errors="replace")[error.at :].decode(errors="replace")
+        raise Wrong(f"{error}: {wrong!r}" if wrong else str(error)) from None
+
+
+# The modifiers that keys may be asked for with.
+HELD = ["SHIFT", "ALT", "CTRL", "SUPER"]
+
+
+def held_of(names: str) -> KittyModifiers:
     """The set of modifiers with these names."""
-    held = Modifiers.NONE
+    held = KittyModifiers.NONE
     for name in names.split("+"):
-        if name not in Modifiers.__members__:
+        if name not in ("NONE", *HELD):
             raise Wrong(f"no modifier is called {name!r}")
-        held |= Modifiers[name]
+        held |= KittyModifiers[name]
     return held
 
 
-# Each mode of a terminal in which the text of a key may be another, in the order in which `texts`
-# lists them.
+# Each mode of a terminal in which the text of a key may be another, in the order in which
+# `key_texts` lists them.
 MODES = [
     KeyCodeEncodeModes(encoding, cursor, newline, level)
     for encoding in (KeyboardEncoding.XTERM, KeyboardEncoding.CSI_U)
@@ -308,20 +337,76 @@ MODES = [
 ]
 
 
-def texts(name: str, names: str) -> Json:
-    """The bytes that a terminal sends for a key in each of MODES, and what the library reads in
-    them."""
-    key, modifiers = key_of(name), modifiers_of(names)
+# The flags of Kitty's keyboard protocol for which the texts of a key are listed.
+FLAGS = [KittyKeyboardFlags(bits) for bits in (1, 1 | 4, 1 | 8, 1 | 4 | 8 | 16)]
+
+
+def encoded(key: ReportedKey, held: KittyModifiers, modes: KeyCodeEncodeModes) -> Optional[bytes]:
+    """The bytes of a key in a mode, if it has such keys and modifiers."""
+    modifiers = Modifiers.NONE
+    for name in HELD:
+        if held & KittyModifiers[name]:
+            modifiers |= Modifiers[name]
+    if isinstance(key, int) or set_name(modifiers) != set_name(held):
+        return None
     try:
-        sent = [encode(key, modifiers, modes).hex() for modes in MODES]
-    except EncodeError as error:
-        raise Wrong(str(error)) from None
-    reads = {}
-    with InputParser() as parser:
-        for text in {*sent}:
-            reads[text] = [line(event) for event in parser.parse(bytes.fromhex(text), False)]
-            parser.reset()
-    return {"line": key_line(key, modifiers), "sent": sent, "reads": reads}
+        return encode(key, modifiers, modes)
+    except EncodeError:
+        return None
+
+
+def report_of(key: ReportedKey, held: KittyModifiers) -> KeyReport:
+    """The report of a key. Letters have Shift, as on a keyboard; other characters have keys of
+    their own."""
+    press = KeyPress.of_report(KeyReport(key, held))
+    text = press.text if press else None
+    if not (isinstance(key, str) and key.isascii() and key.isalpha()):
+        return KeyReport(key, held, text=text or "")
+    held |= KittyModifiers.SHIFT if key.isupper() else KittyModifiers.NONE
+    shifted = key.upper() if held & KittyModifiers.SHIFT else None
+    return KeyReport(key.lower(), held, shifted=shifted, text=text or "")
+
+
+def encoded_kitty(report: KeyReport, flags: KittyKeyboardFlags) -> Optional[bytes]:
+    """The bytes of a key under these flags, if the protocol has a number for it."""
+    try:
+        return report.encode(flags)
+    except EncodeError:
+        return None
+
+
+def read_back(
+    data: Optional[bytes], parser: AnyParser, wanted: Optional[KeyPress]
+) -> Optional[List[Any]]:
+    """The bytes of a key, the lines of what the library reads in them, its name, and whether it is
+    the wanted press."""
+    if data is None:
+        return None
+    events = parser.parse(data, False)
+    names = [press_name(event) or "no press" for event in events]
+    is_same = [KeyPress.of_event(event) for event in events] == [wanted]
+    parser.reset()
+    return [data.hex(), ", ".join(map(line, events)), ", ".join(names), is_same]
+
+
+def key_texts(key: ReportedKey, held: KittyModifiers) -> Json:
+    """The bytes that a terminal sends for a key in each of MODES, and for each of FLAGS, with what
+    the library reads in them."""
+    report = report_of(key, held)
+    wanted = KeyPress.of_report(report)
+    with InputParser() as table, ExtendedParser(Protocol.KITTY) as kitty:
+        return {
+            "line": key_line(key, held),
+            "press": str(wanted) if wanted else "",
+            "sent": [read_back(encoded(key, held, modes), table, wanted) for modes in MODES],
+            "kitty": [read_back(encoded_kitty(report, it), kitty, wanted) for it in FLAGS],
+        }
+
+
+def texts(name: str, names: str) -> Json:
+    """What a terminal sends for each of the keys that a text names, with further modifiers."""
+    held = held_of(names)
+    return {"keys": [key_texts(key, own | held) for key, own in keys_of(name)]}
 
 
 # The keys that are named first.
@@ -378,7 +463,8 @@ class Meanings:
         return {
             "version": __version__,
             "keys": keys + [f"F{number}" for number in range(1, 25)],
-            "modifiers": ["SHIFT", "ALT", "CTRL", "SUPER"],
+            "modifiers": HELD,
+            "flags": [it.value for it in FLAGS],
             "rows": [
                 [it.bytes.hex(), key_name(it.key), set_name(it.modifiers)] for it in self.entries
             ],
@@ -400,13 +486,13 @@ class Meanings:
                 if not listed:
                     at = len(data) - reader.left()
                 for length, event in itertools.islice(reader.items(more), ITEMS - len(listed)):
-                    listed.append([length, line(event), glyphs(event)])
+                    listed.append(item(length, event))
                     count += 1
                 count += reader.skip(more, len(data))
             if end == "paste" and parser.is_paste_open:
                 length, paste = parser.waiting_len, parser.end_paste()
                 if paste and count >= first and len(listed) < ITEMS:
-                    listed.append([length, line(paste), glyphs(paste)])
+                    listed.append(item(length, paste))
                 count += 1
             waits = self.waits(reader, data, reading)
         return {

@@ -201,16 +201,18 @@ const chosen = (name) => document.querySelector(`input[name="${name}"]:checked`)
 const choose = (name, value) => { document.querySelector(`input[name="${name}"][value="${value}"]`).checked = true; };
 
 // The fragment of an input: what is as at first isn't in it.
-function fragmentOf(hex, cut = null, end = 'more') {
-  const words = new URLSearchParams({ bytes: hex }), reading = chosen('reading');
+function fragmentOf(hex, cut = null, end = 'more', reading = chosen('reading')) {
+  const words = new URLSearchParams({ bytes: hex });
   if (cut !== null) words.set('cut', cut);
   if (end !== 'more') words.set('end', end);
   if (reading !== 'table') words.set('reading', reading);
   return `#${words}`;
 }
 
-// A link that puts a sequence into the field.
-const linkTo = (hex, attributes = {}) => el('a', { ...attributes, href: fragmentOf(hex), 'data-hex': hex }, sequence(fromHex(hex)));
+// A link that puts a sequence into the field, to be read as is chosen or as is said.
+const linkTo = (hex, attributes = {}, reading = undefined) => el('a', {
+  ...attributes, href: fragmentOf(hex, null, 'more', reading), 'data-hex': hex,
+}, sequence(fromHex(hex)));
 
 // A sequence, and what it is read as.
 const example = ([hex, ...lines]) => [linkTo(hex, { class: 'sequence' }), ' is ', el('code', {}, lines.join(', '))];
@@ -306,14 +308,15 @@ function showRead(read) {
 
 function addItems(read) {
   let { at } = read;
-  read.items.forEach(([length, line, glyphs], number) => {
+  read.items.forEach(([length, line, glyphs, press], number) => {
     const place = read.first + number, color = `c${place % COLORS}`;
     if (place === read.flushed) $('items').append(el('li', { class: 'mark' }, 'flush'));
     const event = el('span', { class: 'event' }, line);
-    if (glyphs) event.append(' ', el('bdi', { class: 'glyphs quiet' }, glyphs));
+    if (press) event.append(' = ', el('bdi', { class: 'press' }, press));
+    if (glyphs && !press.includes(glyphs)) event.append(' ', el('bdi', { class: 'glyphs quiet' }, glyphs));
     $('items').append(el('li', { class: color }, chips(state.bytes.subarray(at, at + length)), event));
     for (let each = at; each < at + length && each < 512; each++) state.owners[each] = color;
-    state.lines.push(line);
+    state.lines.push(press ? `${line} = ${press}` : line);
     at += length;
   });
   const listed = read.first + read.items.length, left = read.events - listed;
@@ -543,6 +546,7 @@ const KEYS = new Map(Object.entries({
 }));
 const LONE = new Set(['Shift', 'Control', 'Alt', 'Meta', 'AltGraph', 'OS', 'Fn', 'Dead', 'Process', 'Unidentified']);
 const MODES = ['encoding', 'cursor', 'newline', 'level'];
+const MODE_WORDS = ['the encoding', 'application cursor keys', 'newline mode', 'modifyOtherKeys'];
 const MODE_NAMES = [['xterm', 'CSI u'], ['cursor keys normal', 'application cursor keys'], ['newline mode off', 'newline mode'],
   ['modifyOtherKeys off', 'modifyOtherKeys 1', 'modifyOtherKeys 2']];
 
@@ -550,12 +554,6 @@ const codeName = (character) => `U+${character.codePointAt(0).toString(16).toUpp
 const modesNow = () => [Number($('encoding').value), Number($('cursor').checked), Number($('newline').checked), Number($('level').value)];
 const modeIndex = ([encoding, cursor, newline, level]) => ((encoding * 2 + cursor) * 2 + newline) * 3 + level;
 const allModes = MODE_NAMES.reduce((modes, names) => modes.flatMap((mode) => names.map((_, at) => [...mode, at])), [[]]);
-
-// The name that the library has for a typed name or character.
-function keyNamed(text) {
-  if ([...text].length === 1) return codeName(text);
-  return state.table.keys.find((name) => name.toLowerCase() === text.trim().toLowerCase());
-}
 
 function keyPressed(event) {
   if ([...event.key].length === 1) return codeName(event.key);
@@ -578,15 +576,15 @@ function press(event) {
     return;
   }
   const modifiers = held.join('+') || 'NONE';
-  pressing = pressing.then(() => ask('encode', { key, modifiers })).then((answer) => {
-    const sent = fromHex(answer.sent[modeIndex(modesNow())]);
-    set('pressed', sent.length ? `${answer.line} sends ${sequence(sent)}` : `${answer.line} sends nothing in these modes`);
+  pressing = pressing.then(() => ask('encode', { name: key, modifiers })).then((answer) => {
+    const [{ line, sent: texts }] = answer.keys, [hex = ''] = texts[modeIndex(modesNow())] ?? [], sent = fromHex(hex);
+    set('pressed', sent.length ? `${line} sends ${sequence(sent)}` : `${line} sends nothing in these modes`);
     const bytes = new Uint8Array(state.bytes.length + sent.length);
     bytes.set(state.bytes);
     bytes.set(sent, state.bytes.length);
     fill(bytes);
     setBytes(bytes);
-    $('key').value = key.startsWith('U+') ? String.fromCodePoint(parseInt(key.slice(2), 16)) : key;
+    $('key').value = key === 'U+0020' ? 'space' : key.startsWith('U+') ? String.fromCodePoint(parseInt(key.slice(2), 16)) : key;
     for (const box of $('modifiers').querySelectorAll('input')) box.checked = held.includes(box.value);
     showSent(answer);
   }).catch(failed);
@@ -594,40 +592,75 @@ function press(event) {
 
 let asked = 0;
 async function showKey() {
-  const key = keyNamed($('key').value), mine = ++asked;
-  set('key-fault', key ? '' : $('key').value ? `No key is called ‘${$('key').value}’.` : '');
-  $('key').setAttribute('aria-invalid', String(!key));
-  if (!key) return;
+  const name = $('key').value, mine = ++asked;
   const held = [...$('modifiers').querySelectorAll('input:checked')].map((box) => box.value).join('+') || 'NONE';
+  const fault = (words) => {
+    set('key-fault', words);
+    $('key').setAttribute('aria-invalid', String(words !== ''));
+  };
   try {
-    const answer = await ask('encode', { key, modifiers: held });
-    if (mine === asked) showSent(answer);
+    const answer = await ask('encode', { name, modifiers: held });
+    if (mine !== asked) return;
+    fault('');
+    showSent(answer);
   } catch (error) {
-    set('key-fault', `${error.message}.`);
+    if (mine === asked) fault(`${error.message}.`);
   }
+}
+
+// Which of the modes change what a key sends.
+function mattersTo(hex) {
+  const without = (mode, at) => mode.map((value, place) => (place === at ? 0 : value));
+  return MODES.map((_, at) => allModes.some((mode) => hex(mode) !== hex(without(mode, at))));
+}
+
+// A row for the modes in which a key sends a text. A key that they can't say has none.
+function sentRow(words, text, isNow, reading) {
+  const [hex, line, press, isSame] = text ?? [];
+  return el('tr', isNow ? { class: 'now' } : {}, el('th', { scope: 'row' }, words),
+    el('td', {}, hex ? linkTo(hex, {}, reading) : text ? 'nothing' : 'can’t be sent'),
+    el('td', {}, line ?? ''),
+    el('td', {}, !hex ? '' : isSame ? `✓ ${press}` : `≠ ${press}`));
+}
+
+function modeRows(key) {
+  const hex = (mode) => key.sent[modeIndex(mode)]?.[0], matters = mattersTo(hex), now = modesNow();
+  const rows = allModes.filter((mode) => mode.every((value, at) => matters[at] || value === 0));
+  return rows.map((mode) => {
+    const isNow = mode.every((value, at) => !matters[at] || value === now[at]);
+    const words = mode.map((value, at) => (matters[at] ? MODE_NAMES[at][value] : '')).filter(Boolean).join(', ') || 'all 24 modes';
+    return sentRow(words + (isNow && rows.length > 1 ? ' (chosen above)' : ''), key.sent[modeIndex(mode)], isNow);
+  });
+}
+
+// Flags under which a key sends the same bytes have one row.
+function flagRows(key) {
+  const rows = new Map();
+  key.kitty.forEach((text, at) => {
+    const row = rows.get(text?.[0]) ?? { text, flags: [] };
+    row.flags.push(state.table.flags[at]);
+    rows.set(text?.[0], row);
+  });
+  const names = (flags) => (flags.length === state.table.flags.length ? 'Kitty’s protocol' : `Kitty’s flags ${flags.join(' or ')}`);
+  return [...rows.values()].map(({ text, flags }) => sentRow(names(flags), text, false, 'kitty'));
+}
+
+function sentWords(key) {
+  if (key.sent.every((text) => !text)) return `${key.line} can be sent by Kitty’s protocol alone.`;
+  const texts = new Set(key.sent.map((text) => text?.[0])), matters = mattersTo((mode) => key.sent[modeIndex(mode)]?.[0]);
+  if (texts.size === 1) return `${key.line} sends the same bytes in all 24 modes.`;
+  return `${key.line} sends ${many(texts.size, 'different text')} in 24 modes, by ${MODE_WORDS.filter((_, at) => matters[at]).join(' and ')}.`;
 }
 
 function showSent(answer) {
   state.sent = answer;
-  const text = (mode) => answer.sent[modeIndex(mode)];
-  const without = (mode, at) => mode.map((value, place) => (place === at ? 0 : value));
-  const matters = MODES.map((_, at) => allModes.some((mode) => text(mode) !== text(without(mode, at))));
-  const now = modesNow();
-  const rows = allModes.filter((mode) => mode.every((value, at) => matters[at] || value === 0));
-  const texts = new Set(answer.sent).size;
-  const by = ['the encoding', 'application cursor keys', 'newline mode', 'modifyOtherKeys'].filter((_, at) => matters[at]).join(' and ');
-  set('key-count', texts === 1 ? `${answer.line} sends the same bytes in every mode.`
-    : `${answer.line} sends ${many(texts, 'different text')}, by ${by}.`);
+  const heads = ['Modes', 'Bytes', 'The library reads', 'Read back as'], isChord = answer.keys.length > 1;
+  set('key-count', answer.keys.map(sentWords).join(' '));
   $('sent').replaceChildren(
-    el('thead', {}, el('tr', {}, ...['Modes', 'Bytes', 'The library reads'].map((name) => el('th', { scope: 'col' }, name)))),
-    el('tbody', {}, ...rows.map((mode) => {
-      const hex = text(mode), isNow = mode.every((value, at) => !matters[at] || value === now[at]);
-      const names = mode.map((value, at) => (matters[at] ? MODE_NAMES[at][value] : '')).filter(Boolean).join(', ') || 'every mode';
-      const read = answer.reads[hex].join(', '), isSame = read === answer.line;
-      return el('tr', isNow ? { class: 'now' } : {}, el('th', { scope: 'row' }, names, isNow && rows.length > 1 ? ' (chosen above)' : ''),
-        el('td', {}, hex ? linkTo(hex) : 'nothing'),
-        el('td', {}, !hex ? '' : isSame ? `✓ ${read}` : `≠ ${read}`));
-    })));
+    el('thead', {}, el('tr', {}, ...heads.map((name) => el('th', { scope: 'col' }, name)))),
+    ...answer.keys.map((key) => el('tbody', {},
+      ...(isChord ? [el('tr', {}, el('th', { scope: 'rowgroup', colspan: heads.length }, key.press))] : []),
+      ...modeRows(key), ...flagRows(key))));
   const names = modesNow().map((value, at) => (value ? MODE_NAMES[at][value] : '')).filter(Boolean);
   set('modes-now', names.length ? names.join(', ') : 'xterm, all off');
 }
@@ -769,7 +802,7 @@ $('cut').addEventListener('input', () => {
 $('copy').addEventListener('click', () => copy(link(), 'The link'));
 $('copy-report').addEventListener('click', () => copy(report(), 'The report'));
 for (const id of MODES) $(id).addEventListener('change', () => { if (state.sent) showSent(state.sent); });
-$('key').addEventListener('input', showKey);
+$('key').addEventListener('input', delayed(60, showKey));
 $('modifiers').addEventListener('change', showKey);
 $('find').addEventListener('input', delayed(40, showFound));
 window.addEventListener('hashchange', () => follow(location.hash));

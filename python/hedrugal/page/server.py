@@ -235,7 +235,7 @@ class Handler(BaseHTTPRequestHandler):
         """What the library says, as a value for JSON."""
         words = {name: values[-1] for name, values in named.items()}
         if path == "/api/encode":
-            return texts(words.get("key", ""), words.get("modifiers", "NONE"))
+            return texts(words.get("name", ""), words.get("modifiers", "NONE"))
         reading, end = one_of(READINGS, words, "reading"), one_of(ENDS, words, "end")
         if path == "/api/read":
             return self.server.meanings.read(data, reading, end, number(words, "first"))
