@@ -692,7 +692,7 @@ def test_bindings_of_the_page(start, bound):
     """The screens that docs/keys.md shows."""
     screen, following = (it.split("\n") for it in listings()[4:])
     keys = start("--bindings", bound())
-    keys.play([b"\x18", following, b"\x13", "save", b"g", "top", LONG_PAUSE, b"z", screen])
+    keys.play([b"\x18", following, b"\x13", DONE[0], b"g", "top", LONG_PAUSE, b"z", screen])
     keys.end()
 
 

@@ -636,8 +636,7 @@ def test_typing_a_name(page):
     page.press("x shift+1")
     wrong = "shift with a character that isn't a letter, at byte 13: '1'."
     page.wait_for_text("key-fault", wrong)
-    page.press(4 * Keys.BACKSPACE + Keys.BACKSPACE * 4)
-    page.wait_for_text("key-fault", "")
+    page.press(8 * Keys.BACKSPACE)
     page.wait("$('key-fault').innerText", "")
     page.wait_for_text("key-count", "key U+0078 CTRL sends")
     page.enter("NoKey", "key")
@@ -777,6 +776,9 @@ def test_narrow(page):
     inner = "!it.closest('.wide') && !it.closest('.hidden')"
     assert page.run(f"{wide}.filter((it) => {inner}).map((it) => it.outerHTML.slice(0, 80))") == []
     page.open_details(False)
+    page.enter("C-i super+hyper+meta+pageup kitty57428", "key")
+    page.wait_for_text("key-count", "key U+0069 CTRL sends")
+    assert page.run(WIDTH) == 360
     page.read_as("kitty")
     string = "\\e]0;" + "x" * 300
     for text in (f"{string}\\a", string, "\\e[97:65:99;256:3;65:66:67:68u\\e[1;"):

@@ -802,7 +802,7 @@ $('cut').addEventListener('input', () => {
 $('copy').addEventListener('click', () => copy(link(), 'The link'));
 $('copy-report').addEventListener('click', () => copy(report(), 'The report'));
 for (const id of MODES) $(id).addEventListener('change', () => { if (state.sent) showSent(state.sent); });
-$('key').addEventListener('input', delayed(60, showKey));
+$('key').addEventListener('input', delayed(300, showKey));
 $('modifiers').addEventListener('change', showKey);
 $('find').addEventListener('input', delayed(40, showFound));
 window.addEventListener('hashchange', () => follow(location.hash));
