@@ -233,6 +233,15 @@ class Waiting(_Named):
     # numbers.txt: end
 
 
+class Age(_Named):
+    """One of the two ages of what is pending, which a Timer limits."""
+
+    # numbers.txt: age member
+    LAST = 0  # How long ago something was fed last.
+    FRONT = 1  # How long ago the first of what is pending came to the front.
+    # numbers.txt: end
+
+
 class KeyCode(_Named):
     """A key that types no character and is no function key."""
 
