@@ -1089,7 +1089,7 @@ uint32_t hed_matcher_press_either(hed_matcher *matcher, const hed_bindings *bind
 
 /* Takes what comes first of the presses that are pending: the longest chord that they begin with, or else the first press. Pass maybe_more as
  * true while more presses may come: then it waits while the presses may become a longer chord. A program whose user paused for long enough,
- * as for a second, gives up: it calls it with false until it returns HED_OUTCOME_NONE.
+ * as a hed_timer tells, gives up: it calls it with false until it returns HED_OUTCOME_NONE.
  *
  * Returns HED_OUTCOME_BOUND or HED_OUTCOME_UNBOUND, and *outcome tells which chord or which press. Otherwise *outcome isn't written, and the
  * matcher is unchanged: HED_OUTCOME_NONE if nothing is pending, or it waits, HED_OUTCOME_BAD_NUMBER if the numbers of the matcher are those of
