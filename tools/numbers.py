@@ -68,9 +68,9 @@ def read_list() -> Numbers:
 # The places of each file: its forms, each with the groups that it has in it.
 PLACES = {
     HEADER: {
-        "c": "kind next waiting age termwiz_mod button key encoding kitty_flag encoded found protocol"
-        " side_button key_event_kind kitty_mod named printed bound pressed outcome replied reply"
-        " device_attributes mode_state colour_name colour_scheme"
+        "c": "kind next waiting age termwiz_mod button key encoding kitty_flag encoded found"
+        " protocol side_button key_event_kind kitty_mod named printed bound pressed outcome replied"
+        " reply device_attributes mode_state colour_name colour_scheme"
     },
     "rust/src/raw.rs": {
         "const": "next waiting age encoded found kind protocol side_button key_event_kind encoding"
