@@ -19,7 +19,7 @@
 #include <unistd.h>
 
 enum { CHORD_MS = 1000, PASTE_LIMIT = 1 << 20 };
-/* More bytes than the name of a chord has, and than a key report brings. */
+/* No name of a chord is longer, and no text of a key report, since its sequence isn't. */
 enum { NAME_ROOM = 64 * HED_CHORD_MOST, REPORT_ROOM = 256 };
 
 static const char enter[] = "\033[?2004h\033[>4;2m\033[>5u\033[?u", leave[] = "\033[<u\033[>4m\033[?2004l";
@@ -264,36 +264,33 @@ static void print_menu(const edit *it) {
   }
 }
 
-/* Inserts what a press types that has no command. (A terminal sends the character itself.) */
-static bool handle_unbound(edit *it, const hed_key_press *press) {
+/* Inserts a character as a terminal sends it: in UTF-8. */
+static bool insert_character(edit *it, uint32_t code) {
   static const hed_modes modes = { .encoding = HED_ENCODING_XTERM };
   uint8_t bytes[4];
   size_t len;
+  uint32_t encoded = hed_encode(HED_KEY_CHAR, code, HED_TERMWIZ_MOD_NONE, true, &modes, bytes, sizeof bytes, &len);
+  return encoded == HED_ENCODED_TEXT ? insert(it, bytes, len) : fail(it, "out of memory");
+}
+
+static bool handle_unbound(edit *it, const hed_key_press *press) {
   uint32_t code = hed_key_text(press);
-  if (code == HED_NO_CODE) {
-    fputs("unbound: ", stdout);
-    print_chord(press, 1);
-    putchar('\n');
-    return true;
-  }
-  bool is_encoded = hed_encode(HED_KEY_CHAR, code, HED_TERMWIZ_MOD_NONE, true, &modes, bytes, sizeof bytes, &len) == HED_ENCODED_TEXT;
-  return is_encoded ? insert(it, bytes, len) : fail(it, "out of memory");
+  if (code != HED_NO_CODE) return insert_character(it, code);
+  fputs("unbound: ", stdout);
+  print_chord(press, 1);
+  putchar('\n');
+  return true;
 }
 
-/* Handles what comes first of what is pending. Returns whether something did. */
-static bool take_outcome(edit *it, bool more, bool *goes_on) {
-  hed_outcome outcome;
-  switch (hed_matcher_next(&it->matcher, &it->bindings, more, &outcome)) {
-    case HED_OUTCOME_BOUND: *goes_on = run_command(it, outcome.value); return true;
-    case HED_OUTCOME_UNBOUND: *goes_on = handle_unbound(it, &outcome.press); return true;
-    default: return false;
-  }
-}
-
-/* Handles what is decided, and tells the timer how long the rest may take. */
+/* Handles what is decided, and tells the timer how long the rest may take. Without more to come all that is pending is decided. */
 static bool take_outcomes(edit *it, bool more, bool is_pressed) {
   bool is_taken = false, goes_on = true;
-  while (goes_on && take_outcome(it, more, &goes_on)) is_taken = true;
+  hed_outcome outcome;
+  uint32_t answer;
+  while (goes_on && (answer = hed_matcher_next(&it->matcher, &it->bindings, more, &outcome)) != HED_OUTCOME_NONE) {
+    is_taken = true;
+    goes_on = answer == HED_OUTCOME_BOUND ? run_command(it, outcome.value) : handle_unbound(it, &outcome.press);
+  }
   bool is_empty = it->matcher.count == 0;
   hed_seen seen = { .limit = is_empty ? -1 : CHORD_MS, .by = HED_AGE_LAST, .fed = is_pressed, .taken = is_taken, .empty = is_empty };
   hed_timer_note(&it->timer, hed_terminal_now(), &seen);
@@ -356,14 +353,22 @@ static bool take_paste(edit *it) {
   return taken == HED_NEXT_NONE || fail(it, "out of memory");
 }
 
-/* At the end of the input nothing more can come: what is buffered is flushed, and what is pending is given up. */
+static bool handle_bytes(edit *it, const uint8_t *bytes, size_t count) {
+  if (!hed_extended_feed(&it->parser, bytes, count)) return fail(it, "out of memory");
+  return handle_events(it, true) && take_paste(it);
+}
+
+/* Nothing more can come: what is buffered is flushed, and what is pending is given up. */
+static bool handle_end(edit *it) {
+  if (handle_events(it, false)) take_outcomes(it, false, false);
+  return false;
+}
+
 static bool handle_input(edit *it) {
   uint8_t bytes[4096];
   ssize_t count = read(0, bytes, sizeof bytes);
   if (count < 0) return fail(it, "the terminal can't be read");
-  if (!hed_extended_feed(&it->parser, bytes, (size_t)count)) return fail(it, "out of memory");
-  if (!handle_events(it, count > 0) || !take_paste(it)) return false;
-  return count > 0 || (take_outcomes(it, false, false) && false);
+  return count > 0 ? handle_bytes(it, bytes, (size_t)count) : handle_end(it);
 }
 
 /* Handles what was buffered for as long as it may be, and gives up a chord of which the rest didn't come in time. */
