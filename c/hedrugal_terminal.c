@@ -55,16 +55,10 @@ static void end_at_once(int number) {
   hed_terminal_end();
 }
 
-static bool open_wake(hed_terminal *it) {
-  if (wake[1] > 0) return true;
-  if (pipe(wake) != 0 || fcntl(wake[0], F_SETFL, O_NONBLOCK) != 0 || fcntl(wake[1], F_SETFL, O_NONBLOCK) != 0)
-    return fail(it, "a pipe can't be opened");
-  return true;
-}
-
 static bool note_signals(hed_terminal *it) {
   static const int numbers[] = { SIGHUP, SIGINT, SIGQUIT, SIGTERM, SIGTSTP, SIGCONT, SIGWINCH };
-  if (!open_wake(it)) return false;
+  if (pipe(wake) != 0 || fcntl(wake[0], F_SETFL, O_NONBLOCK) != 0 || fcntl(wake[1], F_SETFL, O_NONBLOCK) != 0)
+    return fail(it, "a pipe can't be opened");
   it->wake = wake[0];
   for (size_t i = 0; i < sizeof numbers / sizeof *numbers; i++)
     if (!handle_signal(numbers[i], note_signal)) return fail(it, "a signal can't be handled");

@@ -21,6 +21,7 @@ KEYS = TOP / "docs/edit.keys"
 ENTER, LEAVE = b"\033[?2004h\033[>4;2m\033[>5u\033[?u", b"\033[<u\033[>4m\033[?2004l"
 # How long the rest of a chord may take, in seconds, and a pause that is shorter.
 CHORD_PAUSE, SHORT_PAUSE = 1.0, 0.6
+PASTE_LIMIT = 1 << 20
 FLAGS = b"\033[?5u"
 AFTER_X = ["pending: ctrl+x", "  ctrl+c  quit", "  ctrl+s  save"]
 AFTER_G = ["pending: g", "  g  top"]
@@ -191,6 +192,14 @@ def test_typed(start, steps, lines):
     edit = start()
     edit.play(steps)
     edit.quit(*lines)
+
+
+def test_long_paste(start):
+    """Its parts are inserted as they come."""
+    edit, part = start(), b"a" * (PASTE_LIMIT + 1)
+    edit.play([START + part, "text: a", "a|\r\n", b"b" + END + b"\030\023"])
+    edit.play([f"saved {len(part) + 1} characters\r\n", b"\030\003"])
+    Terminal.check_end(edit, 0)
 
 
 def seconds(edit, steps):
