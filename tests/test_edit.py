@@ -214,7 +214,7 @@ def test_given_up(start):
     edit = start()
     edit.play([b"abgg", "text: |ab\r\n"])
     took = seconds(edit, [b"g", SHORT_PAUSE, b"\033[I", "text: ab|\r\n"])
-    assert CHORD_PAUSE - 0.01 <= took < CHORD_PAUSE + 0.4
+    assert CHORD_PAUSE - 0.01 <= took < CHORD_PAUSE + SHORT_PAUSE
     edit.quit(*TOP_OF_AB, *AFTER_G, "text: ab|")
 
 
