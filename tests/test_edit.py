@@ -98,7 +98,7 @@ WRONG = [
     (b"top" + 33 * b" g", 69),
     (b"top x\303", 6),
 ]
-COMMAND, CHORD, CONTROL = "no such command", "no chord", [3, 4]
+FIRST_WORDS = ["no such command", "no such command", "no chord"]
 
 
 def test_wrong_lines(program, write_keys):
@@ -110,7 +110,7 @@ def test_wrong_lines(program, write_keys):
     places = [f"{keys}:{at}:{column}" for at, (_, column) in enumerate(WRONG, len(RIGHT) + 1)]
     assert [it[:2] for it in told] == [["edit", place] for place in places]
     words = [it[2] for it in told]
-    assert words[:3] == [COMMAND, COMMAND, CHORD] and words[3] == words[4]
+    assert words[:3] == FIRST_WORDS and words[3] == words[4]
     assert len(set(words)) == len(words) - 2 and all(map(str.isprintable, words))
 
 
@@ -274,14 +274,19 @@ def test_signal_while_nobody_reads(program):
         terminal.check_end(-signal.SIGTERM)
 
 
-def test_sigtstp_and_sigcont(start):
-    """What was buffered before the stop no longer counts."""
+@pytest.mark.parametrize("number", [signal.SIGTSTP, signal.SIGSTOP], ids=lambda it: it.name)
+def test_stop(start, number):
+    """What was buffered before no longer counts. Modes that nest are switched on once."""
     edit = start()
     edit.play([b"ab" + START + b"c", "text: ab|\r\n"])
-    edit.stop()
+    if number == signal.SIGTSTP:
+        edit.stop()
+    else:
+        edit.kill(number)
+        edit.wait_for_stop()
     edit.continue_in_foreground()
     edit.wait_for(lambda: edit.output.count(ENTER) == 2, "modes")
-    assert edit.is_raw()
+    assert edit.is_raw() and edit.output.count(LEAVE) == 1
     edit.entered = 2
     edit.send(b"x")
     edit.quit(*AB, "text: abx|")
