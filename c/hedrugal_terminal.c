@@ -127,7 +127,7 @@ static enum hed_terminal_event resume(hed_terminal *it) {
 /* A signal that ends the program comes before raw mode: a program that set it in the background would be stopped once more. */
 enum hed_terminal_event hed_terminal_heed(hed_terminal *terminal) {
   char bytes[64];
-  while (read(wake[0], bytes, sizeof bytes) > 0) {
+  while (read(terminal->wake, bytes, sizeof bytes) > 0) {
   }
   if (stopping && !ending) stop(terminal);
   if (ending) return HED_TERMINAL_ENDING;
@@ -138,7 +138,7 @@ enum hed_terminal_event hed_terminal_heed(hed_terminal *terminal) {
 }
 
 enum hed_terminal_event hed_terminal_wait(hed_terminal *terminal, int milliseconds) {
-  struct pollfd ready[2] = { { .fd = 0, .events = POLLIN }, { .fd = wake[0], .events = POLLIN } };
+  struct pollfd ready[2] = { { .fd = 0, .events = POLLIN }, { .fd = terminal->wake, .events = POLLIN } };
   int count = poll(ready, 2, milliseconds);
   if (count == 0) return HED_TERMINAL_NOTHING;
   if (count > 0 && !ready[1].revents) return HED_TERMINAL_INPUT;

@@ -50,8 +50,9 @@ enum hed_terminal_event {
 };
 
 /* Handles the signals, sets raw mode, and writes enter: a text that switches modes on, such as bracketed paste. leave switches them off in the
- * opposite order. Both are kept and not copied, and may be empty. What was typed ahead is kept. ^C, ^Z and ^\ are keys like any other (ISIG
- * is off), Enter is CR (ICRNL is off), and the end of a line that is written is still LF (OPOST is as it was).
+ * opposite order. Both are kept and not copied, and may be empty. *terminal stays where it is until it is closed. What was typed ahead is
+ * kept. ^C, ^Z and ^\ are keys like any other (ISIG is off), Enter is CR (ICRNL is off), and the end of a line that is written is still LF
+ * (OPOST is as it was).
  *
  * Returns false if the standard input or output is no terminal, or a call of the system fails. Then the terminal is unchanged. */
 bool hed_terminal_open(hed_terminal *terminal, const char *enter, const char *leave);
