@@ -1,11 +1,11 @@
-/* A small editor of one text, whose commands have chords that it reads from a file, such as docs/edit.keys. It shows how a program reads keys
- * by bindings: the presses of a terminal's events, chords with a limit in time, and names of keys for its messages and its menu.
+/* A small editor of one text, whose commands have chords that it reads from a file, such as docs/edit.keys. It shows how a program reads
+ * keys by bindings: the presses of a terminal's events, chords with a limit in time, and names of keys for its messages and its menu.
  *
  *     cc edit.c hedrugal_terminal.c $(pkg-config --cflags --libs hedrugal) -o edit && ./edit edit.keys
  *
- * Each line of the file is a command and the name of a chord, as in `save ctrl+x ctrl+s`; or it is blank, or a comment that begins with `#`.
- * The screen is a log: the text after each change of it or of its cursor, which is shown as `|`, and the chords that may follow. A second
- * after the last press what is pending counts as it is. Of keys without a command those that type text insert it.
+ * Each line of the file is a command and the name of a chord, as in `save ctrl+x ctrl+s`; or it is blank, or a comment that begins with
+ * `#`. The screen is a log: the text after each change of it or of its cursor, which is shown as `|`, and the chords that may follow. A
+ * second after the last press what is pending counts as it is. Of keys without a command those that type text insert it.
  *
  * The program asks for modifyOtherKeys of xterm and for Kitty's keyboard protocol. It reads by the latter once the terminal has told its
  * flags. */
