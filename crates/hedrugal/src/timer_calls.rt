@@ -17,7 +17,7 @@ const AGE_FRONT: u8 = 1;
 #[repr(C)]
 #[derive(Clone, Copy)]
 pub struct CSeen {
-    /// The limit in milliseconds of what is held now. Negative: none.
+    /// The limit in milliseconds of what is pending now. Negative: none.
     pub limit: i32,
     /// The number of the age that is limited.
     pub by: u8,
@@ -25,7 +25,7 @@ pub struct CSeen {
     pub fed: bool,
     /// Whether something was taken since the last note.
     pub taken: bool,
-    /// Whether nothing is held now.
+    /// Whether nothing is pending now.
     pub empty: bool,
 }
 
@@ -47,7 +47,7 @@ pub struct CTimer {
     pub has_noted: bool,
     /// Whether there is a limit.
     pub has_limit: bool,
-    /// Whether something was held at the last note.
+    /// Whether something was pending at the last note.
     pub holds: bool,
 }
 
