@@ -217,8 +217,8 @@ static bool insert(edit *it, const uint8_t *bytes, size_t len) {
 
 /* Inserts the text that the last event brought, as it is. */
 static bool insert_event_text(edit *it, size_t len) {
-  uint8_t *room = len > 0 ? text_insert(&it->text, len) : NULL;
-  if (!room) return len == 0 || fail(it, "out of memory");
+  uint8_t *room = text_insert(&it->text, len);
+  if (!room) return fail(it, "out of memory");
   hed_extended_text(&it->parser, room, len);
   hed_extended_drop_text(&it->parser);
   print_text(&it->text);
@@ -307,6 +307,11 @@ static bool handle_press(edit *it, const hed_key_report *report, const hed_key_p
   return true;
 }
 
+/* A text comes behind what is pending, so that is decided first. */
+static bool handle_text(edit *it, size_t len) {
+  return len == 0 || (take_outcomes(it, false, false) && insert_event_text(it, len));
+}
+
 /* A report that has a press but for its text types several characters. */
 static bool handle_key(edit *it, const hed_extended_event *event) {
   uint8_t typed[REPORT_ROOM];
@@ -314,7 +319,7 @@ static bool handle_key(edit *it, const hed_extended_event *event) {
   hed_key_press press;
   if (len > 0) hed_extended_text(&it->parser, typed, sizeof typed);
   if (hed_key_of_report(&event->report, typed, len, &press)) return handle_press(it, &event->report, &press);
-  if (hed_key_of_report(&event->report, NULL, 0, &press)) return insert_event_text(it, len);
+  if (hed_key_of_report(&event->report, NULL, 0, &press)) return handle_text(it, len);
   return true;
 }
 
@@ -329,7 +334,7 @@ static bool handle_event(edit *it, const hed_extended_event *event) {
     case HED_KIND_KEY:
     case HED_KIND_REPORT: return handle_key(it, event);
     case HED_KIND_PASTE:
-    case HED_KIND_PASTE_PART: return insert_event_text(it, event->text_len);
+    case HED_KIND_PASTE_PART: return handle_text(it, event->text_len);
     case HED_KIND_KEYBOARD_FLAGS: return read_by_kitty(it);
     default: return true;
   }

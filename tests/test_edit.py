@@ -167,6 +167,10 @@ TYPED = {
         [b"abgg" + START + b"cd" + END + b"\030\023"],
         [*TOP_OF_AB, "text: cd|ab", *AFTER_X, "saved 4 characters"],
     ),
+    "a paste behind a key that is pending": (
+        [b"abgg", "text: |ab\r\n", b"g" + START + b"cd" + END],
+        [*TOP_OF_AB, *AFTER_G, "text: ab|", "text: abcd|"],
+    ),
     "Escape alone": ([b"\033", "unbound: escape\r\n", b"a"], ["unbound: escape", *A]),
     "a Cyrillic layout": (
         [FLAGS + CYRILLIC_X + CYRILLIC_S],
@@ -177,6 +181,10 @@ TYPED = {
         [*AFTER_X, "unbound: ctrl+x", "unbound: ctrl+ф"],
     ),
     "a report of two characters": ([FLAGS + b"\033[0;;102:105u"], ["text: fi|"]),
+    "two characters behind a key that is pending": (
+        [FLAGS + b"g\033[0;;102:105u"],
+        [*AFTER_G, "text: fi|"],
+    ),
     "events that are no presses": ([FLAGS + b"abg" + OTHERS + b"g"], TOP_OF_AB),
     # By Kitty's protocol it is a position of the cursor.
     "F3 before and after the flags": (

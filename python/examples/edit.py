@@ -146,7 +146,7 @@ class Edit:
         # One at a time, since an event may change how the next is read.
         for event in self.parser:
             self.handle(event)
-        self.insert(self.parser.take_paste(PASTE_LIMIT) or "")
+        self.insert_text(self.parser.take_paste(PASTE_LIMIT) or "")
 
     def handle_end(self) -> NoReturn:
         """Nothing more can come: what is buffered is flushed, and what is pending is given up."""
@@ -167,7 +167,7 @@ class Edit:
         if report:
             self.handle_key(report)
         elif isinstance(event, Paste):
-            self.insert(event.text)
+            self.insert_text(event.text)
         elif isinstance(event, KeyboardFlags):
             reading = dataclasses.replace(self.parser.reading, protocol=Protocol.KITTY)
             self.parser.reading = reading
@@ -175,7 +175,7 @@ class Edit:
     def handle_key(self, report: KeyReport) -> None:
         press = KeyPress.of_report(report)
         if not press:
-            self.insert(typed_text(report))
+            self.insert_text(typed_text(report))
             return
         self.run(self.matcher.press(press, KeyPress.second(report)), is_press=True)
         self.show_pending()
@@ -207,6 +207,12 @@ class Edit:
             self.change(self.before[:-1], self.after)
         else:
             self.insert("\n")
+
+    def insert_text(self, text: str) -> None:
+        """Inserts a text that comes behind what is pending, so that is decided first."""
+        if text:
+            self.run(self.matcher.give_up())
+        self.insert(text)
 
     def insert(self, text: str) -> None:
         self.change(self.before + text, self.after)

@@ -92,8 +92,7 @@ impl Edit {
             self.give_up()?;
             return Ok(false);
         }
-        self.take_paste()?;
-        Ok(true)
+        self.take_paste()
     }
 
     /// Takes events one at a time, since one of them may change how the next is read.
@@ -109,10 +108,19 @@ impl Edit {
     }
 
     /// A paste above the limit is inserted in parts.
-    fn take_paste(&mut self) -> io::Result<()> {
+    fn take_paste(&mut self) -> io::Result<bool> {
         let part = self.parser.take_paste(PASTE_LIMIT);
         let part = part.map_err(io::Error::other)?;
-        self.screen.insert(&part.unwrap_or_default())
+        self.insert(&part.unwrap_or_default())
+    }
+
+    /// A text comes behind what is pending, so that is decided first.
+    fn insert(&mut self, text: &str) -> io::Result<bool> {
+        if !text.is_empty() && !self.give_up()? {
+            return Ok(false);
+        }
+        self.screen.insert(text)?;
+        Ok(true)
     }
 
     /// No byte came in time: that may mean a key to the parser, or the end of a chord.
@@ -138,7 +146,7 @@ impl Edit {
                 protocol: Protocol::Kitty,
                 ..self.parser.reading()
             }),
-            ExtendedEvent::Input(InputEvent::Paste(text)) => self.screen.insert(text)?,
+            ExtendedEvent::Input(InputEvent::Paste(text)) => return self.insert(text),
             event => {
                 if let Some(report) = event.key() {
                     return self.handle_key(&report);
@@ -150,8 +158,7 @@ impl Edit {
 
     fn handle_key(&mut self, report: &KeyReport) -> io::Result<bool> {
         let Some(press) = KeyPress::of_report(report) else {
-            self.screen.insert(typed_text(report))?;
-            return Ok(true);
+            return self.insert(typed_text(report));
         };
         let outcomes = self.chords.press(press, KeyPress::second(report));
         if !self.screen.run(outcomes)? {
