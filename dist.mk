@@ -35,7 +35,7 @@ dist-tree: dist-source
 	strip -D --strip-debug --remove-section=.comment $(tree)/lib/libhedrugal.a
 	strip --strip-unneeded --remove-section=.comment --remove-section=.note $(tree)/lib/libhedrugal.so.$(VERSION) $(tree)/bin/*
 	mkdir $(tree)/c $(tree)/python
-	cd $(source) && cp c/events.c c/live.c c/ask.c $(tree)/c/ && cp -r python/hedrugal $(tree)/python/ && \
+	cd $(source) && cp $$(cat debian/libhedrugal-dev.examples) $(tree)/c/ && cp -r python/hedrugal $(tree)/python/ && \
 		cp -r rust LICENSE THIRD-PARTY python/hedrugal.spdx.json $(tree)/
 	ln -s ../../lib/libhedrugal.so $(tree)/python/hedrugal/
 	sed 's/@VERSION@/$(VERSION)/' tools/package/README > $(tree)/README

@@ -1,6 +1,6 @@
 /* Asks the terminal where its cursor is, for its colours and for the flags of Kitty's keyboard protocol, and prints its replies.
  *
- *     cc ask.c $(pkg-config --cflags --libs hedrugal) -o ask && ./ask
+ *     cc ask.c hedrugal_terminal.c $(pkg-config --cflags --libs hedrugal) -o ask && ./ask
  *
  * The last question is what the terminal is (DA1), which nearly every terminal answers. Replies come in the order of the questions, so a reply
  * that hasn't come before that one won't come. Without any the program gives up after a second. Keys that are typed meanwhile are read as
@@ -8,53 +8,14 @@
  * reads its output, a second after it. */
 #define _POSIX_C_SOURCE 200809L
 #include "hedrugal.h"
-#include <errno.h>
-#include <poll.h>
-#include <signal.h>
+#include "hedrugal_terminal.h"
 #include <stdio.h>
-#include <string.h>
-#include <termios.h>
-#include <time.h>
 #include <unistd.h>
 
 enum { TIMEOUT_MS = 1000, LONGEST_REPLY = 256 };
 
 /* The cursor's position (CPR), the colours of text and background (OSC 10, 11), Kitty's flags, and DA1. */
 static const char questions[] = "\033[6n\033]10;?\033\\\033]11;?\033\\\033[?u\033[c";
-
-static volatile sig_atomic_t ending;
-static struct termios saved;
-
-static void note_signal(int number) {
-  if (ending) return;
-  ending = number;
-  alarm(1);
-}
-
-static void handle_signal(int number, void (*handler)(int)) {
-  struct sigaction action;
-  memset(&action, 0, sizeof action);
-  action.sa_handler = handler;
-  sigaction(number, &action, NULL);
-}
-
-static void end_by_signal(void) {
-  handle_signal(ending, SIG_DFL);
-  raise(ending);
-}
-
-/* The program still runs a second after such a signal: a write blocks. */
-static void end_at_once(int number) {
-  (void)number;
-  tcsetattr(0, TCSANOW, &saved);
-  end_by_signal();
-}
-
-static void note_signals(void) {
-  static const int numbers[] = { SIGHUP, SIGINT, SIGQUIT, SIGTERM };
-  for (size_t i = 0; i < sizeof numbers / sizeof *numbers; i++) handle_signal(numbers[i], note_signal);
-  handle_signal(SIGALRM, end_at_once);
-}
 
 /* Prints the bytes that an event brought, those that aren't printable ASCII as in \x1b. */
 static void print_text(const hed_extended *parser, const char *name, size_t len) {
@@ -93,13 +54,6 @@ static bool print_events(hed_extended *parser, bool more) {
   return is_over;
 }
 
-/* The time in milliseconds, by a clock that nobody sets. */
-static uint64_t now_ms(void) {
-  struct timespec now;
-  clock_gettime(CLOCK_MONOTONIC, &now);
-  return (uint64_t)now.tv_sec * 1000 + (uint64_t)now.tv_nsec / 1000000;
-}
-
 /* How long to wait for bytes: until the program gives up, or until what is buffered has waited as long as it may. */
 static int wait_ms(hed_extended *parser, uint64_t now, uint64_t end) {
   int32_t left = hed_extended_timeout(parser, now);
@@ -110,7 +64,7 @@ static int wait_ms(hed_extended *parser, uint64_t now, uint64_t end) {
 static bool print_expired(hed_extended *parser) {
   hed_extended_event event;
   uint32_t next;
-  while ((next = hed_extended_expire(parser, now_ms(), &event)) == HED_NEXT_EVENT) print_event(parser, &event);
+  while ((next = hed_extended_expire(parser, hed_terminal_now(), &event)) == HED_NEXT_EVENT) print_event(parser, &event);
   return next == HED_NEXT_NONE;
 }
 
@@ -126,24 +80,26 @@ static bool read_bytes(hed_extended *parser, bool *is_over) {
 }
 
 /* Reads replies up to the last one. Returns false after the timeout, at the end of the input, or if a signal or want of memory ends it. */
-static bool read_replies(hed_extended *parser) {
-  struct pollfd input = { .fd = 0, .events = POLLIN };
-  bool is_over = false;
-  for (uint64_t now = now_ms(), end = now + TIMEOUT_MS; !is_over && !ending && now < end; now = now_ms()) {
-    int count = poll(&input, 1, wait_ms(parser, now, end));
-    if (count < 0 && errno != EINTR) return false;
-    if (count == 0 && !print_expired(parser)) return false;
-    if (count > 0 && !read_bytes(parser, &is_over)) return false;
+static bool read_replies(hed_terminal *terminal, hed_extended *parser) {
+  bool is_over = false, goes_on = true;
+  for (uint64_t now = hed_terminal_now(), end = now + TIMEOUT_MS; goes_on && !is_over && now < end; now = hed_terminal_now()) {
+    switch (hed_terminal_wait(terminal, wait_ms(parser, now, end))) {
+      case HED_TERMINAL_INPUT: goes_on = read_bytes(parser, &is_over); break;
+      case HED_TERMINAL_NOTHING: goes_on = print_expired(parser); break;
+      case HED_TERMINAL_ENDING:
+      case HED_TERMINAL_FAILED: goes_on = false; break;
+      default: break;
+    }
   }
   return is_over;
 }
 
 /* A reply for the position in the first row looks like F3 with modifiers, so the parser is told that one is to come. */
-static bool ask(hed_extended *parser) {
+static bool ask(hed_terminal *terminal, hed_extended *parser) {
   hed_extended_expect_position(parser);
   fputs(questions, stdout);
   if (fflush(stdout) != 0) return false;
-  if (read_replies(parser)) return true;
+  if (read_replies(terminal, parser)) return true;
   print_events(parser, false); /* an Escape key, or a reply that was cut off */
   puts("no reply to the last question");
   return false;
@@ -151,25 +107,18 @@ static bool ask(hed_extended *parser) {
 
 int main(void) {
   hed_extended parser = HED_EXTENDED_NONE;
-  struct termios raw;
-  if (!isatty(1) || tcgetattr(0, &saved) != 0) {
-    fputs("ask: standard input and output have to be a terminal\n", stderr);
-    return 2;
-  }
+  hed_terminal terminal;
   if (!hed_extended_init(&parser, HED_PROTOCOL_LEGACY)) {
     fputs("ask: out of memory\n", stderr);
     return 1;
   }
-  raw = saved;
-  raw.c_iflag &= ~(tcflag_t)(BRKINT | ICRNL | IGNCR | INLCR | INPCK | ISTRIP | IXON);
-  raw.c_lflag &= ~(tcflag_t)(ECHO | ICANON | IEXTEN | ISIG); /* no byte of a reply is a signal or another byte */
-  raw.c_cc[VMIN] = 1;
-  raw.c_cc[VTIME] = 0;
-  note_signals();
-  tcsetattr(0, TCSADRAIN, &raw); /* what was typed ahead is kept */
-  bool is_answered = ask(&parser);
-  tcsetattr(0, is_answered ? TCSADRAIN : TCSAFLUSH, &saved); /* a late reply isn't left for the shell */
+  if (!hed_terminal_open(&terminal, "", "")) {
+    fprintf(stderr, "ask: %s\n", terminal.failure);
+    return 2;
+  }
+  bool is_answered = ask(&terminal, &parser);
+  hed_terminal_close(&terminal); /* a late reply isn't left for the shell */
   hed_extended_free(&parser);
-  if (ending) end_by_signal();
+  hed_terminal_end();
   return is_answered ? 0 : 1;
 }

@@ -292,6 +292,57 @@ int32_t hed_parser_timeout(hed_parser *parser, uint64_t now);
  * HED_NEXT_EVENT. With HED_NEXT_NO_MEMORY nothing changed, and the call may be made again. */
 uint32_t hed_parser_expire(hed_parser *parser, uint64_t now, hed_event *event);
 
+/* The two ages of what is pending, by which a hed_timer limits it. */
+enum hed_age {
+  /* numbers.txt: age c */
+  HED_AGE_LAST = 0, /* How long ago something was fed last. */
+  HED_AGE_FRONT = 1 /* How long ago the first of what is pending came to the front. */
+  /* numbers.txt: end */
+};
+
+/* What a program tells a hed_timer: what is pending now, and what happened since the last note. */
+typedef struct hed_seen {
+  int32_t limit; /* how long what is pending may wait, in milliseconds. Negative: forever */
+  uint8_t by; /* an enum hed_age: the age that the limit is for */
+  bool fed; /* whether something was fed since the last note, as a press to a matcher */
+  bool taken; /* whether something was taken since the last note, as an outcome of a matcher */
+  bool empty; /* whether nothing is pending now */
+} hed_seen;
+
+/* A timer, by which a program keeps a limit in time of its own beside its parser's: the pause of a chord, after which the presses of a
+ * hed_matcher that are pending are given up. All zero, as HED_TIMER_NONE, it is a new one. It owns no memory, and may be copied. Its fields
+ * are the library's. */
+typedef struct hed_timer {
+  uint64_t last;
+  uint64_t front;
+  uint64_t noted;
+  uint64_t millis;
+  uint8_t by;
+  bool has_noted;
+  bool has_limit;
+  bool holds;
+} hed_timer;
+
+/* The value of a new hed_timer. */
+#define HED_TIMER_NONE \
+  { 0, 0, 0, 0, 0, false, false, false }
+
+/* Tells the timer what time it is and what was seen. Both ages grow by the time since the last note. Then HED_AGE_LAST is 0 if something was
+ * fed, and HED_AGE_FRONT is 0 if something was taken, or if nothing was pending at the last note. The pause of a chord is limited by
+ * HED_AGE_LAST: the caller notes each press, once hed_matcher_next has returned HED_OUTCOME_NONE.
+ *
+ * now is in milliseconds, as for hed_parser_timeout: if it is before the time of the last note, no time has passed.
+ *
+ * Returns false if by is no enum hed_age, in *seen or in *timer: then the timer is unchanged. */
+bool hed_timer_note(hed_timer *timer, uint64_t now, const hed_seen *seen);
+
+/* Returns how many milliseconds what is pending may still wait, as poll takes it: 0 if its age has reached the limit, and -1 if it may wait
+ * forever or by is no enum hed_age in *timer. The timer is unchanged.
+ *
+ * A program waits for no longer than this and hed_parser_timeout say. If no key came and this is 0, it gives up the chord: it calls
+ * hed_matcher_next with maybe_more as false. */
+int32_t hed_timer_timeout(const hed_timer *timer, uint64_t now);
+
 /* The modifiers by termwiz's bits, as a set: the field modifiers of a hed_event, and what hed_encode is given. A hed_key_report has others,
  * those of enum hed_kitty_mod. */
 enum hed_termwiz_mod {
@@ -1038,7 +1089,7 @@ uint32_t hed_matcher_press_either(hed_matcher *matcher, const hed_bindings *bind
 
 /* Takes what comes first of the presses that are pending: the longest chord that they begin with, or else the first press. Pass maybe_more as
  * true while more presses may come: then it waits while the presses may become a longer chord. A program whose user paused for long enough,
- * as for a second, gives up: it calls it with false until it returns HED_OUTCOME_NONE.
+ * as a hed_timer tells, gives up: it calls it with false until it returns HED_OUTCOME_NONE.
  *
  * Returns HED_OUTCOME_BOUND or HED_OUTCOME_UNBOUND, and *outcome tells which chord or which press. Otherwise *outcome isn't written, and the
  * matcher is unchanged: HED_OUTCOME_NONE if nothing is pending, or it waits, HED_OUTCOME_BAD_NUMBER if the numbers of the matcher are those of
@@ -1172,6 +1223,8 @@ HED_IS(entries, sizeof(hed_entries) == 24 && offsetof(hed_entries, count) == 8 &
 HED_IS(match, sizeof(hed_match) == 16 && offsetof(hed_match, value) == 8);
 HED_IS(extended, sizeof(hed_extended) == 24 && offsetof(hed_extended, state) == 8 && offsetof(hed_extended, timing) == 16);
 HED_IS(policy, sizeof(hed_policy) == 24 && offsetof(hed_policy, string) == 12 && offsetof(hed_policy, paste) == 20);
+HED_IS(seen, sizeof(hed_seen) == 8 && offsetof(hed_seen, by) == 4 && offsetof(hed_seen, empty) == 7);
+HED_IS(timer, sizeof(hed_timer) == 40 && offsetof(hed_timer, millis) == 24 && offsetof(hed_timer, holds) == 35);
 HED_IS(report, sizeof(hed_key_report) == 16 && offsetof(hed_key_report, key) == 2 && offsetof(hed_key_report, base) == 12);
 HED_IS(press, sizeof(hed_key_press) == 8 && offsetof(hed_key_press, held) == 2 && offsetof(hed_key_press, detail) == 4);
 HED_IS(extended_event, sizeof(hed_extended_event) == 64 && offsetof(hed_extended_event, row) == 2);

@@ -1353,6 +1353,140 @@ static void goes_on_flushing(hed_parser *parser, const hed_parser *other) {
   EXPECT(take(parser, true) == HED_NEXT_NONE && hed_parser_timeout(parser, 1000) == 50);
 }
 
+/* What a program tells a timer: the letters of `what` say whether something was fed or taken, and whether nothing is pending. */
+static hed_seen seen_of(int32_t limit, uint8_t by, const char *what) {
+  return (hed_seen){ limit, by, strchr(what, 'f') != NULL, strchr(what, 't') != NULL, strchr(what, 'e') != NULL };
+}
+
+/* A timer is told these notes in turn. After each it is asked how long what is pending may still wait. */
+enum { LAST = HED_AGE_LAST, FRONT = HED_AGE_FRONT };
+static const struct {
+  uint64_t noted;
+  int32_t limit;
+  uint8_t by;
+  const char *what;
+  uint64_t asked;
+  int32_t left;
+} notes[] = {
+  /* The pause of a chord: each press begins it again. */
+  { 5000, 1000, LAST, "f", 5000, 1000 },
+  { 5000, 1000, LAST, "", 5400, 600 },
+  { 5400, 1000, LAST, "f", 6399, 1 },
+  { 6399, 1000, LAST, "", 6400, 0 },
+  { 6400, -1, LAST, "te", 9000, -1 },
+  /* While the clock steps back no time passes. */
+  { 9000, 1000, LAST, "f", 9300, 700 },
+  { 9300, 1000, LAST, "", 100, 700 },
+  { 100, 1000, LAST, "", 50, 700 },
+  { 100, 1000, LAST, "", 799, 1 },
+  /* What is fed doesn't put off what waits at the front. */
+  { 1000, 300, FRONT, "te", 2000, 0 },
+  { 3000, 300, FRONT, "f", 3000, 300 },
+  { 3200, 300, FRONT, "f", 3200, 100 },
+  { 3200, 300, LAST, "", 3200, 300 },
+  { 3250, 300, FRONT, "t", 3350, 200 },
+  /* No limit, a limit of 0, and the longest times. */
+  { 3350, INT32_MIN, FRONT, "", UINT64_MAX, -1 },
+  { 3350, 0, FRONT, "ft", 3350, 0 },
+  { 3350, INT32_MAX, LAST, "f", 3350, INT32_MAX },
+  { 3351, INT32_MAX, LAST, "", UINT64_MAX, 0 },
+  { UINT64_MAX, INT32_MAX, LAST, "", 0, 0 },
+  { 0, INT32_MAX, LAST, "", UINT64_MAX, 0 },
+  { 0, INT32_MAX, LAST, "f", INT32_MAX - 5, 5 },
+};
+
+static void tells_how_long_to_wait(void) {
+  hed_timer timer = HED_TIMER_NONE;
+  EXPECT(hed_timer_timeout(&timer, 0) == -1 && hed_timer_timeout(&timer, UINT64_MAX) == -1);
+  for (size_t i = 0; i < sizeof notes / sizeof *notes; i++) {
+    hed_seen seen = seen_of(notes[i].limit, notes[i].by, notes[i].what);
+    EXPECT(hed_timer_note(&timer, notes[i].noted, &seen) && hed_timer_timeout(&timer, notes[i].asked) == notes[i].left);
+  }
+}
+
+/* A plain timer: all that it was told, first what comes first. */
+enum { PLAIN_NOTES = 60 };
+static struct {
+  uint64_t now;
+  hed_seen seen;
+} told_notes[PLAIN_NOTES];
+static size_t told_len;
+
+/* Whether the age begins at a note. */
+static bool begins_age(size_t at, uint8_t by) {
+  if (at == 0) return true;
+  return by == HED_AGE_LAST ? told_notes[at].seen.fed : told_notes[at].seen.taken || told_notes[at - 1].seen.empty;
+}
+
+/* How far the clock stepped forward since the age began, up to the longest time. */
+static uint64_t plain_age(uint8_t by, uint64_t now) {
+  size_t at = told_len - 1;
+  uint64_t age = 0;
+  while (!begins_age(at, by)) at--;
+  for (; at < told_len; at++) {
+    uint64_t next = at + 1 < told_len ? told_notes[at + 1].now : now;
+    uint64_t step = next > told_notes[at].now ? next - told_notes[at].now : 0;
+    age = step > UINT64_MAX - age ? UINT64_MAX : age + step;
+  }
+  return age;
+}
+
+static int32_t plain_timeout(uint64_t now) {
+  const hed_seen *seen = &told_notes[told_len - 1].seen;
+  uint64_t age = plain_age(seen->by, now);
+  if (seen->limit < 0) return -1;
+  return age < (uint64_t)seen->limit ? seen->limit - (int32_t)age : 0;
+}
+
+/* A time: one of a few, or somewhat before or after another. */
+static uint64_t make_time(uint64_t other) {
+  static const uint64_t few[] = { 0, 1, 1000, 1000000, UINT64_MAX / 2, UINT64_MAX - 1, UINT64_MAX };
+  uint32_t kind = number_below(10);
+  return kind < sizeof few / sizeof *few ? few[kind] : other + number_below(3000) - (kind == 9 ? 1500 : 0);
+}
+
+static hed_seen make_seen(void) {
+  static const int32_t limits[] = { INT32_MIN, -1, 0, 1, 50, 1000, 60000, INT32_MAX };
+  return (hed_seen){ limits[number_below(8)], (uint8_t)number_below(2), number_below(3) == 0, number_below(3) == 0, number_below(3) == 0 };
+}
+
+/* A timer and its copy answer as a plain timer does, before and after each note. */
+static void agrees_with_a_plain_timer(void) {
+  for (int timers = 0; timers < 300; timers++) {
+    hed_timer timer = HED_TIMER_NONE;
+    uint64_t now = make_time(0);
+    for (told_len = 0; told_len < PLAIN_NOTES;) {
+      told_notes[told_len].now = now;
+      told_notes[told_len].seen = make_seen();
+      EXPECT(hed_timer_note(&timer, now, &told_notes[told_len++].seen));
+      for (int asks = 0; asks < 3; asks++, now = make_time(now)) {
+        hed_timer copy = timer;
+        EXPECT(hed_timer_timeout(&copy, now) == plain_timeout(now) && memcmp(&copy, &timer, sizeof timer) == 0);
+      }
+    }
+  }
+}
+
+/* A number of no age is refused in either struct, and the timer is unchanged. */
+static void refuses_other_ages(void) {
+  hed_timer timer = HED_TIMER_NONE, before;
+  hed_seen seen = seen_of(1000, HED_AGE_FRONT, "f");
+  EXPECT(hed_timer_note(&timer, 7, &seen));
+  for (unsigned by = 0; by < 256; by++) {
+    bool is_age = by == HED_AGE_LAST || by == HED_AGE_FRONT;
+    before = timer;
+    seen.by = (uint8_t)by;
+    EXPECT(is_age || !hed_timer_note(&timer, 8, &seen));
+    EXPECT(memcmp(&timer, &before, sizeof timer) == 0 && hed_timer_timeout(&timer, 8) == 999);
+    seen.by = HED_AGE_LAST;
+    before.by = (uint8_t)by;
+    timer = before;
+    EXPECT(hed_timer_timeout(&timer, 7) == (is_age ? 1000 : -1) && (is_age || !hed_timer_note(&timer, 8, &seen)));
+    EXPECT(memcmp(&timer, &before, sizeof timer) == 0);
+    timer.by = HED_AGE_FRONT;
+  }
+}
+
 /* A pointer of length 0 may be NULL. */
 static void takes_null_for_no_bytes(void) {
   hed_parser parser = HED_PARSER_NONE;
@@ -1382,7 +1516,9 @@ static void reads_from_a_page_that_is_read_only(void) {
   struct {
     hed_parser parser;
     hed_keymap map;
+    hed_timer timer;
   } *it = page();
+  const hed_seen seen = seen_of(50, HED_AGE_LAST, "f");
   hed_match match = { 7, 7 };
   hed_entries entries = { 7, 7, true };
   uint8_t text[4] = "....";
@@ -1391,6 +1527,7 @@ static void reads_from_a_page_that_is_read_only(void) {
   if (it == MAP_FAILED) abort();
   EXPECT(hed_parser_init(&it->parser) && hed_keymap_init(&it->map) && hed_keymap_insert(&it->map, (const uint8_t *)"up", 2, 5));
   EXPECT(NEXT(&it->parser, "\033[200~ab\033[201~\033[200~c", true) == HED_NEXT_EVENT);
+  EXPECT(hed_timer_note(&it->timer, 10, &seen));
   EXPECT(mprotect(it, 4096, PROT_READ) == 0);
   EXPECT(hed_parser_waiting_len(&it->parser) == 7 && hed_parser_waiting(&it->parser) == HED_WAITING_PASTE);
   EXPECT(hed_parser_is_paste_open(&it->parser));
@@ -1400,6 +1537,7 @@ static void reads_from_a_page_that_is_read_only(void) {
   EXPECT(hed_parser_init_sharing(&sharing, &it->parser) && hed_extended_init_sharing_parser(&extended, HED_PROTOCOL_LEGACY, &it->parser));
   hed_parser_free(&sharing);
   hed_extended_free(&extended);
+  EXPECT(hed_timer_timeout(&it->timer, 20) == 40);
   EXPECT(hed_keymap_len(&it->map) == 1);
   EXPECT(hed_keymap_lookup(&it->map, (const uint8_t *)"upper", 5, true, &match) == HED_FOUND_EXACT && match.len == 2 && match.value == 5);
   EXPECT(mprotect(it, 4096, PROT_READ | PROT_WRITE) == 0);
@@ -1476,6 +1614,9 @@ int main(int argc, char **argv) {
   agrees_with_a_plain_map();
   keeps_many_keys();
   keeps_short_keys();
+  tells_how_long_to_wait();
+  agrees_with_a_plain_timer();
+  refuses_other_ages();
   takes_null_for_no_bytes();
   reads_from_a_page_that_is_read_only();
   tells_the_version();

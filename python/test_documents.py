@@ -53,13 +53,13 @@ with ExtendedParser() as parser:
     "words",
     [
         ["python/hedrugal"],
-        ["python/examples/ask.py"],
+        ["python/examples/ask.py", "python/examples/edit.py"],
         ["-c", ANSWERS_TOLD_APART],
         ["-c", LIMITS_IN_TIME],
     ],
 )
 def test_types(words):
-    """The package passes mypy --strict, and so do the example and programs that use it."""
+    """The package passes mypy --strict, and so do the examples and programs that use it."""
     words = ["mypy", "--strict", "--cache-dir=/dev/null", *words]
     done = subprocess.run(
         words,

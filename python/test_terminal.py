@@ -118,7 +118,7 @@ def test_a_cut_answer(ask):
 
 def test_no_terminal():
     """Without a terminal nothing is asked."""
-    text = f"import os, runpy\nos.setsid()\nrunpy.run_path({ASK!r}, run_name='__main__')"
+    text = f"import os, sys\nos.setsid()\nos.execl(sys.executable, 'python3', '-B', {ASK!r})"
     status, printed, errors = run_python(text, {"HEDRUGAL_LIBRARY": LIBRARY})
     assert (status, printed) == (1, "")
     assert errors.startswith("ask: ") and errors.endswith("/dev/tty'\n") and errors.count("\n") == 1

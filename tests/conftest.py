@@ -85,8 +85,10 @@ def example(compiled, tmp_path_factory):
 
     @functools.cache
     def build_example(language, name):
+        if language == "python":
+            return [sys.executable, str(TOP / f"python/examples/{name}.py")]
         if language == "c":
-            return [compiled(name, "c99", TOP / f"c/{name}.c")]
+            return [compiled(name, "c99", TOP / f"c/{name}.c", TOP / "c/hedrugal_terminal.c")]
         target = os.environ.get("CARGO_TARGET_DIR") or str(tmp_path_factory.mktemp("target"))
         words = f"cargo build --quiet --locked --offline --example {name} --manifest-path".split()
         env = os.environ | {"HEDRUGAL_LIBRARY": str(LIBRARY), "CARGO_TARGET_DIR": target}

@@ -51,8 +51,7 @@ check 'build of the extended calls' build test_extended extended
 check 'build of their refusals' build test_extended_refusals extended_refusals "$counting"
 check 'build of bindings' build test_bindings bindings
 check 'build of shared tables' build test_sharing sharing -pthread
-check 'asking program as C99' build ask ask
-check 'live program as C99' build live live
+for name in ask live edit; do check "program $name as C99" build $name $name c/hedrugal_terminal.c; done
 check 'calls' timeout 300 "$work/calls" c/numbers.txt
 check 'calls of the shared library' timeout 300 "$work/calls_shared" c/numbers.txt
 check 'refusals' timeout 300 "$work/refusals"

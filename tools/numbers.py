@@ -68,12 +68,12 @@ def read_list() -> Numbers:
 # The places of each file: its forms, each with the groups that it has in it.
 PLACES = {
     HEADER: {
-        "c": "kind next waiting termwiz_mod button key encoding kitty_flag encoded found protocol"
-        " side_button key_event_kind kitty_mod named printed bound pressed outcome replied reply"
-        " device_attributes mode_state colour_name colour_scheme"
+        "c": "kind next waiting age termwiz_mod button key encoding kitty_flag encoded found"
+        " protocol side_button key_event_kind kitty_mod named printed bound pressed outcome replied"
+        " reply device_attributes mode_state colour_name colour_scheme"
     },
     "rust/src/raw.rs": {
-        "const": "next waiting encoded found kind protocol side_button key_event_kind encoding"
+        "const": "next waiting age encoded found kind protocol side_button key_event_kind encoding"
         " named printed bound pressed outcome replied reply device_attributes mode_state"
         " colour_name colour_scheme"
     },
@@ -81,7 +81,7 @@ PLACES = {
     "rust/src/input/keys.rs": {"variant": "key", "number": "key", "of": "key"},
     "rust/tests/parser/names.rs": {"named": "termwiz_mod button", "plain": "key"},
     "python/hedrugal/__init__.py": {
-        "member": "termwiz_mod button kitty_flag encoding waiting key",
+        "member": "termwiz_mod button kitty_flag encoding waiting age key",
         "private": "next encoded found kind key",
     },
     "python/hedrugal/extended.py": {
@@ -120,7 +120,7 @@ FORMS = {
 # The types of groups in Rust; the others are u32.
 RUST_TYPES = {
     **dict.fromkeys(
-        "kind side_button key_event_kind encoding reply device_attributes".split(), "u8"
+        "kind side_button key_event_kind encoding reply device_attributes age".split(), "u8"
     ),
     **dict.fromkeys("mode_state colour_name colour_scheme".split(), "u8"),
     **{"termwiz_mod": "Modifiers", "button": "MouseButtons"},
@@ -230,6 +230,7 @@ PROVED = [
     ("next", "hedrugal/src/lib.rt", constants("NEXT")),
     ("encoded", "hedrugal/src/lib.rt", constants("ENCODED")),
     ("waiting", "hedrugal/src/lib.rt", constants("WAITING")),
+    ("age", "hedrugal/src/timer_calls.rt", constants("AGE")),
     ("found", "hedrugal/src/keymap_calls.rt", constants("FOUND")),
     ("protocol", "hedrugal/src/extended_calls.rt", constants("PROTOCOL")),
     ("named", "hedrugal/src/name_calls.rt", constants("NAMED")),

@@ -79,7 +79,7 @@ expected_files() { # package
             echo "$libdir/libhedrugal.a 644"
             echo "$libdir/libhedrugal.so -> libhedrugal.so.$version"
             echo "$libdir/pkgconfig/hedrugal.pc 644"
-            printf "usr/share/doc/$1/examples/%s 644\n" ask.c events.c live.c
+            printf "usr/share/doc/$1/examples/%s 644\n" {ask,edit,events,live}.c edit.keys hedrugal_terminal.{c,h}
             echo 'usr/share/man/man3/hedrugal.3.gz 644'
             library_calls | sed 's|.*|usr/share/man/man3/&.3.gz -> hedrugal.3.gz|' ;;
         libhedrugal0)

@@ -14,9 +14,7 @@ import os
 import select
 import signal
 import sys
-import termios
 import time
-import tty
 from typing import List, Optional
 
 from hedrugal import (
@@ -31,22 +29,9 @@ from hedrugal import (
     Osc,
     Paste,
 )
+from raw_mode import raw_mode, run
 
 CURSOR, BACKGROUND, KEYBOARD, ATTRIBUTES = b"\x1b[6n", b"\x1b]11;?\x1b\\", b"\x1b[?u", b"\x1b[c"
-
-
-class Ended(BaseException):
-    """A signal ends the program, once the terminal is restored."""
-
-
-# The signal that ends the program. Another one may come while the terminal is restored.
-ending: List[int] = []
-
-
-def end_by(number: int, _: object) -> None:
-    if not ending:
-        ending.append(number)
-        raise Ended
 
 
 def is_attributes(event: ExtendedEvent) -> bool:
@@ -77,19 +62,6 @@ def ask(terminal: int, seconds: float) -> List[ExtendedEvent]:
         return events + parser.flush()
 
 
-def ask_in_raw_mode(terminal: int, seconds: float) -> List[ExtendedEvent]:
-    """Asks while the terminal passes each byte on, and then restores its modes. An answer that
-    comes too late is thrown away."""
-    saved = termios.tcgetattr(terminal)
-    try:
-        tty.setraw(terminal)
-        return ask(terminal, seconds)
-    finally:
-        # No wait for what is still to be written: it may be that nobody reads it.
-        termios.tcflush(terminal, termios.TCIFLUSH)
-        termios.tcsetattr(terminal, termios.TCSANOW, saved)
-
-
 def described(event: ExtendedEvent) -> Optional[str]:
     """Returns the line of an answer, None for any other event."""
     if isinstance(event, CursorPosition):
@@ -107,15 +79,13 @@ def described(event: ExtendedEvent) -> Optional[str]:
 
 def main() -> int:
     seconds = float(sys.argv[1]) if len(sys.argv) > 1 else 1
-    # These would end the program at once, and leave the terminal in raw mode.
-    for number in (signal.SIGHUP, signal.SIGTERM):
-        signal.signal(number, end_by)
     try:
         terminal = os.open("/dev/tty", os.O_RDWR | os.O_NOCTTY)
     except OSError as error:
         sys.exit(f"ask: {error}")
     try:
-        events = ask_in_raw_mode(terminal, seconds)
+        with raw_mode(terminal):
+            events = ask(terminal, seconds)
     finally:
         os.close(terminal)
     for line in filter(None, map(described, events)):
@@ -129,9 +99,4 @@ def main() -> int:
 
 
 if __name__ == "__main__":
-    try:
-        sys.exit(main())
-    except Ended:
-        # By the signal itself, since sys.exit would first write what was printed.
-        signal.signal(ending[0], signal.SIG_DFL)
-        os.kill(os.getpid(), ending[0])
+    run(main, signal.SIGHUP, signal.SIGTERM)

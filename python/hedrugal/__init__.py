@@ -56,6 +56,7 @@ from typing import (
 __version__ = "0.1.0"
 
 __all__ = [
+    "Age",
     "Ambiguous",
     "Apc",
     "Bindings",
@@ -120,6 +121,7 @@ __all__ = [
     "StringCut",
     "StringKind",
     "StringPart",
+    "Timer",
     "Unbound",
     "VersionReply",
     "Waiting",
@@ -230,6 +232,15 @@ class Waiting(_Named):
     CHARACTER = 3  # A prefix of a character in UTF-8, after an ESC or not.
     PASTE = 4  # An open paste: its start, and its text so far.
     STRING = 5  # An open string: its opening, and its bytes so far.
+    # numbers.txt: end
+
+
+class Age(_Named, enum.IntEnum):
+    """One of the two ages of what is pending, by which a Timer limits it."""
+
+    # numbers.txt: age member
+    LAST = 0  # How long ago something was fed last.
+    FRONT = 1  # How long ago the first of what is pending came to the front.
     # numbers.txt: end
 
 
@@ -531,6 +542,29 @@ class _RawPolicy(ctypes.Structure):
     _fields_ = [(name, ctypes.c_int32) for name in Policy._fields]
 
 
+class _RawSeen(ctypes.Structure):
+    _fields_ = [
+        ("limit", ctypes.c_int32),
+        ("by", ctypes.c_uint8),
+        ("fed", ctypes.c_bool),
+        ("taken", ctypes.c_bool),
+        ("empty", ctypes.c_bool),
+    ]
+
+
+class _RawTimer(ctypes.Structure):
+    _fields_ = [
+        ("last", ctypes.c_uint64),
+        ("front", ctypes.c_uint64),
+        ("noted", ctypes.c_uint64),
+        ("millis", ctypes.c_uint64),
+        ("by", ctypes.c_uint8),
+        ("has_noted", ctypes.c_bool),
+        ("has_limit", ctypes.c_bool),
+        ("holds", ctypes.c_bool),
+    ]
+
+
 class _RawModes(ctypes.Structure):
     _fields_ = [
         ("modify_other_keys", ctypes.c_int64),
@@ -608,6 +642,7 @@ _PARSER: Any = ctypes.POINTER(_RawParser)
 _EVENT = ctypes.POINTER(_RawEvent)
 _MAP = ctypes.POINTER(_RawKeyMap)
 _POLICY: Any = ctypes.POINTER(_RawPolicy)
+_TIMER: Any = ctypes.POINTER(_RawTimer)
 # A uint8_t *, as which ctypes passes a bytes object without a copy.
 _BYTES = ctypes.c_void_p
 _COUNT: Any = ctypes.POINTER(ctypes.c_size_t)
@@ -638,6 +673,8 @@ _CALLS: Dict[str, Tuple[Any, List[Any]]] = {
         [_PARSER, ctypes.c_size_t, _BYTES, ctypes.c_size_t, _EVENT],
     ),
     "hed_parser_completions": (ctypes.c_bool, [_PARSER, ctypes.POINTER(_RawEntries)]),
+    "hed_timer_note": (ctypes.c_bool, [_TIMER, ctypes.c_uint64, ctypes.POINTER(_RawSeen)]),
+    "hed_timer_timeout": (ctypes.c_int32, [_TIMER, ctypes.c_uint64]),
     "hed_key_name": (ctypes.c_size_t, [ctypes.c_uint16, _BYTES, ctypes.c_size_t]),
     "hed_encode": (
         ctypes.c_uint32,
@@ -897,10 +934,20 @@ def _millis(seconds: float, most: int) -> int:
     return min(round(min(seconds, most) * 1_000_000) // 1000, most)
 
 
+def _limit_millis(limit: Optional[float]) -> int:
+    """A limit in milliseconds, below 0 if there is none."""
+    return -1 if limit is None else _millis(limit, 2**31 - 1)
+
+
+def _wait_of(millis: int) -> Optional[float]:
+    """How many seconds something may wait, of milliseconds that are below 0 for ever."""
+    return None if millis < 0 else millis / 1000
+
+
 def _raw_policy(policy: Policy) -> _RawPolicy:
     if not isinstance(policy, Policy):
         raise TypeError(f"a Policy is required, not {type(policy).__name__}")
-    return _RawPolicy(*(-1 if it is None else _millis(it, 2**31 - 1) for it in policy))
+    return _RawPolicy(*map(_limit_millis, policy))
 
 
 def _millis_of_now(now: Optional[float]) -> Callable[[], int]:
@@ -1209,8 +1256,7 @@ class _EventParser(_Closable, Generic[_AnyEvent]):
             # What was refused memory waits no longer.
             if self._kept or self._has_front:
                 return 0.0
-            left = self._calls.timeout(self._raw, millis())
-            return None if left < 0 else left / 1000
+            return _wait_of(self._calls.timeout(self._raw, millis()))
 
     def expire(self, now: Optional[float] = None) -> List[_AnyEvent]:
         r"""Flushes what has waited for as long as `timeout` said, and returns the events. ESC is
@@ -1464,6 +1510,77 @@ class InputParser(_EventParser[Event]):
 
 # The answers of a lookup that say nothing of a key.
 _nothing, _need_data = Nothing(), NeedData()
+
+
+class Timer:
+    """A timer, by which a program keeps a limit in time of its own beside its parser's.
+
+    It knows what it was told, and may be copied by copy.copy. With it a program times the pause of
+    a chord, after which it calls `Matcher.give_up`. Each press begins the pause again:
+
+        >>> matcher, pause = Matcher(Bindings({"g": "go", "g g": "top"})), Timer()
+        >>> taken = matcher.press("g")
+        >>> limit = 1.0 if matcher.pending else None
+        >>> pause.note(limit, fed=True, taken=bool(taken), empty=not matcher.pending, now=7.0)
+        >>> pause.timeout(7.25), pause.is_due(7.25)
+        (0.75, False)
+
+    The program waits as long for a key, or as its parser says. Then the pause is over:
+
+        >>> pause.timeout(8.0), pause.is_due(8.0), matcher.give_up()
+        (0.0, True, [Bound(keys=1, value='go')])
+        >>> pause.note(None, taken=True, empty=True, now=8.0)
+        >>> print(pause.timeout(8.0))
+        None
+
+    `now` is the time of time.monotonic(), which is read if it is None."""
+
+    def __init__(self) -> None:
+        self._raw = _RawTimer()
+
+    def __copy__(self) -> Timer:
+        other = Timer()
+        other._raw = _RawTimer.from_buffer_copy(self._raw)
+        return other
+
+    def note(
+        self,
+        limit: Optional[float],
+        by: Age = Age.LAST,
+        *,
+        fed: bool = False,
+        taken: bool = False,
+        empty: bool = False,
+        now: Optional[float] = None,
+    ) -> None:
+        """Notes the time and what was seen. Both ages grow by the time since the last note; if now
+        is before that, no time has passed. Then Age.LAST is 0 if something was fed, and Age.FRONT
+        if something was taken, or if nothing was pending at the last note.
+
+        limit: how many seconds what is pending may wait, by this age; None is forever, and whole
+            milliseconds count.
+        fed, taken: whether something was fed, as a press to a matcher, or taken, as an outcome,
+            since the last note.
+        empty: whether nothing is pending now.
+
+        Raises ValueError if limit or now is negative or NaN, and TypeError for another type."""
+        if not isinstance(by, Age):
+            raise TypeError(f"an Age is required, not {type(by).__name__}")
+        seen = _RawSeen(_limit_millis(limit), by, fed, taken, empty)
+        if not _library.hed_timer_note(self._raw, _millis_of_now(now)(), seen):
+            _fault()
+
+    def timeout(self, now: Optional[float] = None) -> Optional[float]:
+        """Returns how many seconds what is pending may still wait: 0.0 if it is due, and None if it
+        may wait forever.
+
+        Raises ValueError if now is negative or NaN, and TypeError if it is no number."""
+        return _wait_of(_library.hed_timer_timeout(self._raw, _millis_of_now(now)()))
+
+    def is_due(self, now: Optional[float] = None) -> bool:
+        """Returns whether what is pending has waited for as long as its limit. Raises what
+        `timeout` raises."""
+        return self.timeout(now) == 0
 
 
 class KeyMap(_Closable, Generic[Value]):

@@ -334,7 +334,7 @@ class KeyPress:
 
 
 class KeyNameErrorKind(_Named):
-    """What is wrong with a text that should name keys."""
+    """What is wrong with a text that should name keys. Its text says so in words."""
 
     CONTROL_CHARACTER = _NAMED_CONTROL_CHARACTER  # A control character but the tab is in the text.
     MODIFIER_TWICE = _NAMED_MODIFIER_TWICE  # A modifier is there twice, as in M-A-x.
@@ -351,6 +351,9 @@ class KeyNameErrorKind(_Named):
     EMPTY = _NAMED_EMPTY  # No key is in the text.
     BAD_TEXT = _NAMED_BAD_TEXT  # The text has a surrogate, which UTF-8 can't have.
 
+    def __str__(self) -> str:
+        return _faults[self]
+
 
 class KeyNameError(ValueError):
     """A text names no keys.
@@ -364,7 +367,7 @@ class KeyNameError(ValueError):
         self.at = at
 
     def __str__(self) -> str:
-        return f"{_faults[self.kind]}, at byte {self.at}"
+        return f"{self.kind}, at byte {self.at}"
 
 
 @dataclass(frozen=True)

@@ -15,6 +15,7 @@ pub(crate) mod flags;
 mod keys;
 mod parser;
 mod policy;
+mod timer;
 
 pub use encode::{EncodeError, KeyCodeEncodeModes, KeyboardEncoding, CSI, SS3};
 pub use entries::{Completions, EntryBytes};
@@ -25,6 +26,7 @@ pub use flags::{
 pub use keys::KeyCode;
 pub use parser::{AllocError, InputParser, ParseError, ParseVecError, Waiting};
 pub use policy::Policy;
+pub use timer::{Age, Seen, Timer};
 
 // What is said if the library answers otherwise than its header says.
 pub(crate) const FAULT: &str = "the library answers as c/hedrugal.h says";

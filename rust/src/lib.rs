@@ -72,3 +72,4 @@ pub mod keymap;
 mod library_parser;
 mod raw;
 mod table;
+mod times;

@@ -1,6 +1,7 @@
 // What the parsers of this crate have in common: a parser of the library, and its last event.
 use crate::input::{AllocError, ParseError, ParseVecError, Policy, FAULT};
 use crate::raw;
+use crate::times::{wait_of, Clock};
 use std::sync::{Mutex, MutexGuard, PoisonError};
 use std::time::{Duration, Instant};
 
@@ -58,8 +59,7 @@ pub(crate) struct LibraryParser<Raw: RawParser> {
     // for it is granted.
     front: Raw::RawEvent,
     has_front: bool,
-    // The first time that the parser was told. The library counts milliseconds from it.
-    first_time: Option<Instant>,
+    clock: Clock,
 }
 
 impl<Raw: RawParser> LibraryParser<Raw> {
@@ -69,7 +69,7 @@ impl<Raw: RawParser> LibraryParser<Raw> {
             raw: Mutex::new(raw),
             front: Raw::RawEvent::default(),
             has_front: false,
-            first_time: None,
+            clock: Clock::default(),
         }
     }
 
@@ -229,10 +229,9 @@ impl<Raw: RawParser> LibraryParser<Raw> {
         if self.has_front {
             return Some(Duration::ZERO);
         }
-        let now = self.millis(now);
+        let now = self.clock.begin(now);
         // SAFETY: `raw` is a parser.
-        let millis = unsafe { (Raw::CALLS.timeout)(self.raw(), now) };
-        u64::try_from(millis).ok().map(Duration::from_millis)
+        wait_of(unsafe { (Raw::CALLS.timeout)(self.raw(), now) })
     }
 
     // Flushes what has waited too long, and emits the events.
@@ -246,7 +245,7 @@ impl<Raw: RawParser> LibraryParser<Raw> {
             callback(self.take_front()?);
             self.find_front(true)?;
         }
-        let now = self.millis(now);
+        let now = self.clock.begin(now);
         loop {
             // SAFETY: `raw` is a parser, and `front` another value.
             self.has_front =
@@ -256,16 +255,6 @@ impl<Raw: RawParser> LibraryParser<Raw> {
             }
             callback(self.take_front()?);
         }
-    }
-
-    // A time in the library's milliseconds. The first one is in the middle, since others may be
-    // before it.
-    fn millis(&mut self, now: Instant) -> u64 {
-        const FIRST: u64 = 1 << 63;
-        let first = *self.first_time.get_or_insert(now);
-        let millis = |time: Duration| u64::try_from(time.as_millis()).unwrap_or(FIRST);
-        let before = first.saturating_duration_since(now);
-        FIRST.saturating_add(millis(now.saturating_duration_since(first))) - millis(before)
     }
 
     // Forgets all that is buffered, and an event that was refused memory. Returns how many bytes

@@ -32,6 +32,13 @@ pub const WAITING_PASTE: u32 = 4;
 pub const WAITING_STRING: u32 = 5;
 // numbers.txt: end
 
+// numbers.txt: age const
+/// How long ago something was fed last.
+pub const AGE_LAST: u8 = 0;
+/// How long ago the first of what is pending came to the front.
+pub const AGE_FRONT: u8 = 1;
+// numbers.txt: end
+
 // numbers.txt: encoded const
 /// The key's text, which may be empty.
 pub const ENCODED_TEXT: u32 = 0;
@@ -331,6 +338,30 @@ pub struct Policy {
     pub paste: i32,
 }
 
+/// What a program tells a timer: what is pending now, and what happened since the last note.
+#[repr(C)]
+pub struct Seen {
+    pub limit: i32,
+    pub by: u8,
+    pub fed: bool,
+    pub taken: bool,
+    pub empty: bool,
+}
+
+/// A timer. All zero, its default, is a new one.
+#[repr(C)]
+#[derive(Debug, Clone, Copy, PartialEq, Eq, Default)]
+pub struct Timer {
+    last: u64,
+    front: u64,
+    noted: u64,
+    millis: u64,
+    by: u8,
+    has_noted: bool,
+    has_limit: bool,
+    holds: bool,
+}
+
 /// The modes of a terminal that change the text of a key.
 #[repr(C)]
 pub struct Modes {
@@ -522,6 +553,9 @@ const _: () = {
     assert!(size_of::<Parser>() == 24 && offset_of!(Parser, expiring) == 4);
     assert!(offset_of!(Parser, state) == 8 && offset_of!(Parser, timing) == 16);
     assert!(size_of::<Policy>() == 24 && offset_of!(Policy, paste) == 20);
+    assert!(size_of::<Seen>() == 8 && offset_of!(Seen, by) == 4 && offset_of!(Seen, empty) == 7);
+    assert!(size_of::<Timer>() == 40 && offset_of!(Timer, by) == 32);
+    assert!(offset_of!(Timer, millis) == 24 && offset_of!(Timer, holds) == 35);
     assert!(
         size_of::<Event>() == 24 && offset_of!(Event, modifiers) == 2 && offset_of!(Event, y) == 8
     );
@@ -592,6 +626,8 @@ extern "C" {
     pub fn hed_parser_timeout(parser: *mut Parser, now: u64) -> i32;
     pub fn hed_parser_expire(parser: *mut Parser, now: u64, event: *mut Event) -> u32;
     pub fn hed_parser_reset(parser: *mut Parser) -> usize;
+    pub fn hed_timer_note(timer: *mut Timer, now: u64, seen: *const Seen) -> bool;
+    pub fn hed_timer_timeout(timer: *const Timer, now: u64) -> i32;
     pub fn hed_encode(
         key: u16,
         detail: u32,

@@ -9,6 +9,7 @@
  *     T n place  a row               X          the completions              Y  init that shares the second parser's table
  *     Z n    take text of an open paste of more than n bytes; from n = 128 on, skip it
  *     [ n    set limits of 16 n ms   ] n  16 n ms pass, and the time is told     ^  take all that is due
+ *     _ n m  tell a timer what bits of n say, with a limit of 16 m ms
  *
  *     J, P, Q, R, S  the calls of a map, as in tools/fuzz/maps.c
  *
@@ -20,7 +21,7 @@
  * A second parser gets the same calls and is never refused, and the waiting bytes are kept beside them. Each answer has to be the second
  * parser's, and what the waiting bytes say. The rows that would complete these begin with them, and the rows before and after don't. A call
  * that is refused changes nothing, and made again it is granted. What needs no memory asks for none. Before init and after free every call
- * says that there is no parser. At the end no memory is left. */
+ * says that there is no parser. At the end no memory is left. The timer answers as a plain one does. */
 #include "fuzz.h"
 #include <string.h>
 
@@ -296,6 +297,57 @@ static void tell_both(bool is_limit, int32_t n) {
   BY_TWIN(HOLDS(!is_made || answer == tell(&twin, is_limit, n)));
 }
 
+/* A timer lies in a room. The plain one has its ages at the last note, and what that said. */
+static room timer_place, seen_place;
+static hed_timer *timer;
+static struct {
+  uint64_t ages[2], noted;
+  hed_seen seen;
+} plain;
+
+static void begin_timer(void) {
+  static const hed_timer fresh = HED_TIMER_NONE;
+  timer = room_with(&timer_place, &fresh, sizeof fresh);
+  memset(&plain, 0, sizeof plain);
+  plain.noted = UINT64_MAX;
+  plain.seen = (hed_seen){ -1, HED_AGE_LAST, false, false, true };
+}
+
+static uint64_t plain_age(uint8_t by, uint64_t at) {
+  uint64_t step = at > plain.noted ? at - plain.noted : 0;
+  return step > UINT64_MAX - plain.ages[by] ? UINT64_MAX : plain.ages[by] + step;
+}
+
+static void check_timeout(uint64_t at) {
+  uint64_t age = plain_age(plain.seen.by, at), limit = plain.seen.limit < 0 ? 0 : (uint64_t)plain.seen.limit;
+  int32_t left = plain.seen.limit < 0 ? -1 : age < limit ? (int32_t)(limit - age) : 0;
+  HOLDS(hed_timer_timeout(timer, at) == left && is_untouched(&timer_place, sizeof *timer));
+}
+
+/* Tells the timer what bits of a byte say, and what time it is: now, or any. A number of no age is refused. */
+static void tell_timer(input *it) {
+  enum { FED = 1, TAKEN = 2, EMPTY = 4, IS_FRONT = 8, NO_AGE = 16, NO_LIMIT = 32, ANY_TIME = 64 };
+  uint8_t bits = take_byte(it);
+  int32_t limit = MANY * take_byte(it);
+  uint64_t at = bits & ANY_TIME ? take_number(it, 8) : now;
+  hed_seen seen = { limit, HED_AGE_LAST, bits & FED, bits & TAKEN, bits & EMPTY };
+  if (bits & IS_FRONT) seen.by = HED_AGE_FRONT;
+  if (bits & NO_AGE) seen.by |= 2;
+  if (bits & NO_LIMIT) seen.limit = -1 - limit;
+  bool is_noted = hed_timer_note(timer, at, room_with(&seen_place, &seen, sizeof seen));
+  HOLDS(is_noted == !(bits & NO_AGE) && is_unchanged(&seen_place, &seen));
+  if (is_noted) {
+    uint64_t last = plain_age(HED_AGE_LAST, at), front = plain_age(HED_AGE_FRONT, at);
+    plain.ages[HED_AGE_LAST] = seen.fed ? 0 : last;
+    plain.ages[HED_AGE_FRONT] = seen.taken || plain.seen.empty ? 0 : front;
+    plain.noted = at;
+    plain.seen = seen;
+  }
+  check_timeout(at);
+  check_timeout(at + take_byte(it));
+  HOLDS(requests == 0);
+}
+
 static void reset(void) {
   HOLDS(hed_parser_reset(parser) == waiting_len);
   if (is_made) HOLDS(hed_parser_reset(&twin) == waiting_len);
@@ -349,6 +401,7 @@ static void call(input *it) {
     case '[': tell_both(true, MANY * take_byte(it)); break;
     case ']': now += MANY * (uint64_t)take_byte(it), tell_both(false, 0); break;
     case '^': take_all(EXPIRE, number); break;
+    case '_': tell_timer(it); break;
     default: call_map(of, it);
   }
   check_state();
@@ -364,6 +417,7 @@ static void begin_with_room(void) {
 void try_input(input *it) {
   clear_twin();
   begin_map();
+  begin_timer();
   forget();
   parser = room_with(&place, &none, sizeof none);
   fed_len = 0;

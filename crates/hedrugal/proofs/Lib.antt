@@ -5,4 +5,5 @@ pub mod RawBoxValues
 pub mod Pressed
 pub mod PressNumbers
 pub mod OwnedPointerValues
+pub mod TimerNumbers
 pub mod Walks

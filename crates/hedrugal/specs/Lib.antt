@@ -19,5 +19,6 @@ pub mod PressCalls
 pub mod Presses
 pub mod ReadingCalls
 pub mod Replies
+pub mod TimerCalls
 pub mod Timings
 pub mod Views

@@ -45,6 +45,7 @@ mod reply_calls;
 mod sending;
 mod sharing_calls;
 mod slot;
+mod timer_calls;
 mod timing;
 mod timing_calls;
 mod words;

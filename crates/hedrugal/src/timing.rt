@@ -111,7 +111,7 @@ pub struct CPolicy {
 }
 
 // A limit; none if it is negative.
-fn limit_in(millis: i32) -> Option<u32>
+pub(crate) fn limit_in(millis: i32) -> Option<u32>
     ensures { result ≡ limit_in millis }
 {
     if millis.is_negative() {
@@ -138,7 +138,7 @@ impl CPolicy {
 }
 
 // Milliseconds for poll: at most those of an `i32`, and -1 for ever.
-fn c_millis(left: Option<u64>) -> i32
+pub(crate) fn c_millis(left: Option<u64>) -> i32
     ensures { result ≡ c_millis left }
 {
     match left {

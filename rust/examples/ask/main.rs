@@ -17,19 +17,15 @@
 #[allow(dead_code)]
 #[path = "../live/terminal.rs"]
 mod terminal;
-#[allow(dead_code)]
 #[path = "../live/unix.rs"]
 mod unix;
 
 use hedrugal::extended::{ExtendedEvent, ExtendedParser, Protocol};
 use std::fs::File;
 use std::io::{self, Read, Write};
-use std::os::fd::AsRawFd;
-use std::os::unix::net::UnixStream;
 use std::process::ExitCode;
-use std::sync::atomic::Ordering::SeqCst;
 use std::time::{Duration, Instant};
-use terminal::Terminal;
+use terminal::{Modes, Terminal, Woken};
 use unix::signals;
 
 /// The first is for the cursor's position, which the parser has to expect.
@@ -80,24 +76,6 @@ impl Replies {
     }
 }
 
-/// What ends a wait.
-enum Woken {
-    Input,
-    Pause,
-    Signal,
-}
-
-/// Waits for input, at most for so long.
-fn wait(input: &File, wake: &mut UnixStream, time: Duration) -> io::Result<Woken> {
-    match unix::poll_all([input.as_raw_fd(), wake.as_raw_fd()], Some(time)) {
-        Ok([true, false]) => Ok(Woken::Input),
-        Ok([false, false]) => Ok(Woken::Pause),
-        Ok([_, true]) => wake.read(&mut [0; 64]).map(|_| Woken::Signal),
-        Err(error) if error.kind() == io::ErrorKind::Interrupted => Ok(Woken::Signal),
-        Err(error) => Err(error),
-    }
-}
-
 /// Reads what is there, and forgets what is pasted. Returns false at the end of the input.
 fn read(
     input: &mut File,
@@ -114,27 +92,27 @@ fn read(
 }
 
 /// Reads until the last reply came, the time is up, the input ended, or a signal ends the program.
-fn read_replies(
-    input: &mut File,
-    wake: &mut UnixStream,
-    parser: &mut ExtendedParser,
-) -> io::Result<Replies> {
+fn read_replies(terminal: &mut Terminal, parser: &mut ExtendedParser) -> io::Result<Replies> {
     let end = Instant::now() + LONGEST_WAIT;
     let (mut replies, mut now) = (Replies::default(), Instant::now());
-    while !replies.is_whole && now < end && signals::ending().is_none() {
+    while !replies.is_whole && now < end {
         let left = end - now;
         let time = parser.timeout(now).map_or(left, |time| time.min(left));
         let note = |event| replies.note(event);
-        match wait(input, wake, time)? {
+        match terminal.wait(Some(time))? {
             Woken::Input => {
-                if !read(input, parser, note)? {
+                if !read(&mut terminal.input, parser, note)? {
                     break;
                 }
             }
             Woken::Pause => parser
                 .expire(Instant::now(), note)
                 .map_err(io::Error::other)?,
-            Woken::Signal => {}
+            Woken::Resized => {}
+            Woken::Resumed => {
+                parser.reset();
+            }
+            Woken::Ending => break,
         }
         now = Instant::now();
     }
@@ -147,14 +125,13 @@ fn read_replies(
 
 fn ask() -> io::Result<Replies> {
     let mut parser = ExtendedParser::try_new(Protocol::Legacy).map_err(io::Error::other)?;
-    let mut terminal = Terminal::find(false)?;
-    let mut wake = signals::note_all()?;
+    let mut terminal = Terminal::find(Modes::PASTE)?;
     terminal.enter()?;
     let mut output = io::stdout();
     parser.expect_position();
     output.write_all(QUESTIONS)?;
     output.flush()?;
-    read_replies(&mut terminal.input, &mut wake, &mut parser)
+    read_replies(&mut terminal, &mut parser)
 }
 
 fn main() -> ExitCode {
@@ -164,9 +141,6 @@ fn main() -> ExitCode {
     }
     let asked = ask();
     signals::end_by_signal();
-    if signals::STOPPING.load(SeqCst) {
-        signals::stop();
-    }
     match asked {
         Ok(replies) => {
             replies.print();

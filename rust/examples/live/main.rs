@@ -15,15 +15,16 @@ mod unix;
 
 use hedrugal::input::{InputEvent, InputParser, KeyCode, KeyEvent, Modifiers, MouseEvent};
 use std::io::{self, Read};
-use std::os::fd::AsRawFd;
-use std::os::unix::net::UnixStream;
 use std::process::ExitCode;
-use std::sync::atomic::Ordering::SeqCst;
 use std::time::Instant;
-use terminal::Terminal;
+use terminal::{Modes, Terminal, Woken};
 use unix::signals;
 
 const PASTE_LIMIT: usize = 1 << 20;
+const PASTE_AND_MOUSE: Modes = Modes {
+    on: "\x1b[?2004h\x1b[?1003h\x1b[?1006h",
+    off: "\x1b[?1006l\x1b[?1003l\x1b[?2004l",
+};
 
 fn with_modifiers(mut line: String, modifiers: Modifiers) -> String {
     for (flag, name) in [
@@ -87,19 +88,13 @@ fn handle_while(goes_on: &mut io::Result<bool>, terminal: &Terminal, event: &Inp
 struct Live {
     parser: InputParser,
     terminal: Terminal,
-    wake: UnixStream,
 }
 
 impl Live {
-    fn new(mouse: bool) -> io::Result<Live> {
-        let terminal = Terminal::find(mouse)?;
-        let wake = signals::note_all()?;
+    fn new(modes: Modes) -> io::Result<Live> {
+        let terminal = Terminal::find(modes)?;
         let parser = InputParser::try_new().map_err(io::Error::other)?;
-        Ok(Live {
-            parser,
-            terminal,
-            wake,
-        })
+        Ok(Live { parser, terminal })
     }
 
     fn run(&mut self) -> io::Result<()> {
@@ -110,13 +105,16 @@ impl Live {
     }
 
     fn step(&mut self) -> io::Result<bool> {
-        let descriptors = [self.terminal.input.as_raw_fd(), self.wake.as_raw_fd()];
-        match unix::poll_all(descriptors, self.parser.timeout(Instant::now())) {
-            Ok([false, false]) => self.handle_pause(),
-            Ok([true, false]) => self.handle_input(),
-            Ok([_, true]) => self.handle_wake(),
-            Err(error) if error.kind() == io::ErrorKind::Interrupted => Ok(true),
-            Err(error) => Err(error),
+        let time = self.parser.timeout(Instant::now());
+        match self.terminal.wait(time)? {
+            Woken::Input => self.handle_input(),
+            Woken::Pause => self.handle_pause(),
+            Woken::Resized => self.print_size(),
+            Woken::Resumed => {
+                self.parser.reset();
+                self.print_size()
+            }
+            Woken::Ending => Ok(false),
         }
     }
 
@@ -158,31 +156,11 @@ impl Live {
         Ok(())
     }
 
-    fn handle_wake(&mut self) -> io::Result<bool> {
-        let _ = self.wake.read(&mut [0; 64])?;
-        if signals::ending().is_some() {
-            return Ok(false);
-        }
-        if signals::STOPPING.load(SeqCst) {
-            self.terminal.leave();
-            signals::stop();
-            return Ok(true); // a signal that ends the program comes before raw mode
-        }
-        if signals::CONTINUED.swap(false, SeqCst) {
-            self.resume()?;
-        }
-        if signals::RESIZED.swap(false, SeqCst) {
-            self.terminal.print_size()?;
-        }
+    fn print_size(&self) -> io::Result<bool> {
+        let (columns, rows) = self.terminal.size()?;
+        self.terminal
+            .print_line(&format!("size {columns} x {rows}"))?;
         Ok(true)
-    }
-
-    /// Another program had the terminal: what was buffered before no longer counts, and the size
-    /// may be new.
-    fn resume(&mut self) -> io::Result<()> {
-        self.parser.reset();
-        signals::RESIZED.store(true, SeqCst);
-        self.terminal.enter()
     }
 }
 
@@ -193,7 +171,8 @@ fn main() -> ExitCode {
         eprintln!("usage: live [--mouse]");
         return ExitCode::from(2);
     }
-    let ended = Live::new(mouse).and_then(|mut live| live.run());
+    let modes = [Modes::PASTE, PASTE_AND_MOUSE][usize::from(mouse)];
+    let ended = Live::new(modes).and_then(|mut live| live.run());
     signals::end_by_signal();
     match ended {
         Ok(()) => ExitCode::SUCCESS,

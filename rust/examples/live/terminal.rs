@@ -1,24 +1,52 @@
-//! The terminal of the program: raw mode, its modes, and lines on it.
+//! The terminal of a program: raw mode, its modes, waits for input and signals, and lines on it.
 use crate::unix::{self, signals, Settings};
 use std::fs::File;
-use std::io::{self, IsTerminal, Write};
+use std::io::{self, IsTerminal, Read, Write};
 use std::os::fd::{AsFd, AsRawFd};
+use std::os::unix::net::UnixStream;
 use std::sync::atomic::Ordering::SeqCst;
+use std::time::Duration;
 
-const PASTE_ON: &str = "\x1b[?2004h";
-const PASTE_OFF: &str = "\x1b[?2004l";
-const ALL_ON: &str = "\x1b[?2004h\x1b[?1003h\x1b[?1006h";
-const ALL_OFF: &str = "\x1b[?1006l\x1b[?1003l\x1b[?2004l";
+/// What switches the modes of a program on, and what switches them off.
+#[derive(Clone, Copy)]
+pub struct Modes {
+    pub on: &'static str,
+    pub off: &'static str,
+}
+
+impl Modes {
+    pub const PASTE: Modes = Modes {
+        on: "\x1b[?2004h",
+        off: "\x1b[?2004l",
+    };
+}
+
+/// What ends a wait.
+pub enum Woken {
+    /// Bytes can be read, or the input has ended.
+    Input,
+    /// Nothing came in time, or a signal that asks for nothing.
+    Pause,
+    /// The terminal has a new size.
+    Resized,
+    /// Another program had the terminal: what was buffered before no longer counts, and the size
+    /// may be new.
+    Resumed,
+    /// A signal ends the program.
+    Ending,
+}
 
 /// A terminal that is restored when this is dropped, also by a panic.
 pub struct Terminal {
     pub input: File,
-    mouse: bool,
+    modes: Modes,
     saved: Settings,
+    wake: UnixStream,
 }
 
 impl Terminal {
-    pub fn find(mouse: bool) -> io::Result<Terminal> {
+    /// Finds the terminal, and begins to note signals.
+    pub fn find(modes: Modes) -> io::Result<Terminal> {
         if !io::stdin().is_terminal() || !io::stdout().is_terminal() {
             return Err(io::Error::other(
                 "standard input and output have to be a terminal",
@@ -30,16 +58,20 @@ impl Terminal {
         let saved = *signals::SAVED.get_or_init(|| saved);
         Ok(Terminal {
             input,
-            mouse,
+            modes,
             saved,
+            wake: signals::note_all()?,
         })
     }
 
-    /// Sets raw mode. What was typed ahead is kept.
+    /// Sets raw mode. What was typed ahead is kept. Around SIGSTOP modes aren't switched off: that
+    /// comes first then, since some of them nest.
     pub fn enter(&mut self) -> io::Result<()> {
         self.saved.to_raw().apply(self.input.as_raw_fd())?;
-        signals::IS_RAW.store(true, SeqCst);
-        print(if self.mouse { ALL_ON } else { PASTE_ON })
+        if signals::IS_RAW.swap(true, SeqCst) {
+            print(self.modes.off)?;
+        }
+        print(self.modes.on)
     }
 
     /// Restores the terminal, unless another program has it, and discards what it sent meanwhile,
@@ -49,9 +81,42 @@ impl Terminal {
         if !signals::IS_RAW.load(SeqCst) {
             return;
         }
-        let _ = print(if self.mouse { ALL_OFF } else { PASTE_OFF });
+        let _ = print(self.modes.off);
         let _ = self.saved.apply_and_discard(self.input.as_raw_fd());
         signals::IS_RAW.store(false, SeqCst);
+    }
+
+    /// Waits for input or a signal, at most for so long. Signals go first. SIGTSTP stops the
+    /// program here, while a shell has the terminal as it was.
+    pub fn wait(&mut self, time: Option<Duration>) -> io::Result<Woken> {
+        let descriptors = [self.input.as_raw_fd(), self.wake.as_raw_fd()];
+        match unix::poll_all(descriptors, time) {
+            Ok([true, false]) => Ok(Woken::Input),
+            Ok([false, false]) => Ok(Woken::Pause),
+            Ok([_, true]) => self.handle_signals(),
+            Err(error) if error.kind() == io::ErrorKind::Interrupted => Ok(Woken::Pause),
+            Err(error) => Err(error),
+        }
+    }
+
+    fn handle_signals(&mut self) -> io::Result<Woken> {
+        let _ = self.wake.read(&mut [0; 64])?;
+        if signals::ending().is_none() && signals::STOPPING.load(SeqCst) {
+            self.leave();
+            signals::stop();
+        }
+        if signals::ending().is_some() {
+            return Ok(Woken::Ending); // before raw mode is set once more
+        }
+        if signals::CONTINUED.swap(false, SeqCst) {
+            signals::RESIZED.store(false, SeqCst);
+            self.enter()?;
+            return Ok(Woken::Resumed);
+        }
+        if signals::RESIZED.swap(false, SeqCst) {
+            return Ok(Woken::Resized);
+        }
+        Ok(Woken::Pause)
     }
 
     /// Prints a line. In raw mode the terminal doesn't return the cursor by itself.
@@ -59,9 +124,9 @@ impl Terminal {
         print(&format!("{line}\r\n"))
     }
 
-    pub fn print_size(&self) -> io::Result<()> {
-        let (columns, rows) = unix::size(self.input.as_raw_fd())?;
-        self.print_line(&format!("size {columns} x {rows}"))
+    /// Returns its columns and rows.
+    pub fn size(&self) -> io::Result<(u16, u16)> {
+        unix::size(self.input.as_raw_fd())
     }
 }
 

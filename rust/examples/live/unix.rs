@@ -231,6 +231,6 @@ pub mod signals {
         let _ = handle(SIGTSTP, SIG_DFL).map(|()| raised(SIGTSTP));
         let _ = noted(SIGTSTP);
         STOPPING.store(false, SeqCst);
-        note(SIGCONT);
+        CONTINUED.store(true, SeqCst);
     }
 }

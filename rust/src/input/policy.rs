@@ -1,5 +1,6 @@
 // How long bytes may stay buffered.
 use crate::raw;
+use crate::times::limit_millis;
 use std::time::Duration;
 
 /// How long each kind of bytes may stay buffered, as [`InputParser::timeout`] and
@@ -66,12 +67,12 @@ impl Policy {
     // The policy, as the library has it.
     pub(crate) fn raw(&self) -> raw::Policy {
         raw::Policy {
-            escape: millis(self.escape),
-            alt_key: millis(self.alt_key),
-            sequence: millis(self.sequence),
-            string: millis(self.string),
-            character: millis(self.character),
-            paste: millis(self.paste),
+            escape: limit_millis(self.escape),
+            alt_key: limit_millis(self.alt_key),
+            sequence: limit_millis(self.sequence),
+            string: limit_millis(self.string),
+            character: limit_millis(self.character),
+            paste: limit_millis(self.paste),
         }
     }
 }
@@ -80,11 +81,4 @@ impl Default for Policy {
     fn default() -> Policy {
         Policy::usual()
     }
-}
-
-// A limit in milliseconds, below 0 if there is none.
-fn millis(limit: Option<Duration>) -> i32 {
-    limit.map_or(-1, |limit| {
-        i32::try_from(limit.as_millis()).unwrap_or(i32::MAX)
-    })
 }

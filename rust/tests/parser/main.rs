@@ -17,5 +17,6 @@ mod recorded;
 mod rows;
 mod streams;
 mod threads;
+mod timer;
 mod undecided;
 mod waiting;

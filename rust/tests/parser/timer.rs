@@ -1,0 +1,150 @@
+// A timer for a limit of a program's own, against a plain one.
+use crate::draws::Draws;
+use crate::feeder::at;
+use crate::plain::PlainReader;
+use hedrugal::input::{Age, Seen, Timer};
+use std::time::{Duration, Instant};
+
+// The letters of `what` say whether something was fed or taken, and whether nothing is pending.
+fn seen(limit: Option<u64>, by: Age, what: &str) -> Seen {
+    Seen {
+        limit: limit.map(Duration::from_millis),
+        by,
+        fed: what.contains('f'),
+        taken: what.contains('t'),
+        empty: what.contains('e'),
+    }
+}
+
+fn left(timer: &Timer, now: Instant) -> Option<u128> {
+    let left = timer.timeout(now);
+    assert_eq!(timer.is_due(now), left == Some(Duration::ZERO));
+    left.map(|left| left.as_millis())
+}
+
+// Notes of one timer, and what is left of the limit some time after each.
+type Note = (u64, Option<u64>, Age, &'static str, u64, Option<u128>);
+const NOTES: &[Note] = &[
+    // The pause of a chord: each press begins it again.
+    (5000, Some(1000), Age::Last, "f", 5000, Some(1000)),
+    (5000, Some(1000), Age::Last, "", 5400, Some(600)),
+    (5400, Some(1000), Age::Last, "f", 6399, Some(1)),
+    (6400, Some(1000), Age::Last, "", 6400, Some(0)),
+    (6400, None, Age::Last, "te", 9000, None),
+    // While the clock steps back no time passes, also before the first note.
+    (9000, Some(1000), Age::Last, "f", 9300, Some(700)),
+    (9300, Some(1000), Age::Last, "", 100, Some(700)),
+    (100, Some(1000), Age::Last, "", 50, Some(700)),
+    (100, Some(1000), Age::Last, "", 799, Some(1)),
+    // What is fed doesn't put off what is at the front.
+    (1000, Some(300), Age::Front, "te", 2000, Some(0)),
+    (3000, Some(300), Age::Front, "f", 3000, Some(300)),
+    (3200, Some(300), Age::Front, "f", 3200, Some(100)),
+    (3250, Some(300), Age::Front, "t", 3350, Some(200)),
+    (3350, Some(0), Age::Front, "f", 3350, Some(0)),
+];
+
+#[test]
+fn tells_how_long_to_wait() {
+    let mut timer = Timer::new();
+    for (noted, limit, by, what, asked, wanted) in NOTES {
+        timer.note(at(*noted), seen(*limit, *by, what));
+        assert_eq!(left(&timer, at(*asked)), *wanted, "{noted} {asked}");
+    }
+}
+
+// When something was fed last, and when the first of what is pending came to the front.
+struct PlainTimer {
+    fed: u64,
+    front: u64,
+    seen: Seen,
+}
+
+impl PlainTimer {
+    fn note(&mut self, now: u64, seen: Seen) {
+        if seen.fed {
+            self.fed = now;
+        }
+        if seen.taken || self.seen.empty {
+            self.front = now;
+        }
+        self.seen = seen;
+    }
+
+    fn left(&self, now: u64) -> Option<u128> {
+        let since = match self.seen.by {
+            Age::Last => self.fed,
+            Age::Front => self.front,
+        };
+        let limit = self.seen.limit?.as_millis();
+        Some(limit.saturating_sub(u128::from(now - since)))
+    }
+}
+
+fn draw_seen(draws: &mut Draws) -> Seen {
+    let limit = [None, Some(0), Some(1), Some(50), Some(1000), Some(60000)][draws.below(6)];
+    let by = [Age::Last, Age::Front][draws.below(2)];
+    let what = ["", "f", "t", "ft", "e", "fe", "te", "fte"][draws.below(8)];
+    seen(limit, by, what)
+}
+
+#[test]
+fn agrees_with_a_plain_timer() {
+    let mut draws = Draws::new(7, &PlainReader::new());
+    for start in 0..200 {
+        let mut now = start;
+        let first = draw_seen(&mut draws);
+        let mut timer = Timer::new();
+        timer.note(at(now), first);
+        let mut plain = PlainTimer {
+            fed: now,
+            front: now,
+            seen: first,
+        };
+        for _ in 0..100 {
+            assert_eq!(left(&timer, at(now)), plain.left(now));
+            now += draws.below(1500) as u64 >> draws.below(11);
+            assert_eq!(left(&timer, at(now)), plain.left(now));
+            let seen = draw_seen(&mut draws);
+            timer.note(at(now), seen);
+            plain.note(now, seen);
+        }
+    }
+}
+
+// A timer is a value, whose copy knows what it knew.
+#[test]
+fn is_a_value() {
+    let mut timer = Timer::new();
+    assert_eq!(timer, Timer::default());
+    timer.note(at(10), seen(Some(50), Age::Last, "f"));
+    let copy = timer;
+    assert_ne!(copy, Timer::new());
+    timer.note(at(30), seen(None, Age::Last, "e"));
+    assert_eq!(
+        (left(&copy, at(30)), left(&timer, at(30))),
+        (Some(30), None)
+    );
+}
+
+// Whole milliseconds of a limit count, up to the most that the library has.
+#[test]
+fn limits_are_milliseconds() {
+    let most = u128::from(i32::MAX.unsigned_abs());
+    for (limit, wanted) in [
+        (Duration::from_micros(1999), 1),
+        (Duration::from_secs(1 << 40), most),
+        (Duration::MAX, most),
+    ] {
+        let mut timer = Timer::new();
+        let limit = Some(limit);
+        timer.note(
+            at(0),
+            Seen {
+                limit,
+                ..Seen::default()
+            },
+        );
+        assert_eq!(left(&timer, at(0)), Some(wanted));
+    }
+}
