@@ -2,7 +2,6 @@
 #include "bindings.h"
 #include "names.h"
 #include <errno.h>
-#include <stdarg.h>
 #include <stdio.h>
 #include <stdlib.h>
 #include <string.h>
@@ -28,14 +27,9 @@ typedef struct source {
   bool is_wrong; /* whether this line or one before is */
 } source;
 
-static void tell(source *at, size_t place, const char *format, ...) {
-  va_list values;
-  va_start(values, format);
+static void tell(source *at, size_t place, const char *what) {
   text_print(stderr, at->file);
-  fprintf(stderr, ":%zu:%zu: ", at->number, place + 1);
-  vfprintf(stderr, format, values);
-  fputc('\n', stderr);
-  va_end(values);
+  fprintf(stderr, ":%zu:%zu: %s\n", at->number, place + 1, what);
   at->is_wrong = true;
 }
 
@@ -48,20 +42,21 @@ static bool bind(bindings *it, const char *command, size_t length, const hed_key
   memcpy(added->command, command, length);
   added->command[length] = '\0';
   added->chord = strcpy(added->command + length + 1, chord);
-  if (hed_bindings_bind(&it->chords, keys, count, (uintptr_t)added) == HED_BOUND_VALUE) return true;
-  free(added);
-  return false;
+  uint64_t before;
+  bool is_bound = hed_bindings_lookup(&it->chords, keys, count, &before) == HED_BOUND_VALUE;
+  bool has_memory = hed_bindings_bind(&it->chords, keys, count, (uintptr_t)added) == HED_BOUND_VALUE;
+  if (!has_memory) free(added);
+  else if (is_bound) free(binding_of(before));
+  return has_memory;
 }
 
 /* Binds the chord whose name starts at a place. Returns false if memory is refused. */
 static bool bind_named(bindings *it, source *at, const char *command, size_t length, size_t name) {
   hed_key_press keys[HED_CHORD_MOST];
   size_t count, wrong;
-  uint64_t before;
   uint32_t named = hed_key_read((const uint8_t *)at->text + name, at->length - name, keys, HED_CHORD_MOST, &count, &wrong);
-  if (named != HED_NAMED_KEYS) tell(at, name + wrong, "%s", key_error(named));
-  else if (hed_bindings_lookup(&it->chords, keys, count, &before) != HED_BOUND_VALUE) return bind(it, command, length, keys, count);
-  else tell(at, name, "%s is bound already, to %s", binding_of(before)->chord, binding_of(before)->command);
+  if (named == HED_NAMED_KEYS) return bind(it, command, length, keys, count);
+  tell(at, name + wrong, key_error(named));
   return true;
 }
 
@@ -107,28 +102,38 @@ bindings_answer bindings_read(bindings *it, const char *file) {
   return at.is_wrong ? BINDINGS_WRONG : BINDINGS_READ;
 }
 
-void bindings_press(bindings *it, const hed_key_press *presses, size_t count, uint64_t now) {
+void bindings_press(bindings *it, const hed_key_press *presses, size_t count) {
   hed_matcher_press_either(&it->matcher, &it->chords, presses, count);
-  it->pressed = now;
+  it->seen.fed = true;
 }
 
-uint32_t bindings_next(bindings *it, bool more, outcome *decided) {
+/* Tells the timer what came, and how long the presses may wait that are pending now. */
+static void note(bindings *it, uint64_t now) {
+  it->seen.empty = !bindings_is_pending(it);
+  it->seen.limit = it->seen.empty ? -1 : CHORD_PAUSE_MS;
+  hed_timer_note(&it->timer, now, &it->seen);
+  it->seen = (hed_seen){ .by = HED_AGE_LAST };
+}
+
+uint32_t bindings_next(bindings *it, bool more, uint64_t now, outcome *decided) {
   hed_outcome found;
   uint32_t kind = hed_matcher_next(&it->matcher, &it->chords, more, &found);
   memset(decided, 0, sizeof *decided);
   if (kind == HED_OUTCOME_BOUND) {
     decided->command = binding_of(found.value)->command;
     decided->chord = binding_of(found.value)->chord;
-    return HED_NEXT_EVENT;
+  } else if (kind != HED_OUTCOME_UNBOUND) {
+    note(it, now);
+    return HED_NEXT_NONE;
+  } else if (!print_chord(decided->press, PRESS_SIZE, &found.press, 1)) {
+    return HED_NEXT_NO_MEMORY;
   }
-  if (kind != HED_OUTCOME_UNBOUND) return HED_NEXT_NONE;
-  return print_chord(decided->press, PRESS_SIZE, &found.press, 1) ? HED_NEXT_EVENT : HED_NEXT_NO_MEMORY;
+  it->seen.taken = true;
+  return HED_NEXT_EVENT;
 }
 
 int32_t bindings_timeout(const bindings *it, uint64_t now) {
-  if (!bindings_is_pending(it)) return -1;
-  uint64_t passed = now - it->pressed;
-  return passed < CHORD_PAUSE_MS ? (int32_t)(CHORD_PAUSE_MS - passed) : 0;
+  return hed_timer_timeout(&it->timer, now);
 }
 
 bool bindings_is_pending(const bindings *it) {
@@ -136,7 +141,9 @@ bool bindings_is_pending(const bindings *it) {
 }
 
 void bindings_forget(bindings *it) {
+  static const hed_timer fresh = HED_TIMER_NONE;
   hed_matcher_cancel(&it->matcher, NULL, 0);
+  it->timer = fresh;
 }
 
 bool bindings_following(const bindings *it, size_t *first, size_t *end) {

@@ -10,7 +10,8 @@ enum { CHORD_PAUSE_MS = 1000 };
 typedef struct bindings {
   hed_bindings chords; /* none if no file was named: then no key does anything */
   hed_matcher matcher;
-  uint64_t pressed; /* when the last press came */
+  hed_timer timer; /* of the pending presses */
+  hed_seen seen; /* what the timer isn't told yet */
 } bindings;
 
 /* A chord that may follow: its name, the rest of that behind the pending keys, and its command. */
@@ -25,16 +26,16 @@ typedef enum bindings_answer {
   BINDINGS_NO_MEMORY
 } bindings_answer;
 
-/* Reads a file of bindings. A line is a command, blanks and the name of a chord. Empty lines and those that begin with # say nothing.
- * Whatever it returns, the caller owes a bindings_free. */
+/* Reads a file of bindings. A line is a command, blanks and the name of a chord. Empty lines and those that begin with # say nothing. Of a
+ * chord that is bound twice the later line holds. Whatever it returns, the caller owes a bindings_free. */
 bindings_answer bindings_read(bindings *it, const char *file);
 
 /* Takes the press of a key, and behind it its second press if there is one. */
-void bindings_press(bindings *it, const hed_key_press *presses, size_t count, uint64_t now);
+void bindings_press(bindings *it, const hed_key_press *presses, size_t count);
 
 /* Tells what the first of the pending presses do, as hed_matcher_next. Returns HED_NEXT_EVENT with an outcome, HED_NEXT_NONE or
- * HED_NEXT_NO_MEMORY. */
-uint32_t bindings_next(bindings *it, bool more, outcome *decided);
+ * HED_NEXT_NO_MEMORY. After each press the caller calls it until there is none: then the pause begins. */
+uint32_t bindings_next(bindings *it, bool more, uint64_t now, outcome *decided);
 
 /* How long the pending presses may still wait for a key, in milliseconds: -1 if nothing is pending. */
 int32_t bindings_timeout(const bindings *it, uint64_t now);

@@ -84,7 +84,7 @@ static void note_end(keys *it, const hed_extended_event *event) {
 static bool decide(keys *it, bool more) {
   outcome decided;
   uint32_t next;
-  while ((next = bindings_next(&it->bindings, more, &decided)) == HED_NEXT_EVENT)
+  while ((next = bindings_next(&it->bindings, more, now_ms(), &decided)) == HED_NEXT_EVENT)
     if (!line_decide(&it->line, &decided)) return fail(it, no_memory, 0);
   return next == HED_NEXT_NONE || fail(it, no_memory, 0);
 }
@@ -98,14 +98,24 @@ static bool give_up(keys *it) {
   return true;
 }
 
+/* Whether an event brings a text, which comes behind what is pending: a paste, or several characters that a key types. Its report has a press
+ * but for them. */
+static bool is_text(const group *of) {
+  const hed_extended_event *event = &of->event;
+  hed_key_press press;
+  if (of->press_count > 0 || event->text_len == 0) return false;
+  if (event->kind == HED_KIND_REPORT) return hed_key_of_report(&event->report, NULL, 0, &press);
+  return event->kind == HED_KIND_PASTE || event->kind == HED_KIND_PASTE_PART;
+}
+
 /* Names an event's presses, and reads them by the bindings. */
 static bool handle_presses(keys *it, group *of) {
   hed_key_press presses[PRESSES_MOST];
   of->press_count = reader_presses(&it->reader, &of->event, presses);
   for (size_t i = 0; i < of->press_count; i++)
     if (!print_chord(of->presses[i], PRESS_SIZE, &presses[i], 1)) return fail(it, no_memory, 0);
-  if (of->press_count > 0) bindings_press(&it->bindings, presses, of->press_count, now_ms());
-  return decide(it, true);
+  if (of->press_count > 0) bindings_press(&it->bindings, presses, of->press_count);
+  return decide(it, !is_text(of));
 }
 
 /* Adds the event's group to the line. */

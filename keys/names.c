@@ -116,9 +116,9 @@ const char *key_error(uint32_t named) {
     [HED_NAMED_UNKNOWN_NAME] = "no key has this name",
     [HED_NAMED_AMBIGUOUS] = "DEL is either backspace or delete",
     [HED_NAMED_NOT_A_KEY] = "the key makes no press by itself",
-    [HED_NAMED_SHIFTED_CHARACTER] = "shift with a character that isn't a letter",
-    [HED_NAMED_TOO_LONG] = "there are too many keys",
-    [HED_NAMED_EMPTY] = "there is no key",
+    [HED_NAMED_SHIFTED_CHARACTER] = "shift with a character that isn't a letter: write what it types",
+    [HED_NAMED_TOO_LONG] = "a chord has at most 32 keys",
+    [HED_NAMED_EMPTY] = "no chord",
     [HED_NAMED_BAD_TEXT] = "the name isn't UTF-8",
   };
   return words[named];

@@ -638,12 +638,18 @@ def test_chord_over_two_reads(bound, tmp_path):
 
 
 # Bindings, the words, what is typed, and what the keys do.
+EDIT_KEYS = (TOP / "docs/edit.keys").read_bytes()
 DID = {
+    "the example's file": (EDIT_KEYS, "", b"\x18\x13", ["ctrl+x ctrl+s -> save"]),
     "a second press": (b"copy ctrl+c", "--extended", ES, ["ctrl+c -> copy"]),
     "a first press": ("copy ctrl+с".encode(), "--extended", ES, ["ctrl+U+0441 -> copy"]),
     "a release": (b"copy a", "--extended", b"\033[97;1:3u", []),
     "no bindings": (b"", "", b"a", ["a -> unbound"]),
     "blanks": (b" \t\n  # a b\n\tcopy \t a \t b \n", "", b"ab", ["a b -> copy"]),
+    "a chord twice": (b"copy C-a\nquit ctrl+a\n", "", b"\x01", ["ctrl+a -> quit"]),
+    "a paste behind a key": (b"a g\nb g g", "", b"g" + START + b"x" + END + b"g", ["g -> a"] * 2),
+    "an empty paste": (b"b g g", "", b"g" + START + END + b"g", ["g g -> b"]),
+    "two characters behind a key": (b"b g g", "--extended", b"g\033[97;;97:98u", ["g -> unbound"]),
     "a #": (b"copy C-# #\n#copy a\n", "", b"\033[35;5u#", ["ctrl+# # -> copy"]),
 }
 
@@ -656,19 +662,21 @@ def test_bindings(bound, text, words, typed, done):
 
 # Lines of bindings, and what is said of them behind the file's name.
 WRONG_LINES = {
-    "no chord": (b"copy\n", ["1:5: there is no key"]),
+    "no chord": (b"copy\n", ["1:5: no chord"]),
     "no key": (b"copy  ctrl+\n", ["1:12: no key is behind the modifiers"]),
     "no such key": (b"copy a\n\nquit ctrl+x foo", ["3:13: no key has this name"]),
     "bytes count": ("copy é foo".encode(), ["1:9: no key has this name"]),
-    "a shifted character": (b"copy shift+1", ["1:12: shift with a character that isn't a letter"]),
+    "a shifted character": (
+        b"copy shift+1",
+        ["1:12: shift with a character that isn't a letter: write what it types"],
+    ),
     "no UTF-8": (b"copy a \xff", ["1:8: the name isn't UTF-8"]),
     "a zero": (b"copy a\0", ["1:7: a control character is in the name"]),
     "a command of other bytes": (
         "copié a".encode(),
         ["1:5: a command has printable characters of ASCII alone"],
     ),
-    "a chord twice": (b"copy C-c\nquit ctrl+c", ["2:6: ctrl+c is bound already, to copy"]),
-    "several lines": (b"a\nb b\nc foo\n", ["1:2: there is no key", "3:3: no key has this name"]),
+    "several lines": (b"a\nb b\nc foo\n", ["1:2: no chord", "3:3: no key has this name"]),
 }
 
 
@@ -684,7 +692,7 @@ def test_wrong_bindings_on_a_terminal(bound):
     name = bound(b"copy\n")
     with Keys(HEDRUGAL_KEYS, "--mouse", "--bindings", name, size=WIDE) as keys:
         keys.check_end(2)
-    assert keys.output.decode() == f"{name}:1:5: there is no key\r\n"
+    assert keys.output.decode() == f"{name}:1:5: no chord\r\n"
 
 
 @pytest.mark.timed
