@@ -55,7 +55,8 @@ impl<V: Debug + Clone + Drop> Model for Bindings<V> {
 
 impl<V: Debug + Clone + Drop> Bindings<V> {
     ghost use Rattle.termwiz_keymap.specs.Lookup.{ClonesEqual, found_copied};
-    ghost use Rattle.termwiz_bindings.specs.Bindings.{AreBindings, AreContinuations, FindGives, IsBindingAt, IsCloneByChord, IsContinued, bound, find, unbound};
+    ghost use Rattle.termwiz_bindings.specs.Bindings.{AreBindings, AreContinuations, FindGives, IsBindingAt, IsCloneByChord, bound, find, unbound};
+    ghost use Rattle.termwiz_bindings.specs.Matching.{IsContinued};
 
     /// Bindings of no chord. Takes no memory; later calls take theirs from `alloc`.
     pub fn new(alloc: Global) -> Bindings<V>
@@ -122,7 +123,7 @@ impl<V: Debug + Clone + Drop> Bindings<V> {
     /// there are none.
     pub fn continuations(&self, keys: &Chord) -> Range<usize>
         ensures chords { AreContinuations self.now keys.now result.start result.end }
-        ensures some { (result.start < result.end) ↔ IsContinued self.now keys.now }
+        ensures some { (result.start < result.end) ↔ IsContinued (find self.now) keys.now }
     {
         self.by_codes.extensions(keys.codes())
     }

@@ -80,6 +80,7 @@ fn first_unbound<'a, V>(presses: &Chord) -> Option<Outcome<&'a V>>
 }
 
 // Looks presses up in bindings.
+#[tactic(auto, using(crate::proofs::lemmas::BindingChords::are_chords, crate::proofs::lemmas::MatcherSteps::chord_first, crate::proofs::lemmas::MatcherSteps::press_first))]
 fn front_of<'a, V: Debug + Clone + Drop>(bindings: &'a Bindings<V>, presses: &Chord) -> Front<'a, V>
     ensures outcome { DecidesFirst (find bindings.now) presses.now result.outcome }
     ensures goes_on { IsTrue result.goes_on ↔ IsContinued (find bindings.now) presses.now }

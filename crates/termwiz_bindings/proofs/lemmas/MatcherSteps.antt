@@ -1,11 +1,11 @@
 -- What stands at the front of the pending presses, and which of two presses is taken.
-use Rattle.std.proofs.Common.{◌≡◌, ◌≢◌, inl, inr, ℕ, ◌<◌, ◌≤◌, Bool, true, false, List, [], ◌∷◌, length, take, drop, Option, Some, None, refl, sym, ap, subst, length-take, length-take-le, take-append-drop, arith}
+use Rattle.std.proofs.Common.{◌≡◌, inl, inr, ℕ, ◌≤◌, Bool, true, false, List, [], ◌∷◌, length, take, drop, Option, Some, None, refl, sym, ap, subst, length-take, length-take-le, take-append-drop, arith}
 use Rattle.std.specs.Prelude.{MatchOption, unwrap_or}
 use denote.Ref.{Bor}
 use Rattle.termwiz_bindings.specs.declared.press.KeyPress.{KeyPress}
 use Rattle.termwiz_bindings.specs.declared.matcher.Outcome.{Outcome}
 use Rattle.termwiz_bindings.specs.declared.matcher.Outcome.TheVariants.{Bound, Unbound}
-use Rattle.termwiz_bindings.specs.Matching.{Chords, BeginWithNone, IsContinued, IsLongestChord, IsOpen, Steps}
+use Rattle.termwiz_bindings.specs.Matching.{Chords, BeginWithNone, HasLongest, IsContinued, IsOpen, Steps}
 use Rattle.termwiz_bindings.specs.Matchers.{DecidesFirst, outcome_copied, keys_of, first_unbound, IsPreferred, TakesSecond, IsTaken}
 
 module _ {V : Type 0} where
@@ -13,22 +13,26 @@ module _ {V : Type 0} where
   never_open find u h = let e : false ≡ true = h.more_come in absurd (cc (e))
 
   -- the longest chord is decided first
-  pub chord_first : (find : Chords V) (u : List KeyPress) (keys : ℕ) (value : Bor V) → 0 < keys → keys ≤ length u
-      → IsLongestChord find u (take keys u) value.now → DecidesFirst find u (Some (Bound keys value))
-  chord_first find u keys value some fits longest = record {
+  pub chord_first : (find : Chords V) (u : List KeyPress) (keys : ℕ) (value : Bor V) → HasLongest find u keys value.now
+      → DecidesFirst find u (Some (Bound keys value))
+  chord_first find u keys value is = record {
     closed = never_open find u;
-    some = λ none. let l : length u ≡ 0 = ap length none in absurd (omega arith);
-    item = (length-take-le keys u fits, longest);
+    some = λ none. let l : length u ≡ 0 = ap length none in absurd (omega (arith, is.some, is.within));
+    item = (length-take-le keys u is.within, is.chord);
   }
 
   -- the first press is, where there is no chord
-  pub press_first : (find : Chords V) (u : List KeyPress) → BeginWithNone find u → DecidesFirst find u (first_unbound u)
-  press_first find [] none = refl
-  press_first find (x ∷ u) none = record {
-    closed = never_open find (x ∷ u);
-    some = λ e. cc (e);
-    item = (refl, record { first = (u, refl); unbound = none });
-  }
+  pub press_first : (find : Chords V) (u : List KeyPress) (first : Option (Outcome (Bor V))) → first ≡ first_unbound u
+      → BeginWithNone find u → DecidesFirst find u first
+  press_first find u first is none = subst (DecidesFirst find u) (sym is) (decided u none)
+    where
+      decided : (u : List KeyPress) → BeginWithNone find u → DecidesFirst find u (first_unbound u)
+      decided [] none = refl
+      decided (x ∷ u) none = record {
+        closed = never_open find (x ∷ u);
+        some = λ e. cc (e);
+        item = (refl, record { first = (u, refl); unbound = none });
+      }
 
   -- its presses are among them
   pub decided_within : (find : Chords V) (u : List KeyPress) (o : Outcome (Bor V)) → DecidesFirst find u (Some o) → keys_of o ≤ length u
