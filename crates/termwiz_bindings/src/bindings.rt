@@ -1,5 +1,5 @@
 //! Bindings: what a program does at which keys. They are a finite map from chords to values.
-ghost use Rattle.std.specs.Prelude.{◌≡◌, ◌↔◌, ◌≤◌, ◌<◌, [], None, Some, Err, IfOk, IfSome, IfNone, OnOk, OnErr};
+ghost use Rattle.std.specs.Prelude.{◌≡◌, ◌≢◌, ◌↔◌, ◌≤◌, ◌<◌, [], None, Some, Err, IfOk, IfSome, IfNone, OnOk, OnErr};
 ghost use Rattle.std.specs.FinMap as map;
 ghost use Rattle.termwiz_bindings.specs.declared.bindings.BindError.TheVariants as error;
 
@@ -79,6 +79,16 @@ impl<V: Debug + Clone + Drop> Bindings<V> {
         if chord.is_empty() {
             return Err(BindError::Empty);
         }
+        self.put(chord, value)?;
+        Ok(())
+    }
+
+    // Binds a value to a chord that has presses.
+    fn put(&mut self, chord: &Chord, value: V) -> Result<(), AllocError>
+        requires { chord.now ≢ [] }
+        ensures ok { OnOk result (self.new ≡ bound self.old chord.now value) }
+        ensures err { OnErr result (self.new ≡ self.old) }
+    {
         self.by_codes.insert(chord.codes(), value)?;
         Ok(())
     }
