@@ -2,7 +2,8 @@
 use Rattle.std.specs.Prelude.{◌≡◌, ◌≤◌, ◌<◌, ℕ, List, length, Option, Some, None}
 use Rattle.std.specs.FinMap as map
 use Rattle.termwiz_bindings.specs.declared.press.KeyPress.{KeyPress}
-use Rattle.termwiz_bindings.specs.Bindings.{AreContinuations, IsBindingAt, IsContinued, bound, find, unbound}
+use Rattle.termwiz_bindings.specs.Bindings.{AreContinuations, IsBindingAt, bound, find, unbound}
+use Rattle.termwiz_bindings.specs.Matching.{IsContinued}
 use Rattle.hedrugal.specs.declared.chord_bindings.ChordBindings.{ChordBindings}
 use Rattle.hedrugal.specs.declared.press_calls.CKeyPress.{CKeyPress}
 use Rattle.hedrugal.specs.Chords.{AreOfChord, AreOfPresses, with_presses}
@@ -58,7 +59,7 @@ GoOn None keys first end = ⊥
 
 -- no chord begins with the presses that have these numbers and is longer
 abbrev pub GoNotOn : Option ChordBindings → List CKeyPress → Type 0
-GoNotOn (Some held) keys = (ps : List KeyPress) × AreOfPresses keys ps × (¬ IsContinued held.chords ps)
+GoNotOn (Some held) keys = (ps : List KeyPress) × AreOfPresses keys ps × (¬ IsContinued (find held.chords) ps)
 GoNotOn None keys = ⊥
 
 -- the numbers are those of no presses

@@ -1,5 +1,5 @@
 -- Bindings: a finite map from chords to values. It is kept by the codes of the chords.
-use Rattle.std.specs.Prelude.{◌≡◌, ◌≢◌, ◌↔◌, ◌<◌, ◌≤◌, ℕ, Bool, true, false, List, [], ◌++◌, length, take, Option, None, Some, IsSome, IsSomeAnd, MatchOption}
+use Rattle.std.specs.Prelude.{◌≡◌, ◌≢◌, ◌↔◌, ◌<◌, ◌≤◌, ℕ, Bool, true, false, List, [], ◌++◌, Option, None, IsSome, IsSomeAnd, MatchOption}
 use Rattle.std.specs.FinMap as map
 use Rattle.termwiz_keymap.specs.declared.keymap.Found.{Found}
 use Rattle.termwiz_keymap.specs.declared.keymap.Found.TheVariants.{None as Nothing, Exact, Ambiguous, NeedData}
@@ -8,6 +8,7 @@ use Rattle.termwiz_keymap.specs.Lookup.{ByteMap}
 use Rattle.termwiz_bindings.specs.declared.press.KeyPress.{KeyPress}
 use Rattle.termwiz_bindings.specs.Codes.{codes}
 use Rattle.termwiz_bindings.specs.Chords.{IsChord}
+use Rattle.termwiz_bindings.specs.Matching.{BeginWithNone, HasLongest, IsContinued}
 
 -- the chord begins with these presses and is longer
 abbrev pub GoesOnAfter : List KeyPress → List KeyPress → Type 0
@@ -35,10 +36,6 @@ module _ {V : Type 0} where
   abbrev pub IsBindingAt : ByteMap V → ℕ → List KeyPress → V → Type 0
   IsBindingAt m place chord value = IsEntryAt m place (codes chord) value
 
-  -- some chord begins with these presses and is longer
-  abbrev pub IsContinued : ByteMap V → List KeyPress → Type 0
-  IsContinued m ps = (rest : List KeyPress) × (rest ≢ []) × IsSome (find m (ps ++ rest))
-
   -- the chords that begin with these presses and are longer are those from the first place up to the second
   pub record AreContinuations (m : ByteMap V) (ps : List KeyPress) (low high : ℕ) : Type 0 where
     pub ordered : low ≤ high
@@ -46,24 +43,13 @@ module _ {V : Type 0} where
     pub those : (place : ℕ) (chord : List KeyPress) (value : V) → IsChord chord → IsBindingAt m place chord value
         → GoesOnAfter ps chord ↔ ((low ≤ place) × (place < high))
 
-  -- the longest chord that begins the presses has so many of them, and this value
-  pub record IsLongestChord (m : ByteMap V) (ps : List KeyPress) (count : ℕ) (value : V) : Type 0 where
-    pub within : count ≤ length ps
-    pub some : 0 < count
-    pub stored : find m (take count ps) ≡ Some value
-    pub longest : (k : ℕ) → count < k → k ≤ length ps → find m (take k ps) ≡ None
-
-  -- no chord begins the presses
-  abbrev pub NoChordBegins : ByteMap V → List KeyPress → Type 0
-  NoChordBegins m ps = (k : ℕ) → k ≤ length ps → find m (take k ps) ≡ None
-
-  -- What is found for presses, of which more may come: the longest chord that begins them, by the number of its presses, and whether
+  -- What is found for presses, of which more may come: the longest chord that they begin with, by the number of its presses, and whether
   -- a longer chord is still possible.
   abbrev pub FindGives : ByteMap V → List KeyPress → Bool → Found V → Type 0
-  FindGives m ps more (Ambiguous count value) = IsLongestChord m ps count value × IsContinued m ps × (more ≡ true)
-  FindGives m ps more (Exact count value) = IsLongestChord m ps count value × (IsContinued m ps → more ≡ false)
-  FindGives m ps more NeedData = NoChordBegins m ps × IsContinued m ps
-  FindGives m ps more Nothing = NoChordBegins m ps × ¬ (IsContinued m ps)
+  FindGives m ps more (Ambiguous count value) = HasLongest (find m) ps count value × IsContinued (find m) ps × (more ≡ true)
+  FindGives m ps more (Exact count value) = HasLongest (find m) ps count value × (IsContinued (find m) ps → more ≡ false)
+  FindGives m ps more NeedData = BeginWithNone (find m) ps × IsContinued (find m) ps
+  FindGives m ps more Nothing = BeginWithNone (find m) ps × ¬ IsContinued (find m) ps
 
   -- For each chord, either both bindings lack it, or both have it and the copy's value is a clone of the original's.
   abbrev pub IsCloneByChord : (V → V → Type 0) → ByteMap V → ByteMap V → Type 0

@@ -1,10 +1,15 @@
 -- What the calls of a matcher answer.
-use Rattle.std.specs.Prelude.{◌≡◌, ◌⊎◌, ◌<◌, ◌≤◌, ℕ, List, [], ◌∷◌, ◌++◌, length, take, Option, Some, None}
+use Rattle.std.specs.Prelude.{◌≡◌, ◌⊎◌, ◌<◌, ℕ, false, List, [], ◌∷◌, ◌++◌, length, take, Option, Some, None}
 use denote.Ref.{Bor}
 use Rattle.termwiz_bindings.specs.declared.press.KeyPress.{KeyPress}
 use Rattle.termwiz_bindings.specs.declared.matcher.Outcome.{Outcome}
 use Rattle.termwiz_bindings.specs.declared.matcher.Outcome.TheVariants.{Bound, Unbound}
-use Rattle.termwiz_bindings.specs.Matching.{Chords, IsChord, BeginWithNone, IsContinued, IsLongestChord}
+use Rattle.termwiz_bindings.specs.Matching.{Chords, IsChord, BeginWithNone, IsContinued, Stands}
+
+-- how many presses an outcome takes
+abbrev pub keys_of : {V : Type 0} → Outcome V → ℕ
+keys_of (Bound keys value) = keys
+keys_of (Unbound press) = 1
 
 module _ {V : Type 0} where
   -- an outcome by reference, with the value that it refers to
@@ -12,22 +17,16 @@ module _ {V : Type 0} where
   outcome_copied (Bound keys value) = Bound keys value.now
   outcome_copied (Unbound press) = Unbound press
 
-  -- how many presses an outcome takes
-  abbrev pub keys_of : Outcome V → ℕ
-  keys_of (Bound keys value) = keys
-  keys_of (Unbound press) = 1
+  -- the first of the presses, as one that begins no chord
+  abbrev pub first_unbound : List KeyPress → Option (Outcome (Bor V))
+  first_unbound [] = None
+  first_unbound (press ∷ presses) = Some (Unbound press)
 
-  -- what a lookup found: the longest chord that the presses begin with, if there is one
-  abbrev pub FoundLongest : Chords V → List KeyPress → Option (ℕ × Bor V) → Type 0
-  FoundLongest find presses None = BeginWithNone find presses
-  FoundLongest find presses (Some found) =
-      (found.0 ≤ length presses) × IsLongestChord find presses (take found.0 presses) found.1.now
-
-  -- the outcome of presses for which this was found, or of none
-  abbrev pub outcome_found : Option (ℕ × Bor V) → List KeyPress → Option (Outcome (Bor V))
-  outcome_found (Some found) presses = Some (Bound found.0 found.1)
-  outcome_found None [] = None
-  outcome_found None (press ∷ presses) = Some (Unbound press)
+  -- The outcome that stands first if no more presses come: one, unless there are no presses.
+  abbrev pub DecidesFirst : Chords V → List KeyPress → Option (Outcome (Bor V)) → Type 0
+  DecidesFirst find presses None = presses ≡ []
+  DecidesFirst find presses (Some outcome) =
+      Stands find false presses (take (keys_of outcome) presses) (outcome_copied outcome)
 
   -- A mistake of several presses: no chord goes on after them, and they begin with none.
   pub record IsDeadEnd (find : Chords V) (presses : List KeyPress) : Type 0 where

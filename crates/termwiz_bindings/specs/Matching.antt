@@ -1,5 +1,5 @@
 -- What presses do under chords: the outcomes that a list of them gives, and what stays pending.
-use Rattle.std.specs.Prelude.{◌≡◌, ◌≢◌, ℕ, ◌≤◌, ◌⊎◌, Bool, true, List, [], ◌∷◌, ◌++◌, length, Option, None, Some, IsSome}
+use Rattle.std.specs.Prelude.{◌≡◌, ◌≢◌, ℕ, ◌<◌, ◌≤◌, ◌⊎◌, Bool, true, List, [], ◌∷◌, ◌++◌, length, take, Option, None, Some, IsSome}
 use Rattle.termwiz_bindings.specs.declared.press.KeyPress.{KeyPress}
 use Rattle.termwiz_bindings.specs.declared.matcher.Outcome.{Outcome}
 use Rattle.termwiz_bindings.specs.declared.matcher.Outcome.TheVariants.{Bound, Unbound}
@@ -43,6 +43,12 @@ module _ {V : Type 0} where
     pub bound : find chord ≡ Some value
     pub begins : BeginWith presses chord
     pub longest : (other : List KeyPress) → IsChord find other → BeginWith presses other → length other ≤ length chord
+
+  -- the longest chord that the presses begin with has so many of them, and this value
+  pub record HasLongest (find : Chords V) (presses : List KeyPress) (keys : ℕ) (value : V) : Type 0 where
+    pub some : 0 < keys
+    pub within : keys ≤ length presses
+    pub chord : IsLongestChord find presses (take keys presses) value
 
   -- the presses begin with no chord
   abbrev pub BeginWithNone : Chords V → List KeyPress → Type 0

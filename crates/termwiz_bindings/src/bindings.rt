@@ -1,5 +1,5 @@
 //! Bindings: what a program does at which keys. They are a finite map from chords to values.
-ghost use Rattle.std.specs.Prelude.{◌≡◌, ◌↔◌, ◌≤◌, ◌<◌, [], None, Some, Err, IfOk, IfSome, IfNone, OnOk, OnErr};
+ghost use Rattle.std.specs.Prelude.{◌≡◌, ◌≢◌, ◌↔◌, ◌≤◌, ◌<◌, [], None, Some, Err, IfOk, IfSome, IfNone, OnOk, OnErr};
 ghost use Rattle.std.specs.FinMap as map;
 ghost use Rattle.termwiz_bindings.specs.declared.bindings.BindError.TheVariants as error;
 
@@ -55,7 +55,8 @@ impl<V: Debug + Clone + Drop> Model for Bindings<V> {
 
 impl<V: Debug + Clone + Drop> Bindings<V> {
     ghost use Rattle.termwiz_keymap.specs.Lookup.{ClonesEqual, found_copied};
-    ghost use Rattle.termwiz_bindings.specs.Bindings.{AreBindings, AreContinuations, FindGives, IsBindingAt, IsCloneByChord, IsContinued, bound, find, unbound};
+    ghost use Rattle.termwiz_bindings.specs.Bindings.{AreBindings, AreContinuations, FindGives, IsBindingAt, IsCloneByChord, bound, find, unbound};
+    ghost use Rattle.termwiz_bindings.specs.Matching.{IsContinued};
 
     /// Bindings of no chord. Takes no memory; later calls take theirs from `alloc`.
     pub fn new(alloc: Global) -> Bindings<V>
@@ -78,6 +79,16 @@ impl<V: Debug + Clone + Drop> Bindings<V> {
         if chord.is_empty() {
             return Err(BindError::Empty);
         }
+        self.put(chord, value)?;
+        Ok(())
+    }
+
+    // Binds a value to a chord that has presses.
+    fn put(&mut self, chord: &Chord, value: V) -> Result<(), AllocError>
+        requires { chord.now ≢ [] }
+        ensures ok { OnOk result (self.new ≡ bound self.old chord.now value) }
+        ensures err { OnErr result (self.new ≡ self.old) }
+    {
         self.by_codes.insert(chord.codes(), value)?;
         Ok(())
     }
@@ -122,7 +133,7 @@ impl<V: Debug + Clone + Drop> Bindings<V> {
     /// there are none.
     pub fn continuations(&self, keys: &Chord) -> Range<usize>
         ensures chords { AreContinuations self.now keys.now result.start result.end }
-        ensures some { (result.start < result.end) ↔ IsContinued self.now keys.now }
+        ensures some { (result.start < result.end) ↔ IsContinued (find self.now) keys.now }
     {
         self.by_codes.extensions(keys.codes())
     }

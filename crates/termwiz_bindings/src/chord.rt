@@ -1,5 +1,5 @@
 //! Chords: the presses that a program binds a command to, one after another.
-ghost use Rattle.std.specs.Prelude.{Some, ◌≡◌, ◌↔◌, ◌<◌, ◌≤◌, ◌++◌, ◌∷◌, [], ◌*◌, ◌-◌, length, drop, replicate, slice_get, IsTrue, IfSome, if◌then◌else◌};
+ghost use Rattle.std.specs.Prelude.{Some, ◌≡◌, ◌↔◌, ◌<◌, ◌≤◌, ◌++◌, ◌∷◌, [], ◌*◌, ◌-◌, ◌+◌, length, take, drop, replicate, slice_get, IsTrue, IfSome, if◌then◌else◌};
 ghost use Rattle.termwiz_bindings.specs.declared.press.KeyPress.{KeyPress as Press};
 ghost use Rattle.termwiz_bindings.specs.Codes.{IsPress, code as code_of, codes};
 ghost use Rattle.termwiz_bindings.specs.Chords.{AreCodes, IsChord};
@@ -59,8 +59,7 @@ impl Chord {
         if self.len == MAX_KEYS {
             return false;
         }
-        let start = self.len * CODE_LEN;
-        self.codes[start..start + CODE_LEN].copy_from_slice(&press.code());
+        write_code(&mut self.codes, self.len * CODE_LEN, press);
         self.len += 1;
         true
     }
@@ -109,6 +108,14 @@ impl Chord {
         let rest = of_codes(&self.codes()[count * CODE_LEN..]);
         *self = rest;
     }
+}
+
+// Writes the code of a press, from this byte on.
+fn write_code(codes: &mut [u8; MAX_KEYS * CODE_LEN], start: usize, press: KeyPress)
+    requires { start + CODE_LEN ≤ MAX_KEYS * CODE_LEN }
+    ensures { codes.new ≡ take start codes.old ++ (code_of press ++ drop (start + CODE_LEN) codes.old) }
+{
+    codes[start..start + CODE_LEN].copy_from_slice(&press.code());
 }
 
 // The press with a code.

@@ -4,7 +4,7 @@ ghost use Rattle.termwiz_bindings.specs.Bindings.{find};
 ghost use Rattle.termwiz_bindings.specs.Codes.{IsPress};
 ghost use Rattle.termwiz_bindings.specs.declared.press.KeyPress.{KeyPress};
 ghost use Rattle.termwiz_bindings.specs.Matching.{IsChordMap, IsContinued, IsPending, Steps};
-ghost use Rattle.termwiz_bindings.specs.Matchers.{FoundLongest, IsDeadEnd, IsPreferred, IsTaken, LeadsOn, keys_of, outcome_copied, outcome_found};
+ghost use Rattle.termwiz_bindings.specs.Matchers.{DecidesFirst, IsDeadEnd, IsPreferred, IsTaken, LeadsOn, first_unbound, keys_of, outcome_copied};
 
 use crate::bindings::Bindings;
 use crate::chord::{Chord, MAX_KEYS};
@@ -62,49 +62,47 @@ impl Model for Matcher {
     ghost view = { λ m. m.pending };
 }
 
-// What a lookup of some presses found.
+// What some presses do under bindings.
 #[derive(Clone, Copy)]
 struct Front<'a, V> {
-    // How many presses the longest chord has that they begin with, and its value.
-    longest: Option<(usize, &'a V)>,
+    // The outcome of what comes first of them, if no more come; `None` if there are none.
+    outcome: Option<Outcome<&'a V>>,
 
     // Whether some chord is longer than the presses, and begins with them.
     goes_on: bool,
 }
 
+// The first of some presses, as one that begins no chord; `None` if there are none.
+fn first_unbound<'a, V>(presses: &Chord) -> Option<Outcome<&'a V>>
+    ensures { result ≡ first_unbound presses.now }
+{
+    Some(Outcome::Unbound(presses.get(0)?))
+}
+
 // Looks presses up in bindings.
+#[tactic(auto, using(crate::proofs::lemmas::BindingChords::are_chords, crate::proofs::lemmas::MatcherSteps::chord_first, crate::proofs::lemmas::MatcherSteps::press_first))]
 fn front_of<'a, V: Debug + Clone + Drop>(bindings: &'a Bindings<V>, presses: &Chord) -> Front<'a, V>
-    ensures longest { FoundLongest (find bindings.now) presses.now result.longest }
+    ensures outcome { DecidesFirst (find bindings.now) presses.now result.outcome }
     ensures goes_on { IsTrue result.goes_on ↔ IsContinued (find bindings.now) presses.now }
     ensures chords { IsChordMap (find bindings.now) }
 {
     match bindings.find(presses, true) {
         Found::Ambiguous(keys, value) => Front {
-            longest: Some((keys, value)),
+            outcome: Some(Outcome::Bound { keys, value }),
             goes_on: true,
         },
         Found::Exact(keys, value) => Front {
-            longest: Some((keys, value)),
+            outcome: Some(Outcome::Bound { keys, value }),
             goes_on: false,
         },
         Found::NeedData => Front {
-            longest: None,
+            outcome: first_unbound(presses),
             goes_on: true,
         },
         Found::None => Front {
-            longest: None,
+            outcome: first_unbound(presses),
             goes_on: false,
         },
-    }
-}
-
-// The outcome of some presses, for which this was found; `None` if there are no presses.
-fn outcome_of<'a, V>(found: Option<(usize, &'a V)>, presses: &Chord) -> Option<Outcome<&'a V>>
-    ensures { result ≡ outcome_found found.entry presses.now }
-{
-    match found {
-        Some((keys, value)) => Some(Outcome::Bound { keys, value }),
-        None => Some(Outcome::Unbound(presses.get(0)?)),
     }
 }
 
@@ -125,9 +123,9 @@ fn leads_on<V: Debug + Clone + Drop>(
         return false;
     }
     let front = front_of(bindings, &longer);
-    let is_chord = match front.longest {
-        Some((keys, _)) => keys == longer.len(),
-        None => false,
+    let is_chord = match front.outcome {
+        Some(Outcome::Bound { keys, .. }) => keys == longer.len(),
+        _ => false,
     };
     front.goes_on || is_chord
 }
@@ -184,6 +182,7 @@ impl Matcher {
     ///
     /// Returns `None` if nothing is pending, or if more may come and the presses may yet become a longer chord. With no more to
     /// come it decides all: a program gives up by calling it so until it returns `None`.
+    #[tactic(auto, using(crate::proofs::lemmas::MatcherSteps::decided_within, crate::proofs::lemmas::MatcherSteps::last_step, crate::proofs::lemmas::MatcherSteps::ended_step))]
     pub fn next<'a, V: Debug + Clone + Drop>(
         &mut self,
         bindings: &'a Bindings<V>,
@@ -198,7 +197,7 @@ impl Matcher {
         if maybe_more && front.goes_on {
             return None;
         }
-        let outcome = outcome_of(front.longest, &self.pending)?;
+        let outcome = front.outcome?;
         self.pending.remove_first(outcome.keys());
         Some(outcome)
     }
@@ -207,6 +206,7 @@ impl Matcher {
     /// `None` is for nothing pending.
     ///
     /// While that is unbound, a program may prefer to wait for ever: the press may still begin a chord.
+    #[tactic(auto, using(crate::proofs::lemmas::MatcherSteps::given_up_first))]
     pub fn on_pause<'a, V: Debug + Clone + Drop>(
         &self,
         bindings: &'a Bindings<V>,
@@ -214,7 +214,7 @@ impl Matcher {
         ensures { MatchOption result (self.now ≡ [])
             (λ outcome. (left : List KeyPress) × Steps (find bindings.now) false self.now (outcome_copied outcome ∷ []) left) }
     {
-        outcome_of(front_of(bindings, &self.pending).longest, &self.pending)
+        front_of(bindings, &self.pending).outcome
     }
 
     /// Whether more than one press is pending, no chord begins with them all, and they begin with no chord. A program that takes
@@ -223,7 +223,9 @@ impl Matcher {
         ensures { IsTrue result ↔ IsDeadEnd (find bindings.now) self.now }
     {
         let front = front_of(bindings, &self.pending);
-        self.pending.len() > 1 && !front.goes_on && front.longest.is_none()
+        self.pending.len() > 1
+            && !front.goes_on
+            && matches!(front.outcome, Some(Outcome::Unbound(_)))
     }
 
     // The one of two presses that is to be pressed.

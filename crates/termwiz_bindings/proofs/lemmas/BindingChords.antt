@@ -1,9 +1,8 @@
 -- The chords of bindings: they are known by codes, and still each list of presses has one meaning under them.
-use Rattle.std.proofs.Common.{◌≡◌, ◌≢◌, ◌⊎◌, inl, inr, ⊎_elim, ℕ, zero, suc, ◌*◌, ◌<◌, ◌≤◌, Bool, true, false, cond, List, [], ◌∷◌, ◌++◌, length, take, drop, get_or, Option, Some, None, refl, sym, ap, ◌∙◌, subst, length-take-le, take-append-drop, Contains, arith}
+use Rattle.std.proofs.Common.{◌≡◌, ◌≢◌, ◌⊎◌, inl, inr, ℕ, zero, suc, ◌*◌, ◌<◌, ◌≤◌, Bool, true, false, cond, List, [], ◌∷◌, ◌++◌, length, take, drop, get_or, Option, Some, None, refl, sym, ap, ◌∙◌, subst, length-take-le, take-append-drop, Contains, arith}
 use Rattle.std.specs.Prelude.{IsSome}
 use Rattle.std.specs.List.{All, AllByRecursion}
 use Rattle.std.specs.FinMap as map
-use Rattle.std.proofs.lemmas.Bool.{cases_lt}
 use Rattle.std.proofs.lemmas.List.{append_cancel_left}
 use Rattle.std.proofs.lemmas.List.Elements.{All-head, All-tail}
 use Rattle.termwiz_keymap.specs.Entries.{Entries}
@@ -16,11 +15,11 @@ use Rattle.termwiz_keymap.proofs.lemmas.entries.RemovedEntries.{get-without}
 use Rattle.termwiz_grammar.proofs.lemmas.lists.Decidable.{decide_eq}
 use Rattle.termwiz_bindings.specs.declared.press.KeyPress.{KeyPress}
 use Rattle.termwiz_bindings.specs.Codes.{IsPress, code, code_len, codes}
-use Rattle.termwiz_bindings.specs.Bindings.{AreBindings, IsContinued as IsContinuedIn, IsLongestChord as IsLongestIn, NoChordBegins, bound, find, unbound}
-use Rattle.termwiz_bindings.specs.Matching.{IsChordMap, BeginWith, BeginWithNone, IsContinued, IsLongestChord, most_keys}
+use Rattle.termwiz_bindings.specs.Bindings.{AreBindings, bound, find, unbound}
+use Rattle.termwiz_bindings.specs.Matching.{IsChordMap, IsContinued, most_keys}
 use Rattle.termwiz_bindings.specs.ChordLaws.{AgreeFrom, LeavesOtherLists}
 use Rattle.termwiz_bindings.proofs.lemmas.CodedPresses.{code_length, codes_append, codes_length, codes_tell}
-use Rattle.termwiz_bindings.proofs.lemmas.SharedBeginnings.{length-some, same_from_length, taken_front, front_fits}
+use Rattle.termwiz_bindings.proofs.lemmas.SharedBeginnings.{length-some, same_from_length, front_fits}
 use Rattle.termwiz_bindings.proofs.lemmas.PendingChords.{meaning_of_presses}
 
 -- whether a key begins with some bytes and is longer can be told
@@ -51,9 +50,6 @@ codes_behind u chord rest e =
       drop (length u) chord,
       append_cancel_left (codes u) rest (codes (drop (length u) chord)) (sym e ∙ parts ∙ ap (λ z. z ++ codes (drop (length u) chord)) (sym fronts)),
     )
-
-front_is : (u other : List KeyPress) → BeginWith u other → other ≡ take (length other) u
-front_is u other b = sym (taken_front u other b.0 b.1)
 
 module _ {V : Type 0} where
   -- an entry whose key goes on after some bytes
@@ -139,39 +135,6 @@ module _ {V : Type 0} where
           let some : 0 < length real.0 = length-some real.0 real.2 in
           let none : 0 ≡ length real.0 * code_len = ap length real.3 ∙ codes_length real.0 in
           absurd (omega arith)
-
-  -- what a lookup says, in the words of readings
-  pub continued : (m : ByteMap V) (u : List KeyPress) → IsContinuedIn m u → IsContinued (find m) u
-  continued m u h = record { tail = h.0; longer = h.1; is_chord = h.2 }
-
-  pub continued_in : (m : ByteMap V) (u : List KeyPress) → IsContinued (find m) u → IsContinuedIn m u
-  continued_in m u c = (c.tail, c.longer, c.is_chord)
-
-  missing : (o : Option V) → o ≡ None → ¬ IsSome o
-  missing o e is = let none : IsSome {T = V} None = subst IsSome e is in cc (none)
-
-  pub longest : (m : ByteMap V) (u : List KeyPress) (count : ℕ) (v : V) → IsLongestIn m u count v
-      → (count ≤ length u) × IsLongestChord (find m) u (take count u) v
-  longest m u count v h = (
-    h.within,
-    record {
-      bound = h.stored;
-      begins = (drop count u, sym (take-append-drop count u));
-      longest = λ other is b.
-          let same : other ≡ take (length other) u = front_is u other b in
-          let fits : length other ≤ length u = front_fits u other b.0 b.1 in
-          let taken : length (take count u) ≡ count = length-take-le count u h.within in
-          ⊎_elim
-          (λ (more : count < length other).
-          absurd (missing (find m other) (ap (find m) same ∙ h.longest (length other) more fits) is))
-          (λ (few : length other ≤ count). omega arith)
-          (cases_lt count (length other));
-    },
-  )
-
-  pub none_begins : (m : ByteMap V) (u : List KeyPress) → NoChordBegins m u → BeginWithNone (find m) u
-  none_begins m u none chord is b =
-      missing (find m chord) (ap (find m) (front_is u chord b) ∙ none (length chord) (front_fits u chord b.0 b.1)) is
 
 -- presses that begin differently have different codes
 apart_codes : (p first : KeyPress) (rest others : List KeyPress) → IsPress p → IsPress first → p ≢ first

@@ -1,10 +1,11 @@
 -- Bindings by the codes of their chords.
-use Rattle.std.proofs.Common.{◌≡◌, ◌≢◌, ◌∙◌, ◌↔◌, ℕ, ◌+◌, ◌*◌, ◌/◌, ◌<◌, ◌≤◌, Bool, true, false, cond, List, [], ◌∷◌, ◌++◌, length, take, refl, sym, ap, subst, arith}
+use Rattle.std.proofs.Common.{◌≡◌, ◌≢◌, ◌∙◌, ◌↔◌, ◌⊎◌, ⊎_elim, ℕ, ◌+◌, ◌*◌, ◌/◌, ◌<◌, ◌≤◌, Bool, true, false, cond, List, [], ◌∷◌, ◌++◌, length, take, drop, refl, sym, ap, subst, take-append-drop, arith}
 use Rattle.std.specs.Prelude.{Option, None, Some, IsSome, IsSomeAnd, MatchOption, is_some}
 use Rattle.std.specs.List.{All}
 use Rattle.std.specs.Ordering.{nat_cmp}
 use Rattle.std.specs.Cmp.Lexicographic.{slice_cmp}
 use Rattle.std.specs.FinMap as map
+use Rattle.std.proofs.lemmas.Bool.{cases_lt}
 use Rattle.std.proofs.lemmas.List.{length-append, length-take-le}
 use Rattle.termwiz_keymap.specs.declared.keymap.Found.{Found}
 use Rattle.termwiz_keymap.specs.declared.keymap.Found.TheVariants.{None as Nothing, Exact, Ambiguous, NeedData}
@@ -17,8 +18,10 @@ use Rattle.termwiz_keymap.proofs.lemmas.entries.RemovedEntries.{get-without}
 use Rattle.termwiz_bindings.specs.declared.press.KeyPress.{KeyPress}
 use Rattle.termwiz_bindings.specs.Codes.{IsPress, code_len, codes}
 use Rattle.termwiz_bindings.specs.Chords.{AreCodes, IsChord}
-use Rattle.termwiz_bindings.specs.Bindings.{AreBindings, AreContinuations, FindGives, GoesOnAfter, IsContinued, IsLongestChord, NoChordBegins, bound, unbound}
+use Rattle.termwiz_bindings.specs.Bindings.{AreBindings, AreContinuations, FindGives, GoesOnAfter, bound, find, unbound}
+use Rattle.termwiz_bindings.specs.Matching.{BeginWith, BeginWithNone, HasLongest, IsContinued}
 use Rattle.termwiz_bindings.proofs.lemmas.CodedPresses.{begun, codes_append, codes_length, codes_take, same_presses}
+use Rattle.termwiz_bindings.proofs.lemmas.SharedBeginnings.{taken_front, front_fits}
 
 -- chords with the same codes are the same
 pub same_chord : (chord other : List KeyPress) → IsChord chord → IsChord other → codes chord ≡ codes other → chord ≡ other
@@ -71,45 +74,73 @@ module _ {V : Type 0} (m : ByteMap V) (are : AreBindings m) where
 
   module _ (ps : List KeyPress) (presses : All IsPress ps) where
     -- a longer key is that of a longer chord
-    pub continued : IsExtended m (codes ps) ↔ IsContinued m ps
+    pub continued : IsExtended m (codes ps) ↔ IsContinued (find m) ps
     continued = (
       λ (rest, some, stored).
           let known = are (codes ps ++ rest) stored in
           let longer = (longer_chord ps known.0 presses known.1).0
           (rest, (λ none. absurd (omega (arith, some, ap length none))), sym known.3) in
-          (longer.0, longer.1, subst (λ key. IsSome (map.get m key)) (known.3 ∙ ap codes longer.2) stored),
-      λ (rest, some, stored).
-          (codes rest, some_codes rest some, subst (λ key. IsSome (map.get m key)) (codes_append ps rest) stored),
+          record {
+            tail = longer.0;
+            longer = longer.1;
+            is_chord = subst (λ key. IsSome (map.get m key)) (known.3 ∙ ap codes longer.2) stored;
+          },
+      λ goes_on. (
+        codes goes_on.tail,
+        some_codes goes_on.tail goes_on.longer,
+        subst (λ key. IsSome (map.get m key)) (codes_append ps goes_on.tail) goes_on.is_chord,
+      ),
     )
+
+    missing : (found : Option V) → found ≡ None → ¬ IsSome found
+    missing found is some = let none : IsSome {T = V} None = subst IsSome is some in cc (none)
+
+    -- a chord that begins the presses, where its codes are no key
+    no_key : (chord : List KeyPress) → BeginWith ps chord
+        → map.get m (take (length chord * code_len) (codes ps)) ≡ None → ¬ IsSome (find m chord)
+    no_key chord begins none =
+        let front : chord ≡ take (length chord) ps = sym (taken_front ps chord begins.0 begins.1) in
+        let fits : length chord ≤ length ps = front_fits ps chord begins.0 begins.1 in
+        missing (find m chord) (ap (find m) front ∙ ap (map.get m) (sym (codes_take ps (length chord) fits)) ∙ none)
 
     -- the longest key that begins the codes is that of the longest chord that begins the presses
     longest_of : (len : ℕ) (value : V) → IsLongestKey m (codes ps) len value → (count : ℕ) → len ≡ count * code_len → 0 < count
-        → IsLongestChord m ps count value
+        → HasLongest (find m) ps count value
     longest_of len value is count same some =
         let all : length (codes ps) ≡ length ps * code_len = codes_length ps in
         let within : len ≤ length (codes ps) = is.within in
         let few : count ≤ length ps = omega arith in
+        let taken : length (take count ps) ≡ count = length-take-le count ps few in
         record {
-          within = few;
           some = some;
-          stored = ap (map.get m) (sym (codes_take ps count few) ∙ ap (λ n. take n (codes ps)) (sym same)) ∙ is.stored;
-          longest = λ k more up. ap (map.get m) (sym (codes_take ps k up))
-              ∙ is.longest (k * code_len) (omega (arith, more, same)) (omega (arith, up, all));
+          within = few;
+          chord = record {
+            bound = ap (map.get m) (sym (codes_take ps count few) ∙ ap (λ n. take n (codes ps)) (sym same)) ∙ is.stored;
+            begins = (drop count ps, sym (take-append-drop count ps));
+            longest = λ other chord begins.
+                let up : length other ≤ length ps = front_fits ps other begins.0 begins.1 in
+                ⊎_elim
+                (λ (more : count < length other). absurd (no_key other begins
+                (is.longest (length other * code_len) (omega (arith, more, same)) (omega (arith, up, all))) chord))
+                (λ (few : length other ≤ count). omega arith)
+                (cases_lt count (length other));
+          };
         }
 
-    pub longest_chord : (len : ℕ) (value : V) → IsLongestKey m (codes ps) len value → IsLongestChord m ps (len / code_len) value
+    pub longest_chord : (len : ℕ) (value : V) → IsLongestKey m (codes ps) len value → HasLongest (find m) ps (len / code_len) value
     longest_chord len value is =
         let known = are (take len (codes ps)) (some_at (take len (codes ps)) value is.stored) in
         let length_is : len ≡ length known.0 * code_len =
         sym (length-take-le len (codes ps) is.within) ∙ ap length known.3 ∙ codes_length known.0 in
         let some : 0 < length known.0 = some_elements known.0 known.2 in
         let count : length known.0 ≡ len / code_len = omega arith in
-        subst (λ n. IsLongestChord m ps n value) count (longest_of len value is (length known.0) length_is some)
+        subst (λ n. HasLongest (find m) ps n value) count (longest_of len value is (length known.0) length_is some)
 
-    pub no_chord : NoKeyBegins m (codes ps) → NoChordBegins m ps
-    no_chord none k up =
+    pub no_chord : NoKeyBegins m (codes ps) → BeginWithNone (find m) ps
+    no_chord none chord is begins =
         let all : length (codes ps) ≡ length ps * code_len = codes_length ps in
-        ap (map.get m) (sym (codes_take ps k up)) ∙ none (k * code_len) (omega arith)
+        let up : length chord ≤ length ps = front_fits ps chord begins.0 begins.1 in
+        no_key chord begins (none (length chord * code_len) (omega arith)) is
 
     -- what a lookup of the codes finds, by the number of presses
     pub found_of : (more : Bool) (found : Found V) → LookupGives m (codes ps) more found → FindGives m ps more (by_presses found)
@@ -187,7 +218,7 @@ module _ {V : Type 0} where
         continuations_of n same_bindings ps is.presses low high (subst (λ (k : ByteMap V). AreExtensions k (codes ps) low high) same
         (subst (λ key. AreExtensions m key low high) spelled are_those))
 
-    pub continued_by : (P : Type 0) → P ↔ IsExtended m bytes → P ↔ IsContinued n ps
+    pub continued_by : (P : Type 0) → P ↔ IsExtended m bytes → P ↔ IsContinued (find n) ps
     continued_by P both =
         let those : P ↔ IsExtended n (codes ps) = subst (λ (k : ByteMap V). P ↔ IsExtended k (codes ps)) same
         (subst (λ key. P ↔ IsExtended m key) spelled both) in

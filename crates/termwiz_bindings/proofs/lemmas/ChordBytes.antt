@@ -2,10 +2,9 @@
 use Rattle.std.proofs.Common.{⊎_elim, ◌≡◌, ◌∙◌, ℕ, suc, ◌+◌, ◌*◌, ◌-◌, ◌/◌, ◌<◌, ◌≤◌, ◌≢◌, List, [], ◌∷◌, ◌++◌, length, take, drop, replicate, get_or, sym, ap, ap₂, subst, append_assoc, drop-cons, arith}
 use Rattle.std.specs.Prelude.{None, Some, slice_get}
 use Rattle.std.specs.List.{between}
-use Rattle.std.proofs.lemmas.List.{append-nil, drop-append-le, drop-replicate, drop_at, length-append, length-drop, take_all, take_at}
+use Rattle.std.proofs.lemmas.List.{append-nil, drop-append-le, drop-drop, drop-replicate, drop_at, length-append, length-drop, take_all, take_at}
 use Rattle.std.proofs.lemmas.Option.{slice_get_cases, slice_get_past}
 use Rattle.std.proofs.lemmas.List.Elements.{All-drop, All-get_or, All-nil, All-push}
-use borrow.Rule.Slice.PartMut.{put_mid}
 use Rattle.termwiz_bindings.specs.declared.chord.TheConstants.{MAX_KEYS}
 use Rattle.termwiz_bindings.specs.declared.press.KeyPress.{KeyPress}
 use Rattle.termwiz_bindings.specs.Codes.{IsPress, code, code_len, codes, presses_with}
@@ -48,7 +47,7 @@ codes_push ps press = codes_append ps (press ∷ []) ∙ ap (λ bytes. codes ps 
 
 -- its code is written behind the others
 pub pushed_bytes : (ps : List KeyPress) (press : KeyPress) (start : ℕ) → start ≡ length ps * code_len → length ps < MAX_KEYS
-    → put_mid start code_len (padded ps) (code press) ≡ padded (ps ++ press ∷ [])
+    → take start (padded ps) ++ (code press ++ drop (start + code_len) (padded ps)) ≡ padded (ps ++ press ∷ [])
 pushed_bytes ps press start same room =
     let zeros : List ℕ = replicate (MAX_KEYS * code_len - length ps * code_len) 0 in
     let len : length (codes ps) ≡ start = codes_length ps ∙ sym same in
@@ -56,7 +55,7 @@ pushed_bytes ps press start same room =
     let fewer : MAX_KEYS * code_len - length ps * code_len - code_len ≡ MAX_KEYS * code_len - length (ps ++ press ∷ []) * code_len =
     omega (arith, longer) in
     ap₂ (λ before after. before ++ (code press ++ after)) (take_at (codes ps) zeros start len)
-    (ap (drop code_len) (drop_at (codes ps) zeros start len)
+    (sym (drop-drop code_len start (padded ps)) ∙ ap (drop code_len) (drop_at (codes ps) zeros start len)
     ∙ drop-replicate code_len (MAX_KEYS * code_len - length ps * code_len) 0 ∙ ap (λ n. replicate n 0) fewer)
     ∙ sym (append_assoc (codes ps) (code press) (replicate (MAX_KEYS * code_len - length (ps ++ press ∷ []) * code_len) 0))
     ∙ ap (λ bytes. bytes ++ replicate (MAX_KEYS * code_len - length (ps ++ press ∷ []) * code_len) 0) (sym (codes_push ps press))
@@ -113,19 +112,20 @@ held_in bytes len ps is same = record {
 }
 
 -- the same with one press more
-pub pushed_in : (bytes : List ℕ) (len : ℕ) (ps : List KeyPress) (press : KeyPress) (new : List ℕ) (start width : ℕ)
-    → IsHeldIn bytes len ps → IsPress press → len ≢ MAX_KEYS → new ≡ code press → start ≡ len * code_len → width ≡ code_len
-    → IsHeldIn (put_mid start width bytes new) (len + 1) (ps ++ press ∷ [])
-pushed_in bytes len ps press new start width is one room new_is start_is width_is =
+pub pushed_in : (bytes : List ℕ) (len : ℕ) (ps : List KeyPress) (press : KeyPress) (new : List ℕ)
+    → IsHeldIn bytes len ps → IsPress press → len ≢ MAX_KEYS
+    → new ≡ take (len * code_len) bytes ++ (code press ++ drop (len * code_len + code_len) bytes)
+    → IsHeldIn new (len + 1) (ps ++ press ∷ [])
+pushed_in bytes len ps press new is one room new_is =
     let few : length ps ≤ MAX_KEYS = is.chord.few in
     let count : len ≡ length ps = is.count in
     let less : length ps < MAX_KEYS = omega (arith, room) in
     record {
       chord = one_more ps press is.chord one less;
       padding =
-          ap₂ (λ (n : ℕ) (xs : List ℕ). put_mid start n xs new) width_is is.padding
-          ∙ ap (put_mid start code_len (padded ps)) new_is
-          ∙ pushed_bytes ps press start (start_is ∙ ap (λ n. n * code_len) count) less;
+          new_is
+          ∙ ap (λ (xs : List ℕ). take (len * code_len) xs ++ (code press ++ drop (len * code_len + code_len) xs)) is.padding
+          ∙ pushed_bytes ps press (len * code_len) (ap (λ n. n * code_len) count) less;
       count = omega (arith, length-append ps (press ∷ []));
     }
 

@@ -1,83 +1,73 @@
--- What a lookup says of the item at the front of the pending presses, and which of two presses is taken.
-use Rattle.std.proofs.Common.{◌≡◌, ◌≢◌, inl, inr, ℕ, Bool, true, false, List, [], ◌∷◌, ◌++◌, take, drop, Option, Some, None, refl, sym, ◌∙◌, subst, length-take-le, take-append-drop}
+-- What stands at the front of the pending presses, and which of two presses is taken.
+use Rattle.std.proofs.Common.{◌≡◌, inl, inr, ℕ, ◌≤◌, Bool, true, false, List, [], ◌∷◌, length, take, drop, Option, Some, None, refl, sym, ap, subst, length-take, length-take-le, take-append-drop, arith}
 use Rattle.std.specs.Prelude.{MatchOption, unwrap_or}
 use denote.Ref.{Bor}
 use Rattle.termwiz_bindings.specs.declared.press.KeyPress.{KeyPress}
 use Rattle.termwiz_bindings.specs.declared.matcher.Outcome.{Outcome}
 use Rattle.termwiz_bindings.specs.declared.matcher.Outcome.TheVariants.{Bound, Unbound}
-use Rattle.termwiz_bindings.specs.Matching.{Chords, IsChordMap, IsContinued, IsOpen, IsItem, Steps}
-use Rattle.termwiz_bindings.specs.Matchers.{outcome_copied, keys_of, FoundLongest, outcome_found, IsPreferred, TakesSecond, IsTaken}
-use Rattle.termwiz_bindings.proofs.lemmas.ChordReadings.{some_taken}
+use Rattle.termwiz_bindings.specs.Matching.{Chords, BeginWithNone, HasLongest, IsContinued, IsOpen, Steps}
+use Rattle.termwiz_bindings.specs.Matchers.{DecidesFirst, outcome_copied, keys_of, first_unbound, IsPreferred, TakesSecond, IsTaken}
 
 module _ {V : Type 0} where
-  -- the item of presses for which this was found
-  found_item : (find : Chords V) (u : List KeyPress) (found : Option (ℕ × Bor V)) (o : Outcome (Bor V)) → FoundLongest find u found
-      → outcome_found found u ≡ Some o
-      → (taken : List KeyPress) × IsItem find u taken (outcome_copied o) × (u ≡ taken ++ drop (keys_of o) u)
-  found_item find u (Some found) o (fits, longest) e = (
-    take found.0 u,
-    subst (λ z. IsItem find u (take found.0 u) (outcome_copied z)) is (length-take-le found.0 u fits, longest),
-    subst (λ z. u ≡ take found.0 u ++ drop (keys_of z) u) is (sym (take-append-drop found.0 u)),
-  )
-    where
-      is : Bound found.0 found.1 ≡ o
-      is = cc (e)
-  found_item find [] None o none e = absurd (cc (e))
-  found_item find (x ∷ u) None o none e = (
-    x ∷ [],
-    subst (λ z. IsItem find (x ∷ u) (x ∷ []) (outcome_copied z)) is (refl, record { first = (u, refl); unbound = none }),
-    subst (λ z. x ∷ u ≡ (x ∷ []) ++ drop (keys_of z) (x ∷ u)) is refl,
-  )
-    where
-      is : Unbound x ≡ o
-      is = cc (e)
-
-  item_some : (find : Chords V) (u taken rest : List KeyPress) (o : Outcome V) → find [] ≡ None → IsItem find u taken o
-      → u ≡ taken ++ rest → u ≢ []
-  item_some find u taken rest o none item e same =
-      some_taken find u taken o none item (front taken rest (sym e ∙ same))
-    where
-      front : (s t : List KeyPress) → s ++ t ≡ [] → s ≡ []
-      front [] t h = refl
-      front (x ∷ s) t h = absurd (cc (h))
-
-  -- the step that such an outcome is
-  pub found_step : (find : Chords V) (f : Bool) (u : List KeyPress) (found : Option (ℕ × Bor V)) (o : Outcome (Bor V))
-      → IsChordMap find → ¬ IsOpen find f u → FoundLongest find u found → outcome_found found u ≡ Some o
-      → Steps find f u (outcome_copied o ∷ []) (drop (keys_of o) u)
-  found_step find f u found o chords closed longest e =
-      let one = found_item find u found o longest e in
-      let rest : List KeyPress = drop (keys_of o) u in (
-        one.0,
-        rest,
-        record {
-          closed = closed;
-          some = item_some find u one.0 rest (outcome_copied o) chords.some one.1 one.2;
-          item = one.1;
-        },
-        one.2,
-        refl,
-      )
-
-  pub never_open : (find : Chords V) (u : List KeyPress) → ¬ IsOpen find false u
+  never_open : (find : Chords V) (u : List KeyPress) → ¬ IsOpen find false u
   never_open find u h = let e : false ≡ true = h.more_come in absurd (cc (e))
 
-  pub ended : (find : Chords V) (f : Bool) (u : List KeyPress) → ¬ IsContinued find u → ¬ IsOpen find f u
-  ended find f u ends h = ends h.continued
+  -- the longest chord is decided first
+  pub chord_first : (find : Chords V) (u : List KeyPress) (keys : ℕ) (value : Bor V) → HasLongest find u keys value.now
+      → DecidesFirst find u (Some (Bound keys value))
+  chord_first find u keys value is = record {
+    closed = never_open find u;
+    some = λ none. let l : length u ≡ 0 = ap length none in absurd (omega (arith, is.some, is.within));
+    item = (length-take-le keys u is.within, is.chord);
+  }
 
-  -- nothing is found for no presses
-  pub none_found : (find : Chords V) (u : List KeyPress) (found : Option (ℕ × Bor V)) → outcome_found found u ≡ None → u ≡ []
-  none_found find u (Some found) e = absurd (cc (e))
-  none_found find [] None e = refl
-  none_found find (x ∷ u) None e = absurd (cc (e))
+  -- the first press is, where there is no chord
+  pub press_first : (find : Chords V) (u : List KeyPress) (first : Option (Outcome (Bor V))) → first ≡ first_unbound u
+      → BeginWithNone find u → DecidesFirst find u first
+  press_first find u first is none = subst (DecidesFirst find u) (sym is) (decided u none)
+    where
+      decided : (u : List KeyPress) → BeginWithNone find u → DecidesFirst find u (first_unbound u)
+      decided [] none = refl
+      decided (x ∷ u) none = record {
+        closed = never_open find (x ∷ u);
+        some = λ e. cc (e);
+        item = (refl, record { first = (u, refl); unbound = none });
+      }
+
+  -- its presses are among them
+  pub decided_within : (find : Chords V) (u : List KeyPress) (o : Outcome (Bor V)) → DecidesFirst find u (Some o) → keys_of o ≤ length u
+  decided_within find u (Bound keys value) first =
+      let taken = length-take keys u in
+      omega (arith, taken, first.item.0)
+  decided_within find [] (Unbound press) first = absurd (first.some refl)
+  decided_within find (x ∷ u) (Unbound press) first = omega arith
+
+  -- what is decided first is a step where presses aren't open
+  closed_step : (find : Chords V) (more : Bool) (u left : List KeyPress) (o : Outcome (Bor V)) → ¬ IsOpen find more u
+      → DecidesFirst find u (Some o) → left ≡ drop (keys_of o) u → Steps find more u (outcome_copied o ∷ []) left
+  closed_step find more u left o closed first is = (
+    take (keys_of o) u,
+    drop (keys_of o) u,
+    record { closed = closed; some = first.some; item = first.item },
+    sym (take-append-drop (keys_of o) u),
+    sym is,
+  )
+
+  -- so it is if no more come, and where no chord goes on
+  pub last_step : (find : Chords V) (more : Bool) (u left : List KeyPress) (o : Outcome (Bor V)) → more ≡ false
+      → DecidesFirst find u (Some o) → left ≡ drop (keys_of o) u → Steps find more u (outcome_copied o ∷ []) left
+  last_step find more u left o none = closed_step find more u left o (subst (λ m. ¬ IsOpen find m u) (sym none) (never_open find u))
+
+  pub ended_step : (find : Chords V) (more : Bool) (u left : List KeyPress) (o : Outcome (Bor V)) → ¬ IsContinued find u
+      → DecidesFirst find u (Some o) → left ≡ drop (keys_of o) u → Steps find more u (outcome_copied o ∷ []) left
+  ended_step find more u left o ends = closed_step find more u left o (λ h. ends h.continued)
 
   -- what giving up decides first
-  pub given_up_first : (find : Chords V) (u : List KeyPress) (found : Option (ℕ × Bor V)) (r : Option (Outcome (Bor V)))
-      → IsChordMap find → FoundLongest find u found → r ≡ outcome_found found u
+  pub given_up_first : (find : Chords V) (u : List KeyPress) (r : Option (Outcome (Bor V))) → DecidesFirst find u r
       → MatchOption r (u ≡ []) (λ o. (left : List KeyPress) × Steps find false u (outcome_copied o ∷ []) left)
-  given_up_first find u found None chords longest e = none_found find u found (sym e)
-  given_up_first find u found (Some o) chords longest e =
-      (drop (keys_of o) u, found_step find false u found o chords (never_open find u) longest (sym e))
+  given_up_first find u None none = none
+  given_up_first find u (Some o) first =
+      (drop (keys_of o) u, closed_step find false u (drop (keys_of o) u) o (never_open find u) first refl)
 
   -- which of two presses is taken where neither leads on behind the pending ones
   pub taken_of_none : (find : Chords V) (u : List KeyPress) (a b : KeyPress) (found : Option KeyPress)

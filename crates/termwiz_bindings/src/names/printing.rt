@@ -45,6 +45,7 @@ fn is_shown(c: char) -> bool
 }
 
 // Appends `U+` and at least four hexadecimal digits.
+#[tactic(auto, using(crate::proofs::lemmas::PrintedNumbers::zero_padded))]
 fn push_code_point(out: &mut String, number: u32) -> Result<(), AllocError>
     ensures { OnOk result (string_bytes out.new ≡ string_bytes out.old ++ rules.code_point number) }
 {

@@ -1,4 +1,4 @@
-use Rattle.std.proofs.Common.{◌≢◌, ◌∙◌, ◌+◌, ◌*◌, ◌-◌, ◌++◌, ◌∷◌, [], arith, refl}
+use Rattle.std.proofs.Common.{◌≢◌, ◌++◌, ◌∷◌, []}
 use Rattle.termwiz_bindings.specs.declared.chord.TheConstants.{MAX_KEYS}
 use Rattle.termwiz_bindings.proofs.lemmas.ChordBytes.{held_in, holds_in, pushed_in, view_in}
 use Rattle.termwiz_bindings.proofs.chord.Chord.push.Goals as goal
@@ -7,14 +7,12 @@ pub invariant_of-self : goal.invariant_of-self
 invariant_of-self c =
     let room : c.self.inside.len ≢ MAX_KEYS = c.if-self-eq-MAX_KEYS.false in
     holds_in _ _ (c.args.self.now ++ c.args.press ∷ []) (pushed_in c.self.inside.codes c.self.inside.len c.args.self.now
-    c.args.press c.copy_from_slice.new.self (c.self.inside.len * 5) (c.self.inside.len * 5 + 5 - c.self.inside.len * 5)
-    (held_in c.self.inside.codes c.self.inside.len c.args.self.now c.self.invariant c.self.view_is) c.requires room
-    (c.copy_from_slice.ensures.after ∙ c.code.ensures) refl (omega arith))
+    c.args.press c.write_code.new.codes (held_in c.self.inside.codes c.self.inside.len c.args.self.now c.self.invariant c.self.view_is)
+    c.requires room c.write_code.ensures)
 
 pub returns-clause-presses : goal.returns-clause-presses
 returns-clause-presses c =
     let room : c.self.inside.len ≢ MAX_KEYS = c.if-self-eq-MAX_KEYS.false in
     view_in _ _ (c.args.self.now ++ c.args.press ∷ []) (pushed_in c.self.inside.codes c.self.inside.len c.args.self.now
-    c.args.press c.copy_from_slice.new.self (c.self.inside.len * 5) (c.self.inside.len * 5 + 5 - c.self.inside.len * 5)
-    (held_in c.self.inside.codes c.self.inside.len c.args.self.now c.self.invariant c.self.view_is) c.requires room
-    (c.copy_from_slice.ensures.after ∙ c.code.ensures) refl (omega arith))
+    c.args.press c.write_code.new.codes (held_in c.self.inside.codes c.self.inside.len c.args.self.now c.self.invariant c.self.view_is)
+    c.requires room c.write_code.ensures)

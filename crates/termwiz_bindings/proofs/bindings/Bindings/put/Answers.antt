@@ -1,9 +1,9 @@
 use Rattle.std.proofs.Common.{refl}
 use Rattle.termwiz_bindings.proofs.lemmas.BoundChords.{bound_by}
-use Rattle.termwiz_bindings.proofs.bindings.Bindings.bind.Goals as goal
+use Rattle.termwiz_bindings.proofs.bindings.Bindings.put.Goals as goal
 
 pub invariant_of-self-2 : goal.invariant_of-self-2
 invariant_of-self-2 g c =
     bound_by c.self.inside.by_codes c.self.inside.by_codes refl c.self.invariant c.codes.result.now c.args.chord.now
     c.codes.ensures.chord c.codes.ensures.codes c.args.value c.insert.new.self
-    (λ none. absurd (cc (c.is_empty.ensures.1 none, c.if-is_empty.false))) c.in_ok-insert.ensures.ok
+    c.requires c.in_ok-insert.ensures.ok
