@@ -1,6 +1,6 @@
-/* Refuses each request for memory of the extended parser's calls, of hed_encode_kitty, of hed_key_print and of hed_bindings in turn, one in each run, and makes
- * the refused call again: the answers must be those of a run without a refusal, and each refusal must be told once. What is dropped or freed
- * leaves no memory in use.
+/* Refuses each request for memory of the extended parser's calls, of hed_encode_kitty, of hed_key_print and of bindings in turn, one in each
+ * run, and makes the refused call again: the answers must be those of a run without a refusal, and each refusal must be told once. What is
+ * dropped or freed leaves no memory in use.
  *
  *     cc -Wl,--wrap=malloc -Wl,--wrap=realloc -Wl,--wrap=free test_extended_refusals.c libhedrugal.a && ./a.out [STEP]
  *
@@ -280,52 +280,121 @@ static void refuse_while_printing(void) {
   }
 }
 
-/* Bindings of letters, with each request refused in turn: what was there stays. All other calls need no memory. */
-static void refuse_while_binding(void) {
-  enum { LETTERS = 26 };
-  unsigned met;
-  long number = 0;
-  do {
-    hed_bindings bindings = HED_BINDINGS_NONE;
-    unsigned said = 0;
-    refuse(++number);
-    while (!hed_bindings_init(&bindings)) {
-      EXPECT(!bindings.live && said++ == 0);
-    }
-    for (uint32_t i = 0; i < LETTERS; i++) {
-      hed_key_press keys[] = { { HED_KEY_CHAR, HED_KITTY_MOD_CTRL, 'x' }, { HED_KEY_CHAR, 0, 'a' + i } };
-      while (hed_bindings_bind(&bindings, keys, 2, i) == HED_BOUND_NO_MEMORY) {
-        EXPECT(hed_bindings_len(&bindings) == i && said++ == 0);
-      }
-    }
-    met = refused;
-    EXPECT(met == said);
-    refuse(1);
-    hed_matcher matcher = HED_MATCHER_NONE;
-    for (uint32_t i = 0; i < LETTERS; i++) {
-      hed_key_press keys[2] = { { HED_KEY_CHAR, HED_KITTY_MOD_CTRL, 'x' }, { HED_KEY_CHAR, 0, 'a' + i } }, shown[2];
-      hed_outcome outcome;
-      uint64_t value = 77;
-      size_t count, first, end;
-      EXPECT(hed_bindings_entry(&bindings, i, shown, 2, &count, &value) == HED_BOUND_VALUE && value == i);
-      EXPECT(hed_bindings_continuations(&bindings, keys, 1, &first, &end) == HED_BOUND_VALUE && end - first == LETTERS);
-      EXPECT(hed_matcher_press_either(&matcher, &bindings, keys, 2) == HED_PRESSED_KEY);
-      EXPECT(hed_matcher_press(&matcher, &keys[1]) == HED_PRESSED_KEY && !hed_matcher_is_dead_end(&matcher, &bindings));
-      EXPECT(hed_matcher_on_pause(&matcher, &bindings, &outcome) == HED_OUTCOME_BOUND && outcome.value == i);
-      EXPECT(hed_matcher_next(&matcher, &bindings, true, &outcome) == HED_OUTCOME_BOUND && outcome.value == i);
-      EXPECT(hed_bindings_lookup(&bindings, keys, 2, &value) == HED_BOUND_VALUE);
-    }
-    for (uint32_t i = LETTERS; i-- > 0;) {
-      hed_key_press keys[] = { { HED_KEY_CHAR, HED_KITTY_MOD_CTRL, 'x' }, { HED_KEY_CHAR, 0, 'a' + i } };
-      uint64_t value;
-      EXPECT(hed_bindings_unbind(&bindings, keys, 2, &value) == HED_BOUND_VALUE && value == i && hed_bindings_len(&bindings) == i);
-    }
-    EXPECT(refused == 0);
-    refuse(0);
-    hed_bindings_free(&bindings);
-    EXPECT(in_use == 0);
-  } while (met);
-  EXPECT(number > 2);
+/* Names of chords that are bound one after another, each to its place in the list. Long ones need memory of their own. */
+static const char *const bound[] = {
+  "n",   "g g", "ctrl+x ctrl+s", "z",   "ctrl+x 4 ctrl+f", "a", "g",      "ctrl+x 4 4 ctrl+x ctrl+x ctrl+x ctrl+x ctrl+x ctrl+x ctrl+x",
+  "f12", "g t", "alt+x",         "g a", "ctrl+x ctrl+c",   "b", "ctrl+a", "x y z",
+};
+
+enum { BOUND = sizeof bound / sizeof *bound };
+
+static size_t read_bound(size_t at, hed_key_press *keys) {
+  size_t count, byte;
+  EXPECT(hed_key_read((const uint8_t *)bound[at], strlen(bound[at]), keys, HED_CHORD_MOST, &count, &byte) == HED_NAMED_KEYS);
+  return count;
+}
+
+/* Whether a matcher that gets the presses of a chord takes it in the end. */
+static bool is_read(hed_bindings *bindings, const hed_key_press *keys, size_t count, uint64_t value) {
+  hed_matcher matcher = HED_MATCHER_NONE, copy;
+  hed_key_press shown[HED_CHORD_MOST];
+  hed_outcome paused, outcome;
+  for (size_t i = 0; i < count; i++) {
+    if (i % 2) EXPECT(hed_matcher_press(&matcher, &keys[i]) == HED_PRESSED_KEY);
+    else EXPECT(hed_matcher_press_either(&matcher, bindings, &keys[i], 1) == HED_PRESSED_KEY);
+  }
+  copy = matcher;
+  EXPECT(!hed_matcher_is_dead_end(&matcher, bindings) && hed_matcher_pending(&matcher, shown, 1) == count);
+  uint32_t answer = hed_matcher_on_pause(&matcher, bindings, &paused);
+  EXPECT(hed_matcher_next(&matcher, bindings, false, &outcome) == answer && hed_matcher_cancel(&copy, shown, HED_CHORD_MOST) == count);
+  return answer == HED_OUTCOME_BOUND && outcome.keys == count && outcome.value == value && paused.value == value;
+}
+
+/* The bindings have the first of the chords, and no other. They are asked without memory. */
+static void expect_bound(hed_bindings *bindings, size_t count) {
+  hed_key_press keys[HED_CHORD_MOST], shown[HED_CHORD_MOST];
+  size_t first, end, len, listed = 0;
+  uint64_t value = 0;
+  long saved = to_refusal;
+  unsigned before = refused;
+  to_refusal = 1;
+  EXPECT(hed_bindings_len(bindings) == count);
+  for (size_t at = 0; at < BOUND; at++) {
+    size_t presses = read_bound(at, keys);
+    uint32_t answer = hed_bindings_lookup(bindings, keys, presses, &value);
+    EXPECT(answer == (at < count ? HED_BOUND_VALUE : HED_BOUND_NONE) && (at >= count || value == at));
+    if (at < count) EXPECT(is_read(bindings, keys, presses, at));
+  }
+  while (hed_bindings_entry(bindings, listed, shown, HED_CHORD_MOST, &len, &value) == HED_BOUND_VALUE && value < count) listed++;
+  EXPECT(listed == count);
+  EXPECT(hed_bindings_continuations(bindings, NULL, 0, &first, &end) == (count ? HED_BOUND_VALUE : HED_BOUND_NONE) && end == count);
+  EXPECT(refused == before);
+  to_refusal = saved;
+}
+
+/* Unbinds the chords, the last one first, without memory. */
+static void unbind_all(hed_bindings *bindings) {
+  hed_key_press keys[HED_CHORD_MOST];
+  uint64_t value;
+  refuse(1);
+  for (size_t at = BOUND; at-- > 0;) {
+    size_t count = read_bound(at, keys);
+    EXPECT(hed_bindings_unbind(bindings, keys, count, &value) == HED_BOUND_VALUE && value == at && hed_bindings_len(bindings) == at);
+  }
+  EXPECT(refused == 0);
+  refuse(0);
+}
+
+/* Makes bindings of all the chords, again if a call is refused, with one request refused. Returns whether one was. */
+static bool refuse_while_binding(long number) {
+  hed_bindings bindings = HED_BINDINGS_NONE;
+  hed_key_press keys[HED_CHORD_MOST];
+  told = 0;
+  refuse(number);
+  for (; !hed_bindings_init(&bindings); told++) EXPECT(!bindings.live);
+  for (size_t at = 0; at < BOUND; at++) {
+    size_t count = read_bound(at, keys);
+    for (; hed_bindings_bind(&bindings, keys, count, at) == HED_BOUND_NO_MEMORY; told++) expect_bound(&bindings, at);
+  }
+  to_refusal = 0;
+  EXPECT(told == refused);
+  expect_bound(&bindings, BOUND);
+  unbind_all(&bindings);
+  hed_bindings_free(&bindings);
+  EXPECT(in_use == 0);
+  return told > 0;
+}
+
+/* Another value for a chord, and another init, with each request refused in turn: until one is granted, the bindings are unchanged. */
+static void refuse_while_binding_again(void) {
+  enum { REPLACED = 4 };
+  hed_bindings bindings = HED_BINDINGS_NONE;
+  hed_key_press keys[HED_CHORD_MOST];
+  uint64_t value;
+  long number;
+  EXPECT(hed_bindings_init(&bindings));
+  for (size_t at = 0; at < BOUND; at++) EXPECT(hed_bindings_bind(&bindings, keys, read_bound(at, keys), at) == HED_BOUND_VALUE);
+  size_t count = read_bound(REPLACED, keys);
+  for (number = 1; refuse(number), hed_bindings_bind(&bindings, keys, count, 99) == HED_BOUND_NO_MEMORY; number++)
+    expect_bound(&bindings, BOUND);
+  EXPECT(number > 1 && !refused && hed_bindings_len(&bindings) == BOUND);
+  EXPECT(hed_bindings_lookup(&bindings, keys, count, &value) == HED_BOUND_VALUE && value == 99);
+  refuse(0);
+  EXPECT(hed_bindings_bind(&bindings, keys, count, REPLACED) == HED_BOUND_VALUE);
+  for (number = 1; refuse(number), !hed_bindings_init(&bindings); number++) expect_bound(&bindings, BOUND);
+  EXPECT(number > 1 && !refused);
+  expect_bound(&bindings, 0);
+  refuse(0);
+  hed_bindings_free(&bindings);
+  EXPECT(in_use == 0);
+}
+
+/* Bindings of chords, with each request refused in turn. */
+static void refuse_bindings(void) {
+  long number = 1;
+  while (refuse_while_binding(number)) number++;
+  EXPECT(number > 5);
+  refuse_while_binding_again();
   printf("bindings: %ld refusals\n", number - 1);
 }
 
@@ -497,7 +566,7 @@ int main(int argc, char **argv) {
   refuse_time();
   refuse_while_encoding();
   refuse_while_printing();
-  refuse_while_binding();
+  refuse_bindings();
   refuse_replies();
   need_no_memory();
   refuse_init(step);

@@ -4,11 +4,11 @@
 #     tools/fuzz.sh [SECONDS]
 #     tools/fuzz.sh HARNESS FILE
 #
-# There are six harnesses in tools/fuzz, and the head of each says what it checks: cuts (a stream read whole and in pieces), extended (the
+# There are seven harnesses in tools/fuzz, and the head of each says what it checks: cuts (a stream read whole and in pieces), extended (the
 # same for the extended parser, whose keys are encoded and read back and whose replies are read), calls (calls in any order, with requests
-# for memory refused), maps (a key map beside a plain one), keys (texts of keys, and what is sent for key reports) and names (names of chords,
-# read and printed). Each begins with the seeds of tools/fuzz/corpus. calls runs for two sevenths of the SECONDS (60 if left out), the others
-# for a seventh each. With a FILE it is run alone.
+# for memory refused), maps (a key map beside a plain one), keys (texts of keys, and what is sent for key reports), names (names of chords,
+# read and printed) and bindings (bindings of chords and a matcher beside plain ones). Each begins with the seeds of tools/fuzz/corpus. calls
+# runs for two eighths of the SECONDS (60 if left out), the others for an eighth each. With a FILE it is run alone.
 #
 # The harnesses are built with clang's checks of addresses and of undefined behaviour. The archive is compiled already and has no such
 # checks in it. So each argument lies beside a page that can't be touched, and each block of the library's memory between marks.
@@ -18,11 +18,11 @@
 set -u
 export LC_ALL=C
 . "$(dirname "$0")/common.sh"
-declare -A longest=([cuts]=600 [extended]=600 [calls]=400 [maps]=300 [keys]=48 [names]=160)
+declare -A longest=([cuts]=600 [extended]=600 [calls]=400 [maps]=300 [keys]=48 [names]=160 [bindings]=300)
 [ "${1-}" != --help ] || { show_help; exit; }
 if [ $# -lt 2 ]; then
     want_number "${1-60}" SECONDS
-    seventh=$(((${1-60} + 6) / 7))
+    eighth=$(((${1-60} + 7) / 8))
 else
     [ $# = 2 ] || refuse_word "$3"
     [ -n "${longest[$1]-}" ] || refuse_word "$1"
@@ -85,8 +85,8 @@ if [ $# = 2 ]; then
     rm -r "$kept"
 else
     sed '/^#/d; s/[^ ]\+/"&"/g; s/ /\n/g' tools/fuzz/tokens.txt > "$work/tokens"
-    for harness in cuts extended calls maps keys names; do
-        fuzz "$harness" "$([ "$harness" = calls ] && echo $((2 * seventh)) || echo "$seventh")"
+    for harness in cuts extended calls maps keys names bindings; do
+        fuzz "$harness" "$([ "$harness" = calls ] && echo $((2 * eighth)) || echo "$eighth")"
     done
     rmdir --ignore-fail-on-non-empty "$kept"
 fi

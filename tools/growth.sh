@@ -1,10 +1,11 @@
 #!/usr/bin/env bash
-# Counts the instructions and the memory of the parser, and checks that neither grows faster than what it reads.
+# Counts the instructions and the memory of the parser and of bindings, and checks that neither grows faster than what they read and have.
 #
 #     tools/growth.sh FEED          (make check-growth)
 #
-# tools/growth/growth.c reads texts in several ways, and tools/growth/judge.awk has the bounds. callgrind counts the instructions and a wrapped
-# malloc the memory, so that each run finds the same numbers.
+# tools/growth/growth.c reads texts in several ways, and tools/growth/judge.awk has the bounds. tools/growth/chords.c reads and prints names, binds
+# chords and looks them up, and tools/growth/chords.awk has the bounds. callgrind counts the instructions and a wrapped malloc the memory, so
+# that each run finds the same numbers. Only the seconds of binding and unbinding are measured.
 #
 # The C library is that of HEDRUGAL_LIBRARY, else of out/lib. FEED is a static library that calls parse_as_vec, which make builds of
 # tools/growth/feed.rt.txt. The last line is 'N passed, N failed', the status 1 if a case failed.
@@ -17,14 +18,24 @@ feed=$(realpath -- "$1") || exit
 enter
 
 # (Each loop that copies stays a loop.)
-run_quietly cc -std=c11 -O1 -g -fno-builtin -fno-tree-loop-distribute-patterns -Wall -Wextra -Werror -I"$library" \
-    -Wl,--wrap=malloc,--wrap=realloc,--wrap=free,--wrap=memcpy,--wrap=memmove,--wrap=memset -o "$work/growth" \
-    tools/growth/growth.c "$library/libhedrugal.a" "$feed" "$(dirname "$(rt doc)")/c/liblibc_c.a" || exit 1
+build() { # program words..
+    run_quietly cc -std=c11 -O1 -g -fno-builtin -fno-tree-loop-distribute-patterns -Wall -Wextra -Werror -I"$library" \
+        -Wl,--wrap=malloc,--wrap=realloc,--wrap=free -o "$work/$1" "tools/growth/$1.c" tools/growth/counts.c "$library/libhedrugal.a" "${@:2}"
+}
 
+# Runs a program, and prints what it prints of each task, with its instructions. Each call of `counted` ends with a file of its own.
+count() { # program
+    timeout 300 valgrind --quiet --tool=callgrind --toggle-collect=counted --dump-after=counted --callgrind-out-file="$work/$1.counts" \
+        "$work/$1" > "$work/$1.tasks" 2> "$work/$1.log" ||
+        { cat "$work/$1.log" >&2; echo 'growth: the count failed, or took over five minutes' >&2; return 1; }
+    seq -f "$work/$1.counts.%g" "$(wc -l < "$work/$1.tasks")" | xargs grep -hm 1 '^totals:\|^summary:' | cut -d ' ' -f 2 |
+        paste -d ' ' "$work/$1.tasks" -
+}
+
+build growth -Wl,--wrap=memcpy,--wrap=memmove,--wrap=memset "$feed" "$(dirname "$(rt doc)")/c/liblibc_c.a" && build chords || exit 1
 { timeout 60 "$work/growth" parsers && timeout 240 "$work/growth" long; } > "$work/others" &
-# Each call of `counted` ends with a file of its own.
-timeout 300 valgrind --quiet --tool=callgrind --toggle-collect=counted --dump-after=counted --callgrind-out-file="$work/counts" \
-    "$work/growth" > "$work/passes" 2> "$work/log" || { cat "$work/log" >&2; echo 'growth: the count failed, or took over five minutes' >&2; exit 1; }
-wait $! || exit 1
-seq -f "$work/counts.%g" "$(wc -l < "$work/passes")" | xargs grep -hm 1 '^totals:\|^summary:' | cut -d ' ' -f 2 |
-    paste -d ' ' "$work/passes" - | awk -f tools/growth/judge.awk - "$work/others"
+others=$!
+{ count chords && timeout 60 "$work/chords" figures; } > "$work/chords.all" &
+chords=$!
+count growth > "$work/passes" && wait $others && wait $chords || exit 1
+awk -f tools/growth/chords.awk -f tools/growth/judge.awk "$work/passes" "$work/others" "$work/chords.all"

@@ -5,8 +5,8 @@ Each parser has a program (tools/measure), which is built in a temporary folder,
 out/lib. It gets an input in reads of one size, and a flush at the end alone. The programs run in
 turn, and of each the least time counts. What is printed is what docs/PERFORMANCE.md has: when and
 where it was; nanoseconds per item of an input, which is a character, a key or a report; how many
-events each parser makes of an input, where these aren't its items; and what many parsers cost that
-get reads in turn.
+events each parser makes of an input, where these aren't its items; what many parsers cost that get
+reads in turn; and what names of keys, bindings and a matcher cost, from C.
 
 The parsers are C (InputParser), Legacy and Kitty (the extended parser under that protocol, from C),
 Rust and Python (InputParser), libtermkey, crossterm and prompt_toolkit. The last three are those of
@@ -87,6 +87,13 @@ class Builder:
         library = [f"-I{self.library}", f"{self.library}/libhedrugal.a"]
         return self.linked(*flags, f"{TOOLS}/hedrugal.c", *library)
 
+    def tasks(self):
+        """Those of tools/growth/chords.c, without its wrapped malloc."""
+        program, library = f"{self.work}/tasks", f"{self.library}/libhedrugal.a"
+        sources = [f"{TOP}/tools/growth/chords.c", f"{TOOLS}/counts.c"]
+        run("cc", "-O2", f"-I{self.library}", "-o", program, *sources, library)
+        return [program, "figures"]
+
     def cargo(self, manifest, *words):
         words = ["build", "--quiet", "--offline", "--release", "--manifest-path", manifest, *words]
         run("cargo", *words, HEDRUGAL_LIBRARY=self.library, CARGO_TARGET_DIR=self.work)
@@ -128,10 +135,24 @@ PARSERS = {
 OWN = "C with a table each"
 MANY = ["C", OWN, "Legacy", "Kitty", "libtermkey", "crossterm"]
 MANY_INPUTS, MANY_BYTES = ["keys", "csiu"], 1 << 15
+# The tasks of tools/growth/chords.c.
+TASKS = {
+    "read name": "to read the name `ctrl+x ctrl+s`",
+    "print name": "to print it",
+    "lookup one": "to look up a chord of one press, among 500",
+    "lookup two": "to look up a chord of two presses, among these",
+    "press one": "to read a press by a matcher, among these",
+    "lookup row": "to look up five bytes in a key map of all rows",
+    "bind rising": "to bind a chord, of 100,000 in rising order",
+    "lookup rising": "to look up a chord among these",
+    "unbind falling": "to unbind a chord of these, in falling order",
+    "bind drawn": "to bind a chord, of 10,000 in no order",
+    "unbind drawn": "to unbind a chord of these, in no order",
+}
 
 
 def build(chosen, work):
-    """Returns the programs, and why some couldn't be built."""
+    """Returns the programs, why some couldn't be built, and the words that carry tasks out."""
     progress("building the library")
     run("make", "-s", "library", f"LIBRARY={chosen.library or ''}")
     builder = Builder(f"{work}/built", chosen.library or f"{TOP}/out/lib")
@@ -146,7 +167,7 @@ def build(chosen, work):
             missing[name] = reason
     if "C" in programs:
         programs[OWN] = builder.from_c("-DOWN_TABLES")
-    return programs, missing
+    return programs, missing, builder.tasks() if "C" in programs else None
 
 
 class Input:
@@ -180,6 +201,25 @@ class Cell:
         """Those for each item. measure.c says how many bytes it gave."""
         size = self.numbers[2] if len(self.numbers) > 3 else self.given.size
         return self.numbers[0] / size * self.given.size / self.given.items
+
+
+class Tasks:
+    """The least nanoseconds of each task, a time, and its bytes of heap."""
+
+    def __init__(self, words):
+        self.words, self.costs = words, {}
+
+    def measure(self):
+        for line in run(*self.words).split("\n"):
+            name, of, _, *numbers = line.split()
+            times, heap, time = map(int, numbers)
+            task, cost = f"{name} {of}", (time / times, heap / times)
+            self.costs[task] = min(cost, self.costs.get(task, cost))
+
+    def rows(self):
+        for task, title in TASKS.items():
+            time, heap = self.costs[task]
+            yield [title, figure(time), f"{heap:.0f}" if task.startswith("bind") else ""]
 
 
 def where(chosen, programs):
@@ -233,7 +273,7 @@ def costs(many):
 
 def report(chosen, work):
     """Builds and measures, and returns the text."""
-    programs, missing = build(chosen, work)
+    programs, missing, words = build(chosen, work)
     size = chosen.kilobytes << 10
     inputs = {name: Input(work, name, size) for name in chosen.inputs or TITLES}
     cells = {}
@@ -244,9 +284,10 @@ def report(chosen, work):
     for it, count in itertools.product([it for it in MANY if it in programs], [1, *chosen.parsers]):
         given = [Input(work, name, size if count == 1 else MANY_BYTES) for name in MANY_INPUTS]
         many[it, count] = [Cell(programs[it], each, chosen.read, count) for each in given]
+    tasks = [Tasks(words)] if words else []
     for number in range(chosen.runs):
         progress(f"pass {number + 1} of {chosen.runs}")
-        for cell in [*cells.values(), *sum(many.values(), [])]:
+        for cell in [*cells.values(), *sum(many.values(), []), *tasks]:
             cell.measure()
 
     columns = chosen.only
@@ -261,6 +302,8 @@ def report(chosen, work):
         "## Many parsers",
         table(["Parser", "how many", *costs_of.split(", ")], costs(many)),
     ]
+    for it in tasks:
+        parts += ["## Names and bindings", table(["From C", "ns", "bytes of heap"], it.rows())]
     return "\n\n".join(parts)
 
 

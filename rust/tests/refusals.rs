@@ -5,8 +5,8 @@
 mod malloc;
 
 use hedrugal::extended::{
-    Chord, ExtendedEvent, ExtendedParser, KeyEventKind, KeyReport, KittyEncodeError,
-    KittyModifiers, Protocol, Reading, ReportedKey, StringKind,
+    BindErrorKind, Bindings, Chord, ExtendedEvent, ExtendedParser, KeyEventKind, KeyReport,
+    KittyEncodeError, KittyModifiers, Protocol, Reading, ReportedKey, StringKind,
 };
 use hedrugal::input::{
     AllocError, EncodeError, InputEvent, InputParser, KeyCode, KeyCodeEncodeModes, KeyboardEncoding,
@@ -248,6 +248,49 @@ fn prints_names_after_a_refusal() {
         }
         assert_eq!((refused, chord.to_string().as_str()), (1, name));
     }
+}
+
+// Makes bindings of some chords with one request refused, and makes a refused call again. A chord
+// that was unbound before leaves a place for a value. Returns how many refusals there were.
+fn bind_all(chords: &[Chord], number: usize) -> usize {
+    let ((bindings, told), refused) = refusing(number, || {
+        let mut told = 0;
+        let mut bindings = loop {
+            match Bindings::try_new() {
+                Ok(made) => break made,
+                Err(AllocError) => told += 1,
+            }
+        };
+        for (place, chord) in chords.iter().enumerate() {
+            while let Err(error) = bindings.try_bind(chord, place) {
+                let wanted = (BindErrorKind::Memory, place, place);
+                assert_eq!((error.kind, error.value, bindings.len()), wanted);
+                assert_eq!(bindings.lookup(chord), None);
+                told += 1;
+            }
+            assert_eq!(bindings.unbind(chord), Some(place));
+            while bindings.try_bind(chord, place).is_err() {
+                assert_eq!(bindings.len(), place);
+                told += 1;
+            }
+        }
+        (bindings, told)
+    });
+    assert_eq!(told, refused, "request {number}");
+    for (place, chord) in chords.iter().enumerate() {
+        assert_eq!(bindings.lookup(chord), Some(&place));
+    }
+    refused
+}
+
+// Chords are bound with each request refused in turn, the library's and this crate's.
+#[test]
+fn binds_after_a_refusal() {
+    let names = ["g g", "ctrl+x 4 f", "z", "a", "g", "ctrl+x 4 4 f", "b"];
+    let chords = names.map(|name| name.parse::<Chord>().unwrap());
+    assert_eq!(bind_all(&chords, 0), 0);
+    let granted = (1..).find(|number| bind_all(&chords, *number) == 0);
+    assert!(granted > Some(5), "{granted:?}");
 }
 
 // A parser with an open paste, which has the text `OPEN_TEXT` if it is ended.

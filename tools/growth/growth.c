@@ -7,6 +7,7 @@
  *     growth long        does the same over long texts
  *     growth parsers     makes many parsers that share one table, and prints how many bytes of memory each has in use: once they are made,
  *                        after a read of keys, and some of them after a long paste, once they gave memory back; and what is left of all */
+#include "counts.h"
 #include "hedrugal.h"
 #include <stdbool.h>
 #include <stdint.h>
@@ -18,47 +19,6 @@ bool parser_pass(const uint8_t *bytes, size_t length, size_t read, uint64_t *eve
 
 /* The longest text, a read, and the bytes of an open paste above which its text is taken in parts. */
 enum { LONGEST = 1 << 18, READ = 4096, LIMIT = 1 << 20, PARTED = LIMIT + 16 * READ };
-
-/* Memory: the C library's blocks. In front of each stands its size. */
-enum { FRONT = 16 };
-static struct { size_t in_use, most_in_use, largest; } memory;
-
-void *__real_malloc(size_t size);
-void __real_free(void *block);
-
-/* Notes that a block of one size took the place of another. */
-static void note(size_t before, size_t size) {
-  memory.in_use = memory.in_use - before + size;
-  if (memory.in_use > memory.most_in_use) memory.most_in_use = memory.in_use;
-}
-
-/* (NULL is a block of no bytes.) */
-static size_t size_of(const char *block) {
-  size_t size = 0;
-  if (block) memcpy(&size, block - FRONT, sizeof size);
-  return size;
-}
-
-void *__wrap_realloc(void *block, size_t size) {
-  size_t before = size_of(block);
-  if (size > memory.largest) memory.largest = size;
-  char *room = __real_malloc(FRONT + size);
-  if (!room) return NULL;
-  memcpy(room, &size, sizeof size);
-  if (block) memcpy(room + FRONT, block, before < size ? before : size);
-  note(before, size);
-  if (block) __real_free((char *)block - FRONT);
-  return room + FRONT;
-}
-
-void *__wrap_malloc(size_t size) {
-  return __wrap_realloc(NULL, size);
-}
-
-void __wrap_free(void *block) {
-  note(size_of(block), 0);
-  if (block) __real_free((char *)block - FRONT);
-}
 
 /* Copies, which the C library makes in other ways for other lengths: here each byte takes the same instructions. */
 void *__wrap_memcpy(void *to, const void *from, size_t length) {
@@ -121,12 +81,6 @@ static void fill(const struct text *it) {
   size_t at = put(0, it->start);
   for (size_t part = 0; at < LONGEST; part = it->parts[part + 1] ? part + 1 : 0)
     for (size_t i = 0; i < it->times[part]; i++) at = put(at, it->parts[part]);
-}
-
-static void want(bool is_so) {
-  if (is_so) return;
-  fprintf(stderr, "growth: memory was refused, or a read had no event; the largest request was of %zu bytes\n", memory.largest);
-  exit(1);
 }
 
 /* The calls by which events are taken, and what they are called. */
@@ -199,16 +153,16 @@ static void pass_by_steps(struct pass *pass) {
   CALL(&it, free);
 }
 
-/* What is counted. */
-__attribute__((noinline)) void counted(struct pass *pass) {
+static void make_pass(void *it) {
+  struct pass *pass = it;
   if (pass->way == PARSE_AS_VEC) pass_as_vec(pass);
   else pass_by_steps(pass);
 }
 
 static void show(const char *name, enum way way, size_t read, size_t length) {
   struct pass pass = { length, read, way, 0, 0 };
-  memory.in_use = memory.most_in_use = memory.largest = 0;
-  counted(&pass);
+  memory.in_use = 0;
+  counted(make_pass, &pass);
   printf("%s %s %zu %zu %llu ", way_names[way], name, read, length, (unsigned long long)pass.events);
   printf("%zu %zu %zu\n", pass.longest, memory.most_in_use, memory.largest);
 }
