@@ -1,13 +1,14 @@
-"""Which press is read of what `encode` writes, for every key and every set of four modifiers.
+"""Which press is read of what `encode` writes, for every key and every set of four modifiers, and of
+what `encode_kitty` writes as before Kitty's protocol.
 
-Most keys are read as themselves. The others are read as their twins, by the table of
-crates/termwiz_binding_laws/README.md, which `twin` follows line by line. The laws of that crate say
-the same of the definitions. Here the library encodes, reads and names the press, and the plain
-model of presses says what it should be."""
+Most keys are read as themselves. The others are read as their twins, by the tables of
+crates/termwiz_binding_laws/README.md, which `twin` and `legacy_twin` follow line by line. The laws
+of that crate say the same of the definitions. Here the library encodes, reads and names the press,
+and the plain model of presses says what it should be."""
 import itertools
 
 import pytest
-from presses import ALT, CTRL, SHIFT, SUPER, canonical
+from presses import ALT, CTRL, KITTY_NAMES, MAIN_KEYS, NO_PRESS, SHIFT, SUPER, canonical
 
 # What is read in place of Ctrl and a character.
 CONTROL = {it: ("backspace", 0) for it in "h8?"} | {"i": ("tab", 0)}
@@ -122,3 +123,87 @@ def test_twins(encoding, level):
                 continue
             case = (name, held, on, text)
             assert (case, read(parser, text)) == (case, pressed)
+
+
+# The sets of modifiers in the columns of Kitty's tables, and which of them text keys have.
+COLUMNS = {0, CTRL, ALT, SHIFT, SHIFT | CTRL, SHIFT | ALT, CTRL | ALT}
+OF_TEXT_KEYS = {ALT, CTRL, CTRL | ALT, SHIFT | ALT}
+TEXT_KEYS = {chr(code) for code in range(33, 127)} - {chr(code) for code in range(65, 91)}
+CONTROLS = ("enter", "tab", "backspace")
+UNCHANGED_BY_CTRL = "`{|}"
+
+
+def legacy_twin(key, held, shifted):
+    """The key, the modifiers and what it types with Shift, as they are read of Kitty's tables."""
+    if key in ("enter", "escape", "backspace"):
+        return key, held & ALT, None
+    if key == "tab":
+        return key, held & ~CTRL, None
+    if key == "applications":
+        return "f16", held, None
+    if key == " ":
+        return key, held & ~SHIFT, None
+    if len(key) > 1 or not held & CTRL:
+        return key, held, shifted
+    if key in CONTROL and key not in UNCHANGED_BY_CTRL:
+        named, control = CONTROL[key]
+        return named, control | held & ALT, None
+    return key, held if key in HAS_CONTROL else held & ALT, None
+
+
+def is_of_tables(key, held, shifted):
+    if key in (" ", "escape", *CONTROLS):
+        return held in COLUMNS
+    if key in TEXT_KEYS and held == SHIFT | ALT:
+        return "a" <= key <= "z" or shifted is not None and shifted.isprintable()
+    if key in TEXT_KEYS:
+        return held in OF_TEXT_KEYS
+    return key == "applications" or key in ("f1", "f2", "f3", "f4") and held == 0
+
+
+def read_before(key, held, flags, is_repeat, shifted, text):
+    """What is read of a key before Kitty's protocol, and whether its modifiers are told to Kitty's
+    parser alone."""
+    main = MAIN_KEYS.get(key, key)
+    if not held & ~SHIFT and (text or len(str(main)) == 1) or main in CONTROLS and not held:
+        typed = canonical(key, held, text, shifted)
+        return (" ", 0) if typed[0] == " " else typed, False
+    if not (is_repeat and flags & 2) and is_of_tables(main, held, shifted):
+        twin_key, twin_held, twin_shifted = legacy_twin(main, held, shifted)
+        return canonical(twin_key, twin_held, "", twin_shifted), main == "applications" and held > 7
+    return canonical(key, held, "", shifted if flags & 4 else None), True
+
+
+def kitty_keys():
+    from hedrugal import Function, KeyCode
+
+    names = {plain_name(it): it for it in KeyCode}
+    numbers = [it for it in range(57344, 57500) if it not in KITTY_NAMES]
+    found = [names[it] for it in KITTY_NAMES.values() if it in names]
+    found += [KeyCode[it] for it in NAMES.split()[:11] + NAMES.split()[11:15]]
+    return CHARACTERS + [*dict.fromkeys(found)] + [Function(it) for it in range(1, 36)] + numbers
+
+
+@pytest.mark.parametrize("flags", [0, 2, 4, 16, 6, 18, 20, 22])
+def test_before_kitty(flags):
+    from hedrugal import ExtendedParser, Protocol
+    from hedrugal.extended import KeyEventKind, KeyReport, KittyKeyboardFlags, KittyModifiers
+
+    parsers = [ExtendedParser(Protocol.KITTY), ExtendedParser()]
+    kinds = [KeyEventKind.PRESS, KeyEventKind.REPEAT]
+    for key, held, locks, kind in itertools.product(kitty_keys(), range(64), [0, 192], kinds):
+        name = plain_name(key)
+        is_character = len(str(name)) == 1
+        for shifted, text in [(None, ""), ("!", ""), ("\u042f", ""), ("\x9f", ""), (None, "\u044f")]:
+            if shifted is not None and not (is_character and held & SHIFT) or text and not is_character:
+                continue
+            report = KeyReport(key, KittyModifiers(held | locks), kind, shifted, None, text)
+            sent = report.encode(KittyKeyboardFlags(flags))
+            if name in NO_PRESS:
+                assert sent == b""
+                continue
+            is_repeat = kind is KeyEventKind.REPEAT
+            press, needs_kitty = read_before(name, held, flags, is_repeat, shifted, text)
+            for parser in parsers[:1] if needs_kitty else parsers:
+                case = (name, held, locks, shifted, text, sent)
+                assert (case, read(parser, sent)) == (case, [press])

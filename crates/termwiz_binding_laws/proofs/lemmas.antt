@@ -13,8 +13,11 @@ pub mod NewlineEnters
 pub mod OtherCodes
 pub mod OwnTwins
 pub mod PortPresses
+pub mod PressesBefore
 pub mod Readers
 pub mod RowReports
 pub mod SameTexts
+pub mod ToldKeys
+pub mod TwinTexts
 pub mod WideCharacters
 pub mod WidePresses

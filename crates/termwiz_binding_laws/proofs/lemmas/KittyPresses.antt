@@ -10,7 +10,7 @@ use Rattle.termwiz_kitty.proofs.lemmas.SentPresses.Sent.{as_text, as_report}
 use Rattle.termwiz_bindings.specs.declared.press.KeyPress.{KeyPress}
 use Rattle.termwiz_bindings.specs.Presses.{canonical}
 use Rattle.termwiz_binding_laws.specs.KittyPresses.{space_alone, is_sent_as_text, told_of, IsPressed, IsReadWith, IsReadAsTold, KittyTellsPresses, KittyKeepsPresses}
-use Rattle.termwiz_binding_laws.proofs.lemmas.KittyReports.{report_tells, reports_keys, all_told}
+use Rattle.termwiz_binding_laws.proofs.lemmas.KittyReports.{own_key, report_tells, reports_keys, all_told}
 use Rattle.termwiz_binding_laws.proofs.lemmas.KittyTyped.{text_keeps}
 
 -- the key is sent as its report
@@ -37,7 +37,7 @@ read_as_told r flags p is reports tells reading text more kitty writes some with
         let told : is_sent_as_text r flags ≡ false = not_as_text (tells_all_keys flags) (types r.key r) unless in (
           Key (reported r flags),
           means,
-          report_tells r flags is reports ∙ tells unless
+          report_tells r flags r.key (own_key r flags reports) is ∙ tells unless
               ∙ ap (λ b. if b then option_map space_alone (canonical r) else p) (sym told),
         )
 
