@@ -8,7 +8,7 @@ and the plain model of presses says what it should be."""
 import itertools
 
 import pytest
-from presses import ALT, CTRL, KITTY_NAMES, MAIN_KEYS, NO_PRESS, SHIFT, SUPER, canonical
+from presses import ALT, CTRL, KITTY_NAMES, MAIN_KEYS, NO_PRESS, SHIFT, SUPER, canonical, is_control
 
 # What is read in place of Ctrl and a character.
 CONTROL = {it: ("backspace", 0) for it in "h8?"} | {"i": ("tab", 0)}
@@ -165,7 +165,8 @@ def read_before(key, held, flags, is_repeat, shifted, text):
     """What is read of a key before Kitty's protocol, and whether its modifiers are told to Kitty's
     parser alone."""
     main = MAIN_KEYS.get(key, key)
-    if not held & ~SHIFT and (text or len(str(main)) == 1) or main in CONTROLS and not held:
+    types = len(str(main)) == 1 and not is_control(main)
+    if not held & ~SHIFT and (text or types) or main in CONTROLS and not held:
         typed = canonical(key, held, text, shifted)
         return (" ", 0) if typed[0] == " " else typed, False
     if not (is_repeat and flags & 2) and is_of_tables(main, held, shifted):
@@ -181,7 +182,8 @@ def kitty_keys():
     numbers = [it for it in range(57344, 57500) if it not in KITTY_NAMES]
     found = [names[it] for it in KITTY_NAMES.values() if it in names]
     found += [KeyCode[it] for it in NAMES.split()[:11] + NAMES.split()[11:15]]
-    return CHARACTERS + [*dict.fromkeys(found)] + [Function(it) for it in range(1, 36)] + numbers
+    characters = [it for it in CHARACTERS if it != "\ue000"]  # Kitty's number of a functional key.
+    return characters + [*dict.fromkeys(found)] + [Function(it) for it in range(1, 36)] + numbers
 
 
 @pytest.mark.parametrize("flags", [0, 2, 4, 16, 6, 18, 20, 22])

@@ -110,8 +110,8 @@ needs_kitty r flags =
 
 -- Without flags 1 and 8 what a terminal writes, if it writes something, is read as one event of that press. That is so under every reading, or
 -- under Kitty's protocol where only it tells the modifiers. Of a text of the tables it is said with no more to come.
-abbrev pub KittyPressesBefore : Type 0
-KittyPressesBefore = (reading : Reading) (r : KeyReport) (flags : ℕ) (text : List ℕ) (more : Bool) → IsPressed r → is_legacy flags ≡ true
+abbrev pub PressesBeforeKitty : Type 0
+PressesBeforeKitty = (reading : Reading) (r : KeyReport) (flags : ℕ) (text : List ℕ) (more : Bool) → IsPressed r → is_legacy flags ≡ true
     → (needs_kitty r flags ≡ true → reading.protocol ≡ Kitty) → (more ≡ true → is_in_tables r flags ≡ false)
     → kitty_text r flags ≡ Some text → text ≢ [] → IsWithin r flags text
     → IsReadWith reading text more (press_before r flags)

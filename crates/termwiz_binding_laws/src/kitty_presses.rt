@@ -1,5 +1,5 @@
 //! Laws of presses and Kitty's protocol: what a terminal writes for a press is read as that press.
-ghost use Rattle.termwiz_binding_laws.specs.KittyPresses.{KittyKeepsPresses, KittyPressesBefore, KittyTellsPresses};
+ghost use Rattle.termwiz_binding_laws.specs.KittyPresses.{KittyKeepsPresses, KittyTellsPresses, PressesBeforeKitty};
 
 /// What `encode_kitty` writes for a press or a repeat, if it writes something, is read as one event of the same press. With it a program
 /// asks for flags 1 and 4, and for 16 too if it asks for 8. The press is one that a terminal can write. Its text is at most one character,
@@ -20,6 +20,6 @@ pub fn kitty_tells_presses()
 /// as one event. If it is a text of the tables from before the protocol, with no more to come, this has the press of the key's twin:
 /// `legacy_twin` is the key itself, but for the keys that these texts don't tell apart. A text that the key types has the press of the
 /// key, where shift+space is the space. A report, which is read under Kitty's protocol alone, has the press of what it tells.
-pub fn kitty_presses_before()
-    ensures { KittyPressesBefore }
+pub fn presses_before_kitty()
+    ensures { PressesBeforeKitty }
 {}

@@ -1,7 +1,7 @@
 -- What is written as before Kitty's protocol is read as the press of the key, of its twin, or of what a report tells.
-use Rattle.std.proofs.Common.{◌≡◌, ◌≢◌, ◌∙◌, ℕ, ◌<◌, Bool, true, false, not, List, [], ◌∷◌, Option, Some, None, refl, sym, ap, subst, arith, ◌&&◌, nat_le}
+use Rattle.std.proofs.Common.{◌≡◌, ◌≢◌, ◌∙◌, ℕ, ◌<◌, Bool, true, false, not, List, [], Option, Some, None, refl, sym, ap, subst, arith, ◌&&◌, nat_le}
 use Rattle.std.specs.Prelude.{is_some, option_map, if◌then◌else◌}
-use Rattle.std.proofs.lemmas.Bool.{and_parts, and_right}
+use Rattle.std.proofs.lemmas.Bool.{and_parts, and_right, not-true}
 use Rattle.std.proofs.lemmas.Nat.{and_le_r}
 use Rattle.termwiz_keys.specs.KeyCodes.{holds}
 use Rattle.termwiz_keys.specs.declared.types.KeyCode.TheVariants.{Char, Tab, Backspace}
@@ -20,10 +20,10 @@ use Rattle.termwiz_kitty.specs.KittyLaws.{typed_events}
 use Rattle.termwiz_kitty.proofs.lemmas.read_back.SequencesMean.{kitty_read_back}
 use Rattle.termwiz_kitty.proofs.lemmas.typed.TypedTexts.{typed_read_back}
 use Rattle.termwiz_bindings.specs.Presses.{canonical}
-use Rattle.termwiz_binding_laws.specs.KittyPresses.{IsPressed, IsReadWith, space_alone, told_of, held_before, is_in_tables, press_before, is_applications, needs_kitty}
+use Rattle.termwiz_binding_laws.specs.KittyPresses.{PressesBeforeKitty, IsPressed, IsReadWith, space_alone, told_of, held_before, is_in_tables, press_before, is_applications, needs_kitty}
 use Rattle.termwiz_binding_laws.specs.LegacyTwins.{legacy_twin}
 use Rattle.termwiz_binding_laws.proofs.lemmas.KittyReports.{report_tells}
-use Rattle.termwiz_binding_laws.proofs.lemmas.KittyTyped.{text_keeps}
+use Rattle.termwiz_binding_laws.proofs.lemmas.KittyTyped.{kept_read, text_keeps}
 use Rattle.termwiz_binding_laws.proofs.lemmas.ToldKeys.{same_key_press, main_alike, told, told_pressed, main_is_normal}
 use Rattle.termwiz_binding_laws.proofs.lemmas.TwinTexts.{text_before, twin_read}
 
@@ -38,10 +38,6 @@ some_is None e = cc (e)
 none_is : {A : Type 0} (o : Option A) → is_some o ≡ false → o ≡ None
 none_is (Some a) e = cc (e)
 none_is None e = refl
-
-not_true : (b : Bool) → not b ≡ true → b ≡ false
-not_true false e = refl
-not_true true e = cc (e)
 
 -- what a key types by itself is the same of its report with another key
 typed_same : (key k : ReportedKey) (r : KeyReport) → typed_by key (record r { key = k }) ≡ typed_by key r
@@ -65,7 +61,7 @@ module _ (reading : Reading) (r : KeyReport) (flags : ℕ) (text : List ℕ) (mo
   press_told = same_key_press r (main_key r.key) (main_alike r.key)
 
   not_all : tells_all_keys flags ≡ false
-  not_all = not_true (tells_all_keys flags) (and_parts (not (holds flags DISAMBIGUATE)) (not (tells_all_keys flags)) before).1
+  not_all = not-true (tells_all_keys flags) (and_parts (not (holds flags DISAMBIGUATE)) (not (tells_all_keys flags)) before).1
 
   small : held_before r < 64
   small = omega (arith, and_le_r r.modifiers 63)
@@ -88,16 +84,15 @@ module _ (reading : Reading) (r : KeyReport) (flags : ℕ) (text : List ℕ) (mo
     typed types' =
         let written : Some (typed_text (told_key r flags) r) ≡ Some text = rw (before, is.kept, sent, types', no_control, not_all) at writes in
         let same : typed_text (told_key r flags) r ≡ text = cc (written) in
-        let kept = text_keeps (told r) (told_pressed r is) text types'
-        (sym same ∙ ap (λ k. typed_text k r) key_told ∙ typed_text_same (main_key r.key) (main_key r.key) r) in
+        let is_text : text ≡ typed_text (main_key r.key) (told r) =
+        sym same ∙ ap (λ k. typed_text k r) key_told ∙ typed_text_same (main_key r.key) (main_key r.key) r in
         let means : Means reading text more (typed_events (main_key r.key) r text) [] =
         subst (λ k. Means reading text more (typed_events k r text) []) key_told
         (typed_read_back reading r flags text more is.report (rw (before, is.kept, sent, types', no_control, not_all) refl) writes) in
-        let press : press_before r flags ≡ option_map space_alone (canonical r) = rw (before, types') refl in (
-          kept.0,
-          subst (λ events. Means reading text more events []) kept.1 means,
-          kept.2 ∙ ap (option_map space_alone) press_told ∙ sym press,
-        )
+        let press : press_before r flags ≡ option_map space_alone (canonical r) = rw (before, types') refl in
+        subst (IsReadWith reading text more) (ap (option_map space_alone) press_told ∙ sym press)
+        (kept_read reading (told r) (typed_events (main_key r.key) r text) text more (text_keeps (told r) (told_pressed r is) text types' is_text)
+        means)
 
     -- what is told is a report, of this press
     report_press : canonical (reported r flags) ≡ canonical (told_of r flags)
@@ -148,7 +143,7 @@ module _ (reading : Reading) (r : KeyReport) (flags : ℕ) (text : List ℕ) (mo
           let last : more ≡ false = never_true more (λ comes. sym listed ∙ tables comes) in
           let read = twin_read reading r.shifted text some (main_key r.key) (held_before r) (main_is_normal r.key is.writable.normal) small
           is.report.shifted_is (λ told. kitty (needs ∙ told)) (same ∙ writes) in
-          (read.0, subst (λ b. Means reading text b (read.0 ∷ []) []) (sym last) read.1, read.2 ∙ sym own)
+          subst (λ b. IsReadWith reading text b (press_before r flags)) (sym last) (subst (IsReadWith reading text false) (sym own) read)
 
     by_kind : (t : Bool) → types (main_key r.key) r ≡ t → (p : Bool) → is_press (told_kind flags r.kind) ≡ p
         → (b : Bool) → is_some (legacy_text (main_key r.key) (held_before r) r.shifted) ≡ b → Read
@@ -162,5 +157,9 @@ module _ (reading : Reading) (r : KeyReport) (flags : ℕ) (text : List ℕ) (mo
   found false e = by_kind e (types (main_key r.key) r) refl (is_press (told_kind flags r.kind)) refl
       (is_some (legacy_text (main_key r.key) (held_before r) r.shifted)) refl
 
-  pub kitty_presses_before : Read
-  kitty_presses_before = found (is_silent_modifier r flags) refl
+  is_read : Read
+  is_read = found (is_silent_modifier r flags) refl
+
+pub presses_before_kitty : PressesBeforeKitty
+presses_before_kitty reading r flags text more is before kitty tables writes some within =
+    is_read reading r flags text more is before kitty tables writes some within

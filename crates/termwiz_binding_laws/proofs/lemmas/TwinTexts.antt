@@ -5,7 +5,7 @@ use Rattle.std.specs.List.{AllByRecursion, list_all}
 use Rattle.std.specs.Fmt.{digits}
 use Rattle.std.specs.Char.{encode_utf8, is_control, is_ascii_alphanumeric, is_ascii_punctuation}
 use Rattle.std.proofs.Math.Utf8.{low_scalar}
-use Rattle.std.proofs.lemmas.Bool.{and_parts, eqb-true}
+use Rattle.std.proofs.lemmas.Bool.{and_parts, eqb-true, not-true}
 use Rattle.std.proofs.lemmas.Bool.Decides.{nat_tests}
 use Rattle.std.proofs.lemmas.List.Sums.{AllPass-from_list_all}
 use Rattle.std.proofs.lemmas.List.Elements.{All-contains}
@@ -117,11 +117,7 @@ is_covered (Char c) e =
 is_covered Backspace e = tt
 is_covered Tab e = tt
 is_covered (Function n) e = tt
-is_covered key e = cc (e)
-
-not_true : (b : Bool) → not b ≡ true → b ≡ false
-not_true false e = refl
-not_true true e = cc (e)
+is_covered key e = cc
 
 record IsSource (p : Held) : Type 0 where
   covered : IsCovered p.0
@@ -137,8 +133,8 @@ sourced p e =
     record {
       covered = is_covered p.0 first.0;
       set = among_contains any_of_four p.1 first.1;
-      newline = not_true (is_newline p.0 p.1 xterm_modes) third.1;
-      apart = not_true (is_position p.0 p.1) last.1;
+      newline = not-true (is_newline p.0 p.1 xterm_modes) third.1;
+      apart = not-true (is_position p.0 p.1) last.1;
     }
 
 abbrev sent_by_port : Held → Option (List ℕ)
