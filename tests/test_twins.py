@@ -186,15 +186,15 @@ def kitty_keys():
     return characters + [*dict.fromkeys(found)] + [Function(it) for it in range(1, 36)] + numbers
 
 
-@pytest.mark.parametrize("flags", [0, 2, 4, 16, 6, 18, 20, 22])
+@pytest.mark.parametrize("flags", [0, 2, 4, 16, 22])
 def test_before_kitty(flags):
     from hedrugal import ExtendedParser, Protocol
     from hedrugal.extended import KeyEventKind, KeyReport, KittyKeyboardFlags, KittyModifiers
 
     parsers = [ExtendedParser(Protocol.KITTY), ExtendedParser()]
     kinds = [KeyEventKind.PRESS, KeyEventKind.REPEAT]
-    for key, held, locks, kind in itertools.product(kitty_keys(), range(64), [0, 192], kinds):
-        name = plain_name(key)
+    for key, held, kind in itertools.product(kitty_keys(), range(64), kinds):
+        name, locks = plain_name(key), (held * 64) & 192
         is_character = len(str(name)) == 1
         for shifted, text in [(None, ""), ("!", ""), ("\u042f", ""), ("\x9f", ""), (None, "\u044f")]:
             if shifted is not None and not (is_character and held & SHIFT) or text and not is_character:
