@@ -1,5 +1,5 @@
-"""Which press is read of what `encode` writes, for every key and every set of four modifiers, and of
-what `encode_kitty` writes as before Kitty's protocol.
+"""Which press is read of what `encode` writes, for every key and every set of four modifiers, and
+of what `encode_kitty` writes as before Kitty's protocol.
 
 Most keys are read as themselves. The others are read as their twins, by the tables of
 crates/termwiz_binding_laws/README.md, which `twin` and `legacy_twin` follow line by line. The laws
@@ -87,13 +87,16 @@ def keys():
     return CHARACTERS + named + [Function(number) for number in range(1, 25)]
 
 
-def read(parser, text):
-    """The presses of a text with no more to come."""
+def presses(events):
     from hedrugal.extended import KeyPress
 
-    events = [*parser.parse(text), *parser.flush()]
     found = [KeyPress.of_event(it) for it in events]
     return [it and (plain_name(it.key), it.held.value) for it in found]
+
+
+def read(parser, text):
+    """The presses of a text with no more to come."""
+    return presses([*parser.parse(text), *parser.flush()])
 
 
 def is_unknown_to_port(key, held, level):
@@ -131,6 +134,8 @@ OF_TEXT_KEYS = {ALT, CTRL, CTRL | ALT, SHIFT | ALT}
 TEXT_KEYS = {chr(code) for code in range(33, 127)} - {chr(code) for code in range(65, 91)}
 CONTROLS = ("enter", "tab", "backspace")
 UNCHANGED_BY_CTRL = "`{|}"
+# The presses whose texts wait for more.
+WAITING = {("escape", 0), ("escape", ALT), *((it, ALT) for it in "[OP]_")}
 
 
 def legacy_twin(key, held, shifted):
@@ -186,26 +191,37 @@ def kitty_keys():
     return characters + [*dict.fromkeys(found)] + [Function(it) for it in range(1, 36)] + numbers
 
 
+def kitty_reports(key, kind):
+    """The reports of a key, with each set of modifiers, and what a character's key may have."""
+    from hedrugal.extended import KeyReport, KittyModifiers
+
+    is_character = len(str(plain_name(key))) == 1
+    for held in range(64):
+        modifiers = KittyModifiers(held | (held * 64) & 192)
+        yield held, KeyReport(key, modifiers, kind)
+        if is_character:
+            yield held, KeyReport(key, modifiers, kind, text="\u044f")
+        for shifted in "!\u042f\x9f" if is_character and held & SHIFT else "":
+            yield held, KeyReport(key, modifiers, kind, shifted)
+
+
 @pytest.mark.parametrize("flags", [0, 2, 4, 16, 22])
 def test_before_kitty(flags):
     from hedrugal import ExtendedParser, Protocol
-    from hedrugal.extended import KeyEventKind, KeyReport, KittyKeyboardFlags, KittyModifiers
+    from hedrugal.extended import KeyEventKind, KittyKeyboardFlags
 
     parsers = [ExtendedParser(Protocol.KITTY), ExtendedParser()]
-    kinds = [KeyEventKind.PRESS, KeyEventKind.REPEAT]
-    for key, held, kind in itertools.product(kitty_keys(), range(64), kinds):
-        name, locks = plain_name(key), (held * 64) & 192
-        is_character = len(str(name)) == 1
-        for shifted, text in [(None, ""), ("!", ""), ("\u042f", ""), ("\x9f", ""), (None, "\u044f")]:
-            if shifted is not None and not (is_character and held & SHIFT) or text and not is_character:
-                continue
-            report = KeyReport(key, KittyModifiers(held | locks), kind, shifted, None, text)
+    for key, kind in itertools.product(kitty_keys(), [KeyEventKind.PRESS, KeyEventKind.REPEAT]):
+        name, is_repeat = plain_name(key), kind is KeyEventKind.REPEAT
+        for held, report in kitty_reports(key, kind):
             sent = report.encode(KittyKeyboardFlags(flags))
             if name in NO_PRESS:
                 assert sent == b""
                 continue
-            is_repeat = kind is KeyEventKind.REPEAT
-            press, needs_kitty = read_before(name, held, flags, is_repeat, shifted, text)
+            told = report.shifted, report.text
+            press, needs_kitty = read_before(name, held, flags, is_repeat, *told)
             for parser in parsers[:1] if needs_kitty else parsers:
-                case = (name, held, locks, shifted, text, sent)
-                assert (case, read(parser, sent)) == (case, [press])
+                found = presses(parser.parse(sent))
+                if press in WAITING:
+                    found += presses(parser.flush())
+                assert (report, sent, found) == (report, sent, [press])

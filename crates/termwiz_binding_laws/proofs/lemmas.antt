@@ -1,4 +1,5 @@
 pub mod AsciiPresses
+pub mod AtOnce
 pub mod BeginKey
 pub mod ComputedPresses
 pub mod EncodedKeys

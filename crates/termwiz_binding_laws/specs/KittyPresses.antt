@@ -1,7 +1,8 @@
 -- What is read of the texts of Kitty's protocol, as presses.
-use Rattle.std.specs.Prelude.{◌≡◌, ◌≢◌, ◌⊎◌, ⊤, ◌==◌, ◌&&◌, ℕ, Bool, true, false, not, List, [], ◌∷◌, nat_le, Option, Some, None, is_some, option_map, if◌then◌else◌}
+use Rattle.std.specs.Prelude.{◌≡◌, ◌≢◌, ◌⊎◌, ⊤, ◌==◌, ◌&&◌, ℕ, Bool, true, false, not, List, [], ◌∷◌, map, nat_le, Option, Some, None, is_some, option_map, if◌then◌else◌, Contains}
 use Rattle.std.specs.Char.{is_ascii_lowercase}
 use Rattle.std.specs.Str.{chars}
+use Rattle.termwiz_keys.specs.declared.types.KeyCode.{KeyCode}
 use Rattle.termwiz_keys.specs.declared.types.KeyCode.TheVariants.{Applications}
 use Rattle.termwiz_keys.specs.KeyCodes.{holds}
 use Rattle.termwiz_extended_events.specs.declared.types.ExtendedEvent.{ExtendedEvent}
@@ -14,7 +15,7 @@ use Rattle.termwiz_extended_grammar.specs.ExtendedGrammar.{Means}
 use Rattle.termwiz_kitty.specs.KeyForms.{is_character}
 use Rattle.termwiz_kitty.specs.Telling.{DISAMBIGUATE, ALTERNATE_KEYS, ALL_KEYS, ASSOCIATED_TEXT, is_release, without_locks, is_legacy, told_key, tells_all_keys, types, legacy_of}
 use Rattle.termwiz_kitty.specs.KittyTexts.{kitty_text, IsWithin}
-use Rattle.termwiz_kitty.specs.KittyLaws.{IsReport, IsWritable}
+use Rattle.termwiz_kitty.specs.KittyLaws.{IsReport, IsWritable, keys_that_wait}
 use Rattle.termwiz_bindings.specs.declared.press.KeyPress.{KeyPress}
 use Rattle.termwiz_bindings.specs.Presses.{SHIFT, canonical, character, character_press, by_character}
 use Rattle.termwiz_binding_laws.specs.EncodedPresses.{press_of_event}
@@ -96,6 +97,10 @@ press_before r flags =
     else (if is_in_tables r flags then canonical (legacy_twin (told_key r flags) (held_before r) r.shifted)
     else canonical (told_of r flags))
 
+-- the press of a key that has its name, with these modifiers
+abbrev pub key_press : KeyCode → ℕ → KeyPress
+key_press key held = record { key = Named key; held = held }
+
 -- Applications, which sends its modifiers behind a number
 abbrev pub is_applications : ReportedKey → Bool
 is_applications (Named Applications) = true
@@ -108,10 +113,15 @@ needs_kitty r flags =
     else (if is_in_tables r flags then is_applications (told_key r flags) && nat_le 8 (held_before r)
     else true)
 
+-- The presses whose texts begin sequences or strings: Escape, and Escape, [ O P ] and _ with ALT.
+abbrev pub presses_that_wait : List (Option KeyPress)
+presses_that_wait = map (λ (k : KeyCode × ℕ). Some (key_press k.0 k.1)) keys_that_wait
+
 -- Without flags 1 and 8 what a terminal writes, if it writes something, is read as one event of that press. That is so under every reading, or
--- under Kitty's protocol where only it tells the modifiers. Of a text of the tables it is said with no more to come.
+-- under Kitty's protocol where only it tells the modifiers. With more to come nothing is said of those presses, if they have texts of the
+-- tables.
 abbrev pub PressesBeforeKitty : Type 0
 PressesBeforeKitty = (reading : Reading) (r : KeyReport) (flags : ℕ) (text : List ℕ) (more : Bool) → IsPressed r → is_legacy flags ≡ true
-    → (needs_kitty r flags ≡ true → reading.protocol ≡ Kitty) → (more ≡ true → is_in_tables r flags ≡ false)
+    → (needs_kitty r flags ≡ true → reading.protocol ≡ Kitty) → (more ≡ true → is_in_tables r flags ≡ true → ¬ Contains presses_that_wait (press_before r flags))
     → kitty_text r flags ≡ Some text → text ≢ [] → IsWithin r flags text
     → IsReadWith reading text more (press_before r flags)

@@ -1,5 +1,5 @@
 -- What is written as before Kitty's protocol is read as the press of the key, of its twin, or of what a report tells.
-use Rattle.std.proofs.Common.{◌≡◌, ◌≢◌, ◌∙◌, ℕ, ◌<◌, Bool, true, false, not, List, [], Option, Some, None, refl, sym, ap, subst, arith, ◌&&◌, nat_le}
+use Rattle.std.proofs.Common.{Contains, ◌≡◌, ◌≢◌, ◌∙◌, ℕ, ◌<◌, Bool, true, false, not, List, [], Option, Some, None, refl, sym, ap, subst, arith, ◌&&◌, nat_le}
 use Rattle.std.specs.Prelude.{is_some, option_map, if◌then◌else◌}
 use Rattle.std.proofs.lemmas.Bool.{and_parts, and_right, not-true}
 use Rattle.std.proofs.lemmas.Nat.{and_le_r}
@@ -20,16 +20,12 @@ use Rattle.termwiz_kitty.specs.KittyLaws.{typed_events}
 use Rattle.termwiz_kitty.proofs.lemmas.read_back.SequencesMean.{kitty_read_back}
 use Rattle.termwiz_kitty.proofs.lemmas.typed.TypedTexts.{typed_read_back}
 use Rattle.termwiz_bindings.specs.Presses.{canonical}
-use Rattle.termwiz_binding_laws.specs.KittyPresses.{PressesBeforeKitty, IsPressed, IsReadWith, space_alone, told_of, held_before, is_in_tables, press_before, is_applications, needs_kitty}
+use Rattle.termwiz_binding_laws.specs.KittyPresses.{PressesBeforeKitty, IsPressed, IsReadWith, space_alone, told_of, held_before, is_in_tables, press_before, is_applications, needs_kitty, presses_that_wait}
 use Rattle.termwiz_binding_laws.specs.LegacyTwins.{legacy_twin}
 use Rattle.termwiz_binding_laws.proofs.lemmas.KittyReports.{report_tells}
 use Rattle.termwiz_binding_laws.proofs.lemmas.KittyTyped.{kept_read, text_keeps}
 use Rattle.termwiz_binding_laws.proofs.lemmas.ToldKeys.{same_key_press, main_alike, told, told_pressed, main_is_normal}
 use Rattle.termwiz_binding_laws.proofs.lemmas.TwinTexts.{text_before, twin_read}
-
-never_true : (b : Bool) → (b ≡ true → true ≡ false) → b ≡ false
-never_true true h = h refl
-never_true false h = refl
 
 some_is : {A : Type 0} (o : Option A) → is_some o ≡ true → (a : A) × (o ≡ Some a)
 some_is (Some a) e = (a, refl)
@@ -52,7 +48,7 @@ unfolding typed_text
 typed_text_same key k r = ap (λ s. if is_typed_text r.text then r.text else s) (sym (typed_same key k r))
 
 module _ (reading : Reading) (r : KeyReport) (flags : ℕ) (text : List ℕ) (more : Bool) (is : IsPressed r) (before : is_legacy flags ≡ true)
-    (kitty : needs_kitty r flags ≡ true → reading.protocol ≡ Kitty) (tables : more ≡ true → is_in_tables r flags ≡ false)
+    (kitty : needs_kitty r flags ≡ true → reading.protocol ≡ Kitty) (tables : more ≡ true → is_in_tables r flags ≡ true → ¬ Contains presses_that_wait (press_before r flags))
     (writes : kitty_text r flags ≡ Some text) (some : text ≢ []) (within : IsWithin r flags text) where
   key_told : told_key r flags ≡ main_key r.key
   key_told = rw before refl
@@ -140,10 +136,10 @@ module _ (reading : Reading) (r : KeyReport) (flags : ℕ) (text : List ℕ) (mo
           let needs : needs_kitty r flags ≡ is_applications (main_key r.key) && nat_le 8 (held_before r) =
           rw (before, types', press, found.1) refl in
           let listed : is_in_tables r flags ≡ true = rw (before, types', press, found.1) refl in
-          let last : more ≡ false = never_true more (λ comes. sym listed ∙ tables comes) in
-          let read = twin_read reading r.shifted text some (main_key r.key) (held_before r) (main_is_normal r.key is.writable.normal) small
-          is.report.shifted_is (λ told. kitty (needs ∙ told)) (same ∙ writes) in
-          subst (λ b. IsReadWith reading text b (press_before r flags)) (sym last) (subst (IsReadWith reading text false) (sym own) read)
+          subst (IsReadWith reading text more) (sym own)
+          (twin_read reading r.shifted text more some (main_key r.key) (held_before r) (main_is_normal r.key is.writable.normal) small
+          is.report.shifted_is (λ told. kitty (needs ∙ told)) (same ∙ writes)
+          (λ comes. subst (λ p. ¬ Contains presses_that_wait p) own (tables comes listed)))
 
     by_kind : (t : Bool) → types (main_key r.key) r ≡ t → (p : Bool) → is_press (told_kind flags r.kind) ≡ p
         → (b : Bool) → is_some (legacy_text (main_key r.key) (held_before r) r.shifted) ≡ b → Read
