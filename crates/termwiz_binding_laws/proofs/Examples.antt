@@ -1,24 +1,28 @@
 -- Keys as before Kitty's protocol, computed from the definitions: their texts, the presses that are read of them, and that the law speaks of them.
-use Rattle.std.proofs.Common.{◌≡◌, ℕ, ◌+◌, ◌<◌, inl, lit<, false, true, List, [], ◌∷◌, Option, Some, refl, codes}
+use Rattle.std.proofs.Common.{sym, subst, arith, Contains, ◌≡◌, ℕ, ◌+◌, ◌<◌, inl, lit<, false, true, List, [], ◌∷◌, Option, Some, refl, codes}
+use Rattle.std.specs.Prelude.{option_map}
 use Rattle.std.specs.Fmt.{digits}
 use Rattle.std.specs.Char.{encode_utf8}
 use Rattle.std.specs.Str.{chars}
 use Rattle.std.proofs.lemmas.Str.{IsUtf8-nil}
 use Rattle.termwiz_keys.specs.declared.types.KeyCode.{KeyCode}
 use Rattle.termwiz_keys.specs.declared.types.KeyCode.TheVariants.{Char, Function, Tab, Numpad5, Applications}
+use Rattle.termwiz_grammar.proofs.lemmas.lists.ListMembers.{same_on}
 use Rattle.termwiz_extended_events.specs.declared.types.KeyReport.{KeyReport}
+use Rattle.termwiz_extended_events.specs.declared.types.Reading.{Reading}
 use Rattle.termwiz_extended_events.specs.declared.types.ReportedKey.TheVariants.{Named}
 use Rattle.termwiz_extended_events.specs.ReportedKeys.{key_of}
 use Rattle.termwiz_kitty.specs.KeyForms.{named_form, normal_key, main_key}
 use Rattle.termwiz_kitty.specs.LegacyTexts.{legacy_text}
-use Rattle.termwiz_kitty.specs.Telling.{telling, reported, is_legacy}
+use Rattle.termwiz_kitty.specs.Telling.{sends_control, telling, reported, is_legacy}
 use Rattle.termwiz_kitty.specs.KittyTexts.{manner_text, codes_text, fields_behind, coded_text, numbered_text, sequence_text, typed_text, legacy_bytes, kitty_text}
 use Rattle.termwiz_kitty.specs.KittyLaws.{IsKey, press_of}
 use Rattle.termwiz_bindings.specs.declared.press.KeyPress.{KeyPress}
 use Rattle.termwiz_bindings.specs.Presses.{SHIFT, CTRL, SUPER}
-use Rattle.termwiz_binding_laws.specs.KittyPresses.{IsPressed, is_in_tables, press_before, needs_kitty}
+use Rattle.termwiz_binding_laws.specs.KittyPresses.{IsPressed, IsReadWith, is_in_tables, press_before, needs_kitty, presses_that_wait}
 use Rattle.termwiz_binding_laws.specs.LegacyTwins.{legacy_twin}
 use Rattle.termwiz_binding_laws.proofs.lemmas.ComputedPresses.{canonical_written_out}
+use Rattle.termwiz_binding_laws.proofs.lemmas.PressesBefore.{presses_before_kitty}
 
 -- what is written without any flag: to unfold this is to unfold every rule, of writing and of presses
 unfoldable written_out : KeyReport → Option (List ℕ)
@@ -72,6 +76,25 @@ ctrl_i = record { pressed = can_be_pressed (Char 105) CTRL refl (lit< tt) refl; 
 ctrl_i_listed : is_in_tables (press_of (Char 105) CTRL) 0 ≡ true
 unfolding written_out
 ctrl_i_listed = refl
+
+-- none of the presses that wait is that of Tab
+tab_comes_at_once : ¬ Contains presses_that_wait (Some (press Tab 0))
+tab_comes_at_once here =
+    let never : Some true ≡ Some false =
+    same_on (option_map (λ (p : KeyPress). sends_control p.key)) (λ p. Some false) presses_that_wait (Some (press Tab 0)) refl here in
+    cc (never)
+
+ctrl_i_needs : needs_kitty (press_of (Char 105) CTRL) 0 ≡ false
+unfolding written_out
+ctrl_i_needs = refl
+
+-- so the law says that this is Tab under every reading, with more to come too
+ctrl_i_is_tab : (reading : Reading) → IsReadWith reading (9 ∷ []) true (Some (press Tab 0))
+ctrl_i_is_tab reading =
+    subst (IsReadWith reading (9 ∷ []) true) ctrl_i.read
+    (presses_before_kitty reading (press_of (Char 105) CTRL) 0 (9 ∷ []) true ctrl_i.pressed no_flag (λ needs. cc (needs, ctrl_i_needs))
+    (λ comes listed. subst (λ p. ¬ Contains presses_that_wait p) (sym ctrl_i.read) tab_comes_at_once) ctrl_i.written (λ e. cc (e))
+    (λ e. omega arith))
 
 -- the keypad's 5 with Ctrl sends what Ctrl makes of 5
 ctrl_keypad : Comes (press_of Numpad5 CTRL) (29 ∷ []) (press (Char 93) CTRL)

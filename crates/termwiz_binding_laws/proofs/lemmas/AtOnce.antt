@@ -4,14 +4,12 @@ use Rattle.std.specs.Char.{is_ascii_alphanumeric, is_ascii_punctuation}
 use Rattle.termwiz_keys.specs.Encoding.{enc}
 use Rattle.termwiz_keys.specs.Introducers.{ESC, CSI, SS3, START}
 use Rattle.termwiz_keys.specs.Keys.{ALT, escape, plain, with_alt, key_with}
-use Rattle.termwiz_keys.specs.declared.types.KeyCode.{KeyCode}
 use Rattle.termwiz_keys.specs.declared.types.KeyCode.TheVariants.{Char}
 use Rattle.termwiz_keys.specs.declared.types.KeyEvent.{KeyEvent}
 use Rattle.termwiz_keys.specs.declared.types.InputEvent.TheVariants as input
 use Rattle.termwiz_grammar.specs.Grammar as port
 use Rattle.termwiz_grammar.specs.Grammar.{replacement}
 use Rattle.termwiz_grammar.specs.Sequences.{IsSequence}
-use Rattle.termwiz_grammar.specs.Sequences.Meaning.{Row}
 use Rattle.termwiz_grammar.proofs.lemmas.read_back.WholeTexts.{row_means}
 use Rattle.termwiz_grammar.proofs.lemmas.waiting.RestKinds.{alone}
 use Rattle.termwiz_laws.specs.FurtherKeys.ReadsBackToo.{alt_character}
