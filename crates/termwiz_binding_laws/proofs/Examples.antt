@@ -1,5 +1,5 @@
 -- Keys as before Kitty's protocol, computed from the definitions: their texts, the presses that are read of them, and that the law speaks of them.
-use Rattle.std.proofs.Common.{sym, subst, arith, Contains, ◌≡◌, ℕ, ◌+◌, ◌<◌, inl, lit<, false, true, List, [], ◌∷◌, Option, Some, refl, codes}
+use Rattle.std.proofs.Common.{subst, arith, Contains, ◌≡◌, ℕ, ◌+◌, ◌<◌, inl, lit<, false, true, List, [], ◌∷◌, Option, Some, refl, codes}
 use Rattle.std.specs.Prelude.{option_map}
 use Rattle.std.specs.Fmt.{digits}
 use Rattle.std.specs.Char.{encode_utf8}
@@ -93,7 +93,7 @@ ctrl_i_is_tab : (reading : Reading) → IsReadWith reading (9 ∷ []) true (Some
 ctrl_i_is_tab reading =
     subst (IsReadWith reading (9 ∷ []) true) ctrl_i.read
     (presses_before_kitty reading (press_of (Char 105) CTRL) 0 (9 ∷ []) true ctrl_i.pressed no_flag (λ needs. cc (needs, ctrl_i_needs))
-    (λ comes listed. subst (λ p. ¬ Contains presses_that_wait p) (sym ctrl_i.read) tab_comes_at_once) ctrl_i.written (λ e. cc (e))
+    (λ comes longer. tab_comes_at_once (subst (Contains presses_that_wait) ctrl_i.read longer.1)) ctrl_i.written (λ e. cc (e))
     (λ e. omega arith))
 
 -- the keypad's 5 with Ctrl sends what Ctrl makes of 5

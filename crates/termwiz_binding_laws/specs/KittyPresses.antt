@@ -79,13 +79,15 @@ KittyTellsPresses = (r : KeyReport) (flags : ℕ) → IsPressed r → is_legacy 
 abbrev pub KittyKeepsPresses : Type 0
 KittyKeepsPresses = (r : KeyReport) (flags : ℕ) → IsPressed r → TellsPresses flags → IsReadAsTold r flags (canonical r)
 
--- before the protocol: the modifiers of the text of a key, and whether the key types, or else has a text in the tables
+-- Before the protocol all modifiers count but the locks.
 abbrev pub held_before : KeyReport → ℕ
 held_before r = without_locks r.modifiers
 
+-- The key is sent as the text that it types.
 abbrev pub types_before : KeyReport → ℕ → Bool
 types_before r flags = types (told_key r flags) r
 
+-- Or it is sent as a text of the tables from before the protocol.
 abbrev pub is_in_tables : KeyReport → ℕ → Bool
 is_in_tables r flags = not (types_before r flags) && is_some (legacy_of r flags)
 
@@ -117,11 +119,14 @@ needs_kitty r flags =
 abbrev pub presses_that_wait : List (Option KeyPress)
 presses_that_wait = map (λ (k : KeyCode × ℕ). Some (key_press k.0 k.1)) keys_that_wait
 
+-- The text is one of the tables that begins something longer.
+abbrev pub BeginsLonger : KeyReport → ℕ → Type 0
+BeginsLonger r flags = (is_in_tables r flags ≡ true) × Contains presses_that_wait (press_before r flags)
+
 -- Without flags 1 and 8 what a terminal writes, if it writes something, is read as one event of that press. That is so under every reading, or
--- under Kitty's protocol where only it tells the modifiers. With more to come nothing is said of those presses, if they have texts of the
--- tables.
+-- under Kitty's protocol where only it tells the modifiers. With more to come nothing is said of a text that begins something longer.
 abbrev pub PressesBeforeKitty : Type 0
 PressesBeforeKitty = (reading : Reading) (r : KeyReport) (flags : ℕ) (text : List ℕ) (more : Bool) → IsPressed r → is_legacy flags ≡ true
-    → (needs_kitty r flags ≡ true → reading.protocol ≡ Kitty) → (more ≡ true → is_in_tables r flags ≡ true → ¬ Contains presses_that_wait (press_before r flags))
+    → (needs_kitty r flags ≡ true → reading.protocol ≡ Kitty) → (more ≡ true → ¬ BeginsLonger r flags)
     → kitty_text r flags ≡ Some text → text ≢ [] → IsWithin r flags text
     → IsReadWith reading text more (press_before r flags)

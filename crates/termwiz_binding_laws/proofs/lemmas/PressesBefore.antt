@@ -20,7 +20,7 @@ use Rattle.termwiz_kitty.specs.KittyLaws.{typed_events}
 use Rattle.termwiz_kitty.proofs.lemmas.read_back.SequencesMean.{kitty_read_back}
 use Rattle.termwiz_kitty.proofs.lemmas.typed.TypedTexts.{typed_read_back}
 use Rattle.termwiz_bindings.specs.Presses.{canonical}
-use Rattle.termwiz_binding_laws.specs.KittyPresses.{PressesBeforeKitty, IsPressed, IsReadWith, space_alone, told_of, held_before, is_in_tables, press_before, is_applications, needs_kitty, presses_that_wait}
+use Rattle.termwiz_binding_laws.specs.KittyPresses.{PressesBeforeKitty, IsPressed, IsReadWith, space_alone, told_of, held_before, is_in_tables, press_before, is_applications, needs_kitty, presses_that_wait, BeginsLonger}
 use Rattle.termwiz_binding_laws.specs.LegacyTwins.{legacy_twin}
 use Rattle.termwiz_binding_laws.proofs.lemmas.KittyReports.{report_tells}
 use Rattle.termwiz_binding_laws.proofs.lemmas.KittyTyped.{kept_read, text_keeps}
@@ -48,7 +48,7 @@ unfolding typed_text
 typed_text_same key k r = ap (λ s. if is_typed_text r.text then r.text else s) (sym (typed_same key k r))
 
 module _ (reading : Reading) (r : KeyReport) (flags : ℕ) (text : List ℕ) (more : Bool) (is : IsPressed r) (before : is_legacy flags ≡ true)
-    (kitty : needs_kitty r flags ≡ true → reading.protocol ≡ Kitty) (tables : more ≡ true → is_in_tables r flags ≡ true → ¬ Contains presses_that_wait (press_before r flags))
+    (kitty : needs_kitty r flags ≡ true → reading.protocol ≡ Kitty) (tables : more ≡ true → ¬ BeginsLonger r flags)
     (writes : kitty_text r flags ≡ Some text) (some : text ≢ []) (within : IsWithin r flags text) where
   key_told : told_key r flags ≡ main_key r.key
   key_told = rw before refl
@@ -139,7 +139,7 @@ module _ (reading : Reading) (r : KeyReport) (flags : ℕ) (text : List ℕ) (mo
           subst (IsReadWith reading text more) (sym own)
           (twin_read reading r.shifted text more some (main_key r.key) (held_before r) (main_is_normal r.key is.writable.normal) small
           is.report.shifted_is (λ told. kitty (needs ∙ told)) (same ∙ writes)
-          (λ comes. subst (λ p. ¬ Contains presses_that_wait p) own (tables comes listed)))
+          (λ comes waits. tables comes (listed, subst (Contains presses_that_wait) (sym own) waits)))
 
     by_kind : (t : Bool) → types (main_key r.key) r ≡ t → (p : Bool) → is_press (told_kind flags r.kind) ≡ p
         → (b : Bool) → is_some (legacy_text (main_key r.key) (held_before r) r.shifted) ≡ b → Read
