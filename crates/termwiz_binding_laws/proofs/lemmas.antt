@@ -3,11 +3,13 @@ pub mod AtOnce
 pub mod BeginKey
 pub mod ComputedPresses
 pub mod EncodedKeys
+pub mod EscapedCharacters
 pub mod EveryReading
 pub mod KittyPresses
 pub mod KittyReports
 pub mod KittyTyped
 pub mod LegacyReading
+pub mod MenuReports
 pub mod ModeClasses
 pub mod NamedPresses
 pub mod NewlineEnters
@@ -18,7 +20,9 @@ pub mod PressesBefore
 pub mod Readers
 pub mod RowReports
 pub mod SameTexts
+pub mod TextPresses
 pub mod ToldKeys
+pub mod TwinSources
 pub mod TwinTexts
 pub mod WideCharacters
 pub mod WidePresses

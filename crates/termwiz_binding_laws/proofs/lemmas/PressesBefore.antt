@@ -25,7 +25,8 @@ use Rattle.termwiz_binding_laws.specs.LegacyTwins.{legacy_twin}
 use Rattle.termwiz_binding_laws.proofs.lemmas.KittyReports.{report_tells}
 use Rattle.termwiz_binding_laws.proofs.lemmas.KittyTyped.{kept_read, text_keeps}
 use Rattle.termwiz_binding_laws.proofs.lemmas.ToldKeys.{same_key_press, main_alike, told, told_pressed, main_is_normal}
-use Rattle.termwiz_binding_laws.proofs.lemmas.TwinTexts.{text_before, twin_read}
+use Rattle.termwiz_binding_laws.proofs.lemmas.TwinSources.{text_before}
+use Rattle.termwiz_binding_laws.proofs.lemmas.TwinTexts.{twin_read}
 
 some_is : {A : Type 0} (o : Option A) → is_some o ≡ true → (a : A) × (o ≡ Some a)
 some_is (Some a) e = (a, refl)
