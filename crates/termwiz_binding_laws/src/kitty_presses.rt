@@ -19,7 +19,8 @@ pub fn kitty_tells_presses()
 /// Without flag 1 and flag 8 keys are sent as before the protocol. What `encode_kitty` writes for such a press, if it writes something, is read
 /// as one event. If it is a text of the tables from before the protocol, this has the press of the key's twin: `legacy_twin` is the key
 /// itself, but for the keys that these texts don't tell apart. A text that the key types has the press of the key, where shift+space is the
-/// space. A report, which is read under Kitty's protocol alone, has the press of what it tells.
+/// space. A report has the press of what it tells. It is read under Kitty's protocol, and so is Applications with SUPER, HYPER or META. Any
+/// other text is read so under every reading.
 ///
 /// With more to come the law says nothing of Escape, and of Escape, `[`, `O`, `P`, `]` and `_` with ALT, where their texts are of the tables.
 pub fn presses_before_kitty()
