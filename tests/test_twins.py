@@ -1,13 +1,14 @@
-"""Which press is read of what `encode` writes, for every key and every set of four modifiers.
+"""Which press is read of what `encode` writes, for every key and every set of four modifiers, and
+of what `encode_kitty` writes as before Kitty's protocol.
 
-Most keys are read as themselves. The others are read as their twins, by the table of
-crates/termwiz_binding_laws/README.md, which `twin` follows line by line. The laws of that crate say
-the same of the definitions. Here the library encodes, reads and names the press, and the plain
-model of presses says what it should be."""
+Most keys are read as themselves. The others are read as their twins, by the tables of
+crates/termwiz_binding_laws/README.md, which `twin` and `legacy_twin` follow line by line. The laws
+of that crate say the same of the definitions. Here the library encodes, reads and names the press,
+and the plain model of presses says what it should be."""
 import itertools
 
 import pytest
-from presses import ALT, CTRL, SHIFT, SUPER, canonical
+from presses import ALT, CTRL, KITTY_NAMES, MAIN_KEYS, NO_PRESS, SHIFT, SUPER, canonical, is_control
 
 # What is read in place of Ctrl and a character.
 CONTROL = {it: ("backspace", 0) for it in "h8?"} | {"i": ("tab", 0)}
@@ -86,13 +87,16 @@ def keys():
     return CHARACTERS + named + [Function(number) for number in range(1, 25)]
 
 
-def read(parser, text):
-    """The presses of a text with no more to come."""
+def presses(events):
     from hedrugal.extended import KeyPress
 
-    events = [*parser.parse(text), *parser.flush()]
     found = [KeyPress.of_event(it) for it in events]
     return [it and (plain_name(it.key), it.held.value) for it in found]
+
+
+def read(parser, text):
+    """The presses of a text with no more to come."""
+    return presses([*parser.parse(text), *parser.flush()])
 
 
 def is_unknown_to_port(key, held, level):
@@ -122,3 +126,102 @@ def test_twins(encoding, level):
                 continue
             case = (name, held, on, text)
             assert (case, read(parser, text)) == (case, pressed)
+
+
+# The sets of modifiers in the columns of Kitty's tables, and which of them text keys have.
+COLUMNS = {0, CTRL, ALT, SHIFT, SHIFT | CTRL, SHIFT | ALT, CTRL | ALT}
+OF_TEXT_KEYS = {ALT, CTRL, CTRL | ALT, SHIFT | ALT}
+TEXT_KEYS = {chr(code) for code in range(33, 127)} - {chr(code) for code in range(65, 91)}
+CONTROLS = ("enter", "tab", "backspace")
+UNCHANGED_BY_CTRL = "`{|}"
+# The presses whose texts wait for more.
+WAITING = {("escape", 0), ("escape", ALT), *((it, ALT) for it in "[OP]_")}
+
+
+def legacy_twin(key, held, shifted):
+    """The key, the modifiers and what it types with Shift, as they are read of Kitty's tables."""
+    if key in ("enter", "escape", "backspace"):
+        return key, held & ALT, None
+    if key == "tab":
+        return key, held & ~CTRL, None
+    if key == "applications":
+        return "f16", held, None
+    if key == " ":
+        return key, held & ~SHIFT, None
+    if len(key) > 1 or not held & CTRL:
+        return key, held, shifted
+    if key in CONTROL and key not in UNCHANGED_BY_CTRL:
+        named, control = CONTROL[key]
+        return named, control | held & ALT, None
+    return key, held if key in HAS_CONTROL else held & ALT, None
+
+
+def is_of_tables(key, held, shifted):
+    if key in (" ", "escape", *CONTROLS):
+        return held in COLUMNS
+    if key in TEXT_KEYS and held == SHIFT | ALT:
+        return "a" <= key <= "z" or shifted is not None and shifted.isprintable()
+    if key in TEXT_KEYS:
+        return held in OF_TEXT_KEYS
+    return key == "applications" or key in ("f1", "f2", "f3", "f4") and held == 0
+
+
+def read_before(key, held, flags, is_repeat, shifted, text):
+    """What is read of a key before Kitty's protocol, and whether its modifiers are told to Kitty's
+    parser alone."""
+    main = MAIN_KEYS.get(key, key)
+    types = len(str(main)) == 1 and not is_control(main)
+    if not held & ~SHIFT and (text or types) or main in CONTROLS and not held:
+        typed = canonical(key, held, text, shifted)
+        return (" ", 0) if typed[0] == " " else typed, False
+    if not (is_repeat and flags & 2) and is_of_tables(main, held, shifted):
+        twin_key, twin_held, twin_shifted = legacy_twin(main, held, shifted)
+        return canonical(twin_key, twin_held, "", twin_shifted), main == "applications" and held > 7
+    return canonical(key, held, "", shifted if flags & 4 else None), True
+
+
+def kitty_keys():
+    from hedrugal import Function, KeyCode
+
+    names = {plain_name(it): it for it in KeyCode}
+    numbers = [it for it in range(57344, 57500) if it not in KITTY_NAMES]
+    found = [names[it] for it in KITTY_NAMES.values() if it in names]
+    found += [KeyCode[it] for it in NAMES.split()[:11] + NAMES.split()[11:15]]
+    characters = [it for it in CHARACTERS if it != "\ue000"]  # Kitty's number of a functional key.
+    return characters + [*dict.fromkeys(found)] + [Function(it) for it in range(1, 36)] + numbers
+
+
+def kitty_reports(key, kind):
+    """The reports of a key, with each set of modifiers, and what a character's key may have."""
+    from hedrugal.extended import KeyReport, KittyModifiers
+
+    is_character = len(str(plain_name(key))) == 1
+    for held in range(64):
+        modifiers = KittyModifiers(held | (held * 64) & 192)
+        yield held, KeyReport(key, modifiers, kind)
+        if is_character:
+            yield held, KeyReport(key, modifiers, kind, text="\u044f")
+        for shifted in "!\u042f\x9f" if is_character and held & SHIFT else "":
+            yield held, KeyReport(key, modifiers, kind, shifted)
+
+
+@pytest.mark.parametrize("flags", [0, 2, 4, 16, 22])
+def test_before_kitty(flags):
+    from hedrugal import ExtendedParser, Protocol
+    from hedrugal.extended import KeyEventKind, KittyKeyboardFlags
+
+    parsers = [ExtendedParser(Protocol.KITTY), ExtendedParser()]
+    for key, kind in itertools.product(kitty_keys(), [KeyEventKind.PRESS, KeyEventKind.REPEAT]):
+        name, is_repeat = plain_name(key), kind is KeyEventKind.REPEAT
+        for held, report in kitty_reports(key, kind):
+            sent = report.encode(KittyKeyboardFlags(flags))
+            if name in NO_PRESS:
+                assert sent == b""
+                continue
+            told = report.shifted, report.text
+            press, needs_kitty = read_before(name, held, flags, is_repeat, *told)
+            for parser in parsers[:1] if needs_kitty else parsers:
+                found = presses(parser.parse(sent))
+                if press in WAITING:
+                    found += presses(parser.flush())
+                assert (report, sent, found) == (report, sent, [press])

@@ -1,1 +1,2 @@
-mod lemmas
+mod Examples
+pub mod lemmas

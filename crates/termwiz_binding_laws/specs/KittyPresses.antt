@@ -1,20 +1,25 @@
 -- What is read of the texts of Kitty's protocol, as presses.
-use Rattle.std.specs.Prelude.{◌≡◌, ◌≢◌, ◌⊎◌, ⊤, ◌==◌, ◌&&◌, ℕ, Bool, true, false, not, List, [], ◌∷◌, Option, Some, None, option_map, if◌then◌else◌}
+use Rattle.std.specs.Prelude.{◌≡◌, ◌≢◌, ◌⊎◌, ⊤, ◌==◌, ◌&&◌, ℕ, Bool, true, false, not, List, [], ◌∷◌, map, nat_le, Option, Some, None, is_some, option_map, if◌then◌else◌, Contains}
 use Rattle.std.specs.Char.{is_ascii_lowercase}
 use Rattle.std.specs.Str.{chars}
+use Rattle.termwiz_keys.specs.declared.types.KeyCode.{KeyCode}
+use Rattle.termwiz_keys.specs.declared.types.KeyCode.TheVariants.{Applications}
 use Rattle.termwiz_keys.specs.KeyCodes.{holds}
 use Rattle.termwiz_extended_events.specs.declared.types.ExtendedEvent.{ExtendedEvent}
 use Rattle.termwiz_extended_events.specs.declared.types.KeyReport.{KeyReport}
 use Rattle.termwiz_extended_events.specs.declared.types.Protocol.TheVariants.{Kitty}
 use Rattle.termwiz_extended_events.specs.declared.types.Reading.{Reading}
+use Rattle.termwiz_extended_events.specs.declared.types.ReportedKey.{ReportedKey}
+use Rattle.termwiz_extended_events.specs.declared.types.ReportedKey.TheVariants.{Named}
 use Rattle.termwiz_extended_grammar.specs.ExtendedGrammar.{Means}
 use Rattle.termwiz_kitty.specs.KeyForms.{is_character}
-use Rattle.termwiz_kitty.specs.Telling.{DISAMBIGUATE, ALTERNATE_KEYS, ALL_KEYS, ASSOCIATED_TEXT, is_release, is_legacy, tells_all_keys, types}
+use Rattle.termwiz_kitty.specs.Telling.{DISAMBIGUATE, ALTERNATE_KEYS, ALL_KEYS, ASSOCIATED_TEXT, is_release, without_locks, is_legacy, told_key, tells_all_keys, types, legacy_of}
 use Rattle.termwiz_kitty.specs.KittyTexts.{kitty_text, IsWithin}
-use Rattle.termwiz_kitty.specs.KittyLaws.{IsReport, IsWritable}
+use Rattle.termwiz_kitty.specs.KittyLaws.{IsReport, IsWritable, keys_that_wait}
 use Rattle.termwiz_bindings.specs.declared.press.KeyPress.{KeyPress}
 use Rattle.termwiz_bindings.specs.Presses.{SHIFT, canonical, character, character_press, by_character}
 use Rattle.termwiz_binding_laws.specs.EncodedPresses.{press_of_event}
+use Rattle.termwiz_binding_laws.specs.LegacyTwins.{legacy_twin}
 
 -- the flags with which presses are told: those of keys and of what they type with Shift, and that of texts with that of all keys
 pub record TellsPresses (flags : ℕ) : Type 0 where
@@ -73,3 +78,55 @@ KittyTellsPresses = (r : KeyReport) (flags : ℕ) → IsPressed r → is_legacy 
 -- With flags that tell presses it is read as the very press of the key.
 abbrev pub KittyKeepsPresses : Type 0
 KittyKeepsPresses = (r : KeyReport) (flags : ℕ) → IsPressed r → TellsPresses flags → IsReadAsTold r flags (canonical r)
+
+-- Before the protocol all modifiers count but the locks.
+abbrev pub held_before : KeyReport → ℕ
+held_before r = without_locks r.modifiers
+
+-- The key is sent as the text that it types.
+abbrev pub types_before : KeyReport → ℕ → Bool
+types_before r flags = types (told_key r flags) r
+
+-- Or it is sent as a text of the tables from before the protocol.
+abbrev pub is_in_tables : KeyReport → ℕ → Bool
+is_in_tables r flags = not (types_before r flags) && is_some (legacy_of r flags)
+
+-- The press that is read of a key that is sent so before the protocol: of its text that of the key, where the space has no SHIFT, of a text of
+-- the tables that of the key's twin, and of a report that of what it tells.
+abbrev pub press_before : KeyReport → ℕ → Option KeyPress
+press_before r flags =
+    if types_before r flags then option_map space_alone (canonical r)
+    else (if is_in_tables r flags then canonical (legacy_twin (told_key r flags) (held_before r) r.shifted)
+    else canonical (told_of r flags))
+
+-- the press of a key that has its name, with these modifiers
+abbrev pub key_press : KeyCode → ℕ → KeyPress
+key_press key held = record { key = Named key; held = held }
+
+-- Applications, which sends its modifiers behind a number
+abbrev pub is_applications : ReportedKey → Bool
+is_applications (Named Applications) = true
+is_applications key = false
+
+-- Only Kitty's protocol tells the modifiers: those of a report, and with the text of Applications SUPER, HYPER and META.
+abbrev pub needs_kitty : KeyReport → ℕ → Bool
+needs_kitty r flags =
+    if types_before r flags then false
+    else (if is_in_tables r flags then is_applications (told_key r flags) && nat_le 8 (held_before r)
+    else true)
+
+-- The presses whose texts begin sequences or strings: Escape, and Escape, [ O P ] and _ with ALT.
+abbrev pub presses_that_wait : List (Option KeyPress)
+presses_that_wait = map (λ (k : KeyCode × ℕ). Some (key_press k.0 k.1)) keys_that_wait
+
+-- The text is one of the tables that begins something longer.
+abbrev pub BeginsLonger : KeyReport → ℕ → Type 0
+BeginsLonger r flags = (is_in_tables r flags ≡ true) × Contains presses_that_wait (press_before r flags)
+
+-- Without flags 1 and 8 what a terminal writes, if it writes something, is read as one event of that press. That is so under every reading, or
+-- under Kitty's protocol where only it tells the modifiers. With more to come nothing is said of a text that begins something longer.
+abbrev pub PressesBeforeKitty : Type 0
+PressesBeforeKitty = (reading : Reading) (r : KeyReport) (flags : ℕ) (text : List ℕ) (more : Bool) → IsPressed r → is_legacy flags ≡ true
+    → (needs_kitty r flags ≡ true → reading.protocol ≡ Kitty) → (more ≡ true → ¬ BeginsLonger r flags)
+    → kitty_text r flags ≡ Some text → text ≢ [] → IsWithin r flags text
+    → IsReadWith reading text more (press_before r flags)

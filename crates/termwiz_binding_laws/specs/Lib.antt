@@ -1,3 +1,4 @@
 pub mod EncodedPresses
 pub mod KittyPresses
+pub mod LegacyTwins
 pub mod Twins

@@ -78,38 +78,40 @@ twice_not : (b : Bool) → not (not b) ≡ b
 twice_not true = refl
 twice_not false = refl
 
-module _ (r : KeyReport) (flags : ℕ) (is : IsPressed r) (reports : is_legacy flags ≡ false) where
-  own_key : told_key r flags ≡ r.key
-  own_key = rw reports refl
+-- where keys are reported, each is told by its own name
+pub own_key : (r : KeyReport) (flags : ℕ) → is_legacy flags ≡ false → told_key r flags ≡ r.key
+own_key r flags reports = rw reports refl
 
+module _ (r : KeyReport) (flags : ℕ) (key : ReportedKey) (told : told_key r flags ≡ key) (is : IsPressed (record r { key = key })) where
   -- what it types with Shift
   shifted_told : told_shifted r flags ≡ (told_of r flags).shifted
-  shifted_told = go (holds flags ALTERNATE_KEYS) refl (is_character r.key) refl (is_shifted r.modifiers) refl
+  shifted_told = go (holds flags ALTERNATE_KEYS) refl (is_character key) refl (is_shifted r.modifiers) refl
     where
-      go : (a : Bool) → holds flags ALTERNATE_KEYS ≡ a → (c : Bool) → is_character r.key ≡ c → (s : Bool) → is_shifted r.modifiers ≡ s
+      go : (a : Bool) → holds flags ALTERNATE_KEYS ≡ a → (c : Bool) → is_character key ≡ c → (s : Bool) → is_shifted r.modifiers ≡ s
           → told_shifted r flags ≡ (told_of r flags).shifted
       go false a c e s f = rw a refl
-      go true a true e true f = rw (own_key, a, e, f) refl
-      go true a true e false f = rw (own_key, a, e, f) (sym (is.writable.shifted f))
-      go true a false e s f = rw (own_key, a, e) (sym (is.writable.alternates e).0)
+      go true a true e true f = rw (told, a, e, f) refl
+      go true a true e false f = rw (told, a, e, f) (sym (is.writable.shifted f))
+      go true a false e s f = rw (told, a, e) (sym (is.writable.alternates e).0)
 
   -- and its text
   text_told : told_text r flags ≡ (told_of r flags).text
-  text_told = go (tells_all_keys flags) refl (holds flags ASSOCIATED_TEXT) refl (has_text (form_of r.key)) refl
+  text_told = go (tells_all_keys flags) refl (holds flags ASSOCIATED_TEXT) refl (has_text (form_of key)) refl
     where
-      go : (a : Bool) → tells_all_keys flags ≡ a → (t : Bool) → holds flags ASSOCIATED_TEXT ≡ t → (b : Bool) → has_text (form_of r.key) ≡ b
+      go : (a : Bool) → tells_all_keys flags ≡ a → (t : Bool) → holds flags ASSOCIATED_TEXT ≡ t → (b : Bool) → has_text (form_of key) ≡ b
           → told_text r flags ≡ (told_of r flags).text
       go false a t e b f = rw (a, and_right (holds flags ASSOCIATED_TEXT) false refl) refl
       go true a false e b f = rw (a, e) refl
-      go true a true e true f = rw (own_key, a, e, f, is.writable.no_control) refl
-      go true a true e false f = rw (own_key, a, e, f) (sym (is.writable.text f))
+      go true a true e true f = rw (told, a, e, f, is.writable.no_control) refl
+      go true a true e false f = rw (told, a, e, f) (sym (is.writable.text f))
 
-  pub report_tells : canonical (reported r flags) ≡ canonical (told_of r flags)
+  -- the report tells the press of this key
+  pub report_tells : canonical (reported r flags) ≡ canonical (told_of (record r { key = key }) flags)
   unfolding reported
   report_tells =
-      same_press (reported r flags) (told_of r flags) (kind_kept (tells_event_types flags) r.kind is.kept) is.kept
-      (ap normal_key own_key ∙ is.writable.normal) (hidden (hides_locks r flags) r.modifiers) shifted_told
-      (ap (λ t. canonical (pressed_with r.key r.modifiers (told_of r flags).shifted t)) text_told)
+      same_press (reported r flags) (told_of (record r { key = key }) flags) (kind_kept (tells_event_types flags) r.kind is.kept) is.kept
+      (ap normal_key told ∙ is.writable.normal) (hidden (hides_locks r flags) r.modifiers) shifted_told
+      (ap (λ t. canonical (pressed_with key r.modifiers (told_of r flags).shifted t)) text_told)
 
 -- flags that tell presses ask for reports
 pub reports_keys : (flags : ℕ) → TellsPresses flags → is_legacy flags ≡ false

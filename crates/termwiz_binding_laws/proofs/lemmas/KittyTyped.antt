@@ -4,7 +4,7 @@ use Rattle.std.specs.Prelude.{option_map, unwrap_or, if◌then◌else◌}
 use Rattle.std.specs.Char.{IsScalar, encode_utf8, is_control, is_ascii_control, is_ascii_lowercase, is_ascii_uppercase, to_ascii_uppercase}
 use Rattle.std.specs.List.{list_any, list_all}
 use Rattle.std.specs.Str.{chars}
-use Rattle.std.proofs.lemmas.Bool.{and_right, and_parts, or_cases, eqb-true, eqb-false}
+use Rattle.std.proofs.lemmas.Bool.{and_right, and_parts, or_cases, eqb-true, eqb-false, not-true}
 use Rattle.std.proofs.lemmas.Bool.Decides.{nat_tests}
 use Rattle.std.proofs.lemmas.List.Sums.{AllPass-from_list_all}
 use Rattle.std.proofs.lemmas.List.Elements.{All-contains}
@@ -16,6 +16,8 @@ use Rattle.termwiz_extended_events.specs.declared.types.KeyReport.{KeyReport}
 use Rattle.termwiz_extended_events.specs.declared.types.ReportedKey.{ReportedKey}
 use Rattle.termwiz_extended_events.specs.declared.types.ReportedKey.TheVariants.{Named, Functional}
 use Rattle.termwiz_extended_events.specs.declared.types.ExtendedEvent.{ExtendedEvent}
+use Rattle.termwiz_extended_events.specs.declared.types.Reading.{Reading}
+use Rattle.termwiz_extended_grammar.specs.ExtendedGrammar.{Means}
 use Rattle.termwiz_kitty.specs.KeyForms.{is_character}
 use Rattle.termwiz_kitty.specs.LegacyTexts.{capital, with_shift}
 use Rattle.termwiz_kitty.specs.Telling.{is_shifted, is_at_most_shifted, is_bare, is_typed_text, has_control, types, types_character, sends_control}
@@ -28,7 +30,7 @@ use Rattle.termwiz_bindings.specs.MainKeys as keys
 use Rattle.termwiz_bindings.specs.Presses as rules
 use Rattle.termwiz_bindings.specs.Presses.{canonical, SHIFT, counted, is_counted_text, is_typed, is_shortcut, character_press, typed_character, typed_press, all_but_locks}
 use Rattle.termwiz_binding_laws.specs.EncodedPresses.{press_of_event}
-use Rattle.termwiz_binding_laws.specs.KittyPresses.{IsPressed, IsNoSmallLetter, space_alone}
+use Rattle.termwiz_binding_laws.specs.KittyPresses.{IsPressed, IsNoSmallLetter, space_alone, IsReadWith}
 use Rattle.termwiz_binding_laws.proofs.lemmas.KittyReports.{pressed_with, by_parts, counted_same}
 
 -- of modifiers with at most SHIFT and the locks only SHIFT is told
@@ -154,10 +156,6 @@ not_spaced Tab e = refl
 not_spaced Backspace e = refl
 not_spaced key e = absurd (cc (e))
 
-not_true : (b : Bool) → not b ≡ true → b ≡ false
-not_true false e = refl
-not_true true e = cc (e)
-
 without_false : (b : Bool) → (b || false) ≡ true → b ≡ true
 without_false true e = refl
 without_false false e = e
@@ -234,6 +232,11 @@ upper_of c (Some s) none small = go (is_control s) refl
 abbrev KeepsPress : KeyReport → List ExtendedEvent → Type 0
 KeepsPress r events = (event : ExtendedEvent) × (events ≡ event ∷ []) × (press_of_event event ≡ option_map space_alone (canonical r))
 
+-- a text that means such events is read with that press
+pub kept_read : (reading : Reading) (r : KeyReport) (events : List ExtendedEvent) (text : List ℕ) (more : Bool) → KeepsPress r events
+    → Means reading text more events [] → IsReadWith reading text more (option_map space_alone (canonical r))
+kept_read reading r events text more kept means = (kept.0, subst (λ es. Means reading text more es []) kept.1 means, kept.2)
+
 module _ (r : KeyReport) (is : IsPressed r) where
   -- the text of the report
   of_text : types r.key r ≡ true → is_typed_text r.text ≡ true → KeepsPress r (characters_pressed r.text)
@@ -307,7 +310,7 @@ module _ (r : KeyReport) (is : IsPressed r) where
   by_key : (key : ReportedKey) → r.key ≡ key → types key r ≡ true → is_typed_text r.text ≡ false → r.text ≡ []
       → (types_character key || sends_control key) ≡ true → KeepsPress r (typed_by_events key (typed_by key r))
   by_key (Named (Char c)) same types' typed none e =
-      of_character c same none (not_true (is_control c) (without_false (not (is_control c)) e)) (at_most_of (Named (Char c)) r refl types')
+      of_character c same none (not-true (is_control c) (without_false (not (is_control c)) e)) (at_most_of (Named (Char c)) r refl types')
   by_key (Named Enter) same types' typed none e =
       of_control Enter same none refl (bare_of (is_at_most_shifted r.modifiers) (is_typed_text r.text) (is_bare r.modifiers) typed types')
   by_key (Named Tab) same types' typed none e =
