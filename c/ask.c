@@ -114,6 +114,7 @@ int main(void) {
   }
   if (!hed_terminal_open(&terminal, "", "")) {
     fprintf(stderr, "ask: %s\n", terminal.failure);
+    hed_extended_free(&parser);
     return 2;
   }
   bool is_answered = ask(&terminal, &parser);

@@ -114,8 +114,8 @@ static void stop(hed_terminal *it) {
   hed_terminal_close(it);
   handle_signal(SIGTSTP, SIG_DFL);
   raise(SIGTSTP);
-  handle_signal(SIGTSTP, note_signal);
   stopping = 0;
+  handle_signal(SIGTSTP, note_signal);
   continued = 1;
 }
 
@@ -132,9 +132,9 @@ enum hed_terminal_event hed_terminal_heed(hed_terminal *terminal) {
   if (stopping && !ending) stop(terminal);
   if (ending) return HED_TERMINAL_ENDING;
   if (continued) return resume(terminal);
-  bool is_new = resized;
+  if (!resized) return HED_TERMINAL_NOTHING;
   resized = 0;
-  return is_new ? HED_TERMINAL_RESIZED : HED_TERMINAL_NOTHING;
+  return HED_TERMINAL_RESIZED;
 }
 
 enum hed_terminal_event hed_terminal_wait(hed_terminal *terminal, int milliseconds) {

@@ -26,8 +26,8 @@ typedef enum bindings_answer {
   BINDINGS_NO_MEMORY
 } bindings_answer;
 
-/* Reads a file of bindings. A line is a command, blanks and the name of a chord. Empty lines and those that begin with # say nothing. Of a
- * chord that is bound twice the later line holds. Whatever it returns, the caller owes a bindings_free. */
+/* Reads a file of bindings. A line is a command, blanks and the name of a chord. Empty lines and those that begin with # are ignored. If a
+ * chord is bound twice, the later line counts. Whatever it returns, the caller owes a bindings_free. */
 bindings_answer bindings_read(bindings *it, const char *file);
 
 /* Takes the press of a key, and behind it its second press if there is one. */

@@ -143,11 +143,12 @@ static void put_outcomes(const line *of, size_t first) {
 static void put_pending(const bindings *bound) {
   size_t first, end;
   if (!bindings_following(bound, &first, &end)) return;
-  const char *before = "\",\"continuations\":[{";
+  continuation it = bindings_at(bound, first);
   printf(",\"pending\":\"");
+  put_text(it.chord, (size_t)(it.rest - it.chord) - 1);
+  const char *before = "\",\"continuations\":[{";
   for (size_t place = first; place < end; place++) {
-    continuation it = bindings_at(bound, place);
-    if (place == first) put_text(it.chord, (size_t)(it.rest - it.chord) - 1);
+    it = bindings_at(bound, place);
     put_command(before, it.rest, it.command);
     before = ",{";
   }

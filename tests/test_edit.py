@@ -12,11 +12,6 @@ from conftest import TOP, run_without_terminal
 from terminal import END, ENDING_SIGNALS, PAUSE, START, Terminal
 from terminal_data import FOLDER, load
 
-SOURCES = {
-    "c": TOP / "c/edit.c",
-    "rust": TOP / "rust/examples/edit/main.rs",
-    "python": TOP / "python/examples/edit.py",
-}
 KEYS = TOP / "docs/edit.keys"
 ENTER, LEAVE = b"\033[?2004h\033[>4;2m\033[>5u\033[?u", b"\033[<u\033[>4m\033[?2004l"
 # How long the rest of a chord may take, in seconds, and a pause that is shorter.
@@ -52,7 +47,7 @@ class Edit(Terminal):
         self.check_end(0, *lines, *AFTER_X)
 
 
-@pytest.fixture(scope="session", params=[name for name, path in SOURCES.items() if path.exists()])
+@pytest.fixture(scope="session", params=["c", "rust", "python"])
 def program(request, example):
     return example(request.param, "edit")
 
@@ -247,7 +242,7 @@ def test_slow_chord(start, write_keys):
 
 
 def test_bound_twice(start, write_keys):
-    """The later line holds. The first chord is that of the order of the bindings."""
+    """The later line counts. The first chord is that of the order of the bindings."""
     keys = write_keys(b"quit f1", b"save ctrl+q", b"quit ctrl+q", b"quit f2")
     edit = start(keys, "ctrl+q ends")
     edit.send(b"\021")

@@ -93,8 +93,8 @@ def binding(line: bytes) -> Optional[Tuple[Chord, Command]]:
 
 
 def read_bindings(path: str) -> Tuple[Bindings[Command], List[str]]:
-    """Returns the bindings of a file, and an error for each wrong line. Of a chord that is bound
-    twice the later line holds."""
+    """Returns the bindings of a file, and an error for each wrong line. If a chord is bound twice,
+    the later line counts."""
     bindings: Bindings[Command] = Bindings()
     errors: List[str] = []
     with open(path, "rb") as file:

@@ -100,7 +100,7 @@ impl From<io::Error> for FileError {
     }
 }
 
-/// Reads the bindings of a file. Of a chord that is bound twice the later line holds.
+/// Reads the bindings of a file. If a chord is bound twice, the later line counts.
 pub fn read(path: &Path) -> Result<Bindings<Command>, FileError> {
     let file = fs::read(path)?;
     let (mut bindings, mut errors) = (Bindings::new(), Vec::new());

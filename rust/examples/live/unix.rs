@@ -229,8 +229,8 @@ pub mod signals {
     /// no shell could continue it.
     pub fn stop() {
         let _ = handle(SIGTSTP, SIG_DFL).map(|()| raised(SIGTSTP));
-        let _ = noted(SIGTSTP);
         STOPPING.store(false, SeqCst);
+        let _ = noted(SIGTSTP);
         CONTINUED.store(true, SeqCst);
     }
 }
