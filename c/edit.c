@@ -1,5 +1,5 @@
 /* A small editor of one text, whose commands have chords that it reads from a file, such as docs/edit.keys. It shows how a program reads
- * keys by bindings: the presses of a terminal's events, chords with a limit in time, and names of keys for its messages and its menu.
+ * keys by bindings: presses of events, chords with a limit in time, and names of keys in messages and a menu.
  *
  *     cc edit.c hedrugal_terminal.c $(pkg-config --cflags --libs hedrugal) -o edit && ./edit edit.keys
  *

@@ -309,9 +309,9 @@ typedef struct hed_seen {
   bool empty; /* whether nothing is pending now */
 } hed_seen;
 
-/* A timer, by which a program keeps a limit in time of its own beside its parser's: the pause of a chord, after which the presses of a
- * hed_matcher that are pending are given up. All zero, as HED_TIMER_NONE, it is a new one. It owns no memory, and may be copied. Its fields
- * are the library's. */
+/* A timer, by which a program keeps a limit in time of its own beside its parser's. An example is the pause of a chord, after which the
+ * presses that are pending in a hed_matcher are given up. All zero, as HED_TIMER_NONE, it is a new one. It owns no memory, and may be copied.
+ * Its fields are the library's. */
 typedef struct hed_timer {
   uint64_t last;
   uint64_t front;
@@ -337,7 +337,7 @@ typedef struct hed_timer {
 bool hed_timer_note(hed_timer *timer, uint64_t now, const hed_seen *seen);
 
 /* Returns how many milliseconds what is pending may still wait, as poll takes it: 0 if its age has reached the limit, and -1 if it may wait
- * forever or by is no enum hed_age in *timer. The timer is unchanged.
+ * forever. It is also -1 if by is no enum hed_age in *timer. The timer is unchanged.
  *
  * A program waits for no longer than this and hed_parser_timeout say. If no key came and this is 0, it gives up the chord: it calls
  * hed_matcher_next with maybe_more as false. */

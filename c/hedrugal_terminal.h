@@ -1,5 +1,5 @@
 /* Raw mode for a program that reads keys, and the signals that such a program needs. Two files to copy, in C99 and POSIX alone: the library
- * itself reads no terminal. c/live.c, c/edit.c and c/ask.c are over it.
+ * itself reads no terminal. c/live.c, c/edit.c and c/ask.c use it.
  *
  *     hed_terminal terminal;
  *     if (!hed_terminal_open(&terminal, "\033[?2004h", "\033[?2004l")) ...           // terminal.failure says why
@@ -15,9 +15,9 @@
  *     hed_terminal_end();                                                           // by the signal, if one came
  *
  * The terminal is that of the standard input and the standard output. It is restored by hed_terminal_close, which the program reaches at
- * its own end and after SIGHUP, SIGINT, SIGQUIT and SIGTERM. If it hasn't ended a second after such a signal, as in a write that blocks
- * since nobody reads the terminal, the settings alone are restored, and the signal ends it. While SIGTSTP stops it a shell has the terminal
- * as it was. After SIGCONT it is in raw mode again, also if SIGSTOP had stopped the program.
+ * its own end and after SIGHUP, SIGINT, SIGQUIT and SIGTERM. It may still run a second after such a signal, as in a write that blocks
+ * since nobody reads the terminal. Then the settings alone are restored, and the signal ends it. While SIGTSTP stops it a shell has the
+ * terminal as it was. After SIGCONT it is in raw mode again, also if SIGSTOP had stopped the program.
  *
  * A process has one open terminal, and one thread calls. These signals and SIGALRM are then handled here: the program sets no handlers of
  * its own for them, and no alarm. Its calls of the system go on after them (SA_RESTART), but for a poll of its own. */
@@ -51,8 +51,8 @@ enum hed_terminal_event {
 
 /* Handles the signals, sets raw mode, and writes enter: a text that switches modes on, such as bracketed paste. leave switches them off in
  * the opposite order. Both are kept and not copied, and may be empty. *terminal stays where it is until it is closed. What was typed ahead
- * is kept. ^C, ^Z and ^\ are keys like any other (ISIG is off), Enter is CR (ICRNL is off), and the end of a line that is written is still
- * LF (OPOST is as it was).
+ * is kept. ^C, ^Z and ^\ are keys like any other (ISIG is off), and Enter is CR (ICRNL is off). A line that is written still ends with LF
+ * (OPOST is as it was).
  *
  * Returns false if the standard input or output is no terminal, or a call of the system fails. Then the terminal is unchanged. */
 bool hed_terminal_open(hed_terminal *terminal, const char *enter, const char *leave);

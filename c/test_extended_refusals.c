@@ -1,6 +1,6 @@
-/* Refuses each request for memory of the extended parser's calls, of hed_encode_kitty, of hed_key_print and of bindings in turn, one in each
- * run, and makes the refused call again: the answers must be those of a run without a refusal, and each refusal must be told once. What is
- * dropped or freed leaves no memory in use.
+/* Refuses each request for memory in turn, one in each run, and makes the refused call again. The answers must be those of a run without a
+ * refusal, and each refusal must be told once. What is dropped or freed leaves no memory in use. The calls are those of the extended parser and
+ * of bindings, hed_encode_kitty and hed_key_print.
  *
  *     cc -Wl,--wrap=malloc -Wl,--wrap=realloc -Wl,--wrap=free test_extended_refusals.c libhedrugal.a && ./a.out [STEP]
  *

@@ -8,8 +8,8 @@ import pytest
 
 from hedrugal import Age, Timer
 
-# Notes of one timer: the time, the limit and its age, and letters that say whether something was
-# fed or taken and whether nothing is pending; then a time, and what is left of the limit.
+# Notes of one timer: the time, the limit and its age, and letters for fed, taken and empty. Then a
+# time, and what is left of the limit at it.
 NOTES = [
     # The pause of a chord: each press begins it again.
     (5, 1, Age.LAST, "f", 5, 1.0),

@@ -4,11 +4,18 @@
 #     tools/fuzz.sh [SECONDS]
 #     tools/fuzz.sh HARNESS FILE
 #
-# There are seven harnesses in tools/fuzz, and the head of each says what it checks: cuts (a stream read whole and in pieces), extended (the
-# same for the extended parser, whose keys are encoded and read back and whose replies are read), calls (calls in any order, with requests
-# for memory refused), maps (a key map beside a plain one), keys (texts of keys, and what is sent for key reports), names (names of chords,
-# read and printed) and bindings (bindings of chords and a matcher beside plain ones). Each begins with the seeds of tools/fuzz/corpus. calls
-# runs for two eighths of the SECONDS (60 if left out), the others for an eighth each. With a FILE it is run alone.
+# There are seven harnesses in tools/fuzz, and the head of each says more of what it checks:
+#
+#     cuts        a stream read whole and in pieces
+#     extended    the same for the extended parser, whose keys are encoded and read back and whose replies are read
+#     calls       calls in any order, with requests for memory refused
+#     maps        a key map beside a plain one
+#     keys        texts of keys, and what is sent for key reports
+#     names       names of chords, read and printed
+#     bindings    bindings of chords and a matcher beside plain ones
+#
+# Each begins with the seeds of tools/fuzz/corpus. calls runs for two eighths of the SECONDS (60 if left out), the others for an eighth
+# each. With a FILE a harness is run alone.
 #
 # The harnesses are built with clang's checks of addresses and of undefined behaviour. The archive is compiled already and has no such
 # checks in it. So each argument lies beside a page that can't be touched, and each block of the library's memory between marks.

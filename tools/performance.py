@@ -3,10 +3,13 @@
 
 Each parser has a program (tools/measure), which is built in a temporary folder, over the library of
 out/lib. It gets an input in reads of one size, and a flush at the end alone. The programs run in
-turn, and of each the least time counts. What is printed is what docs/PERFORMANCE.md has: when and
-where it was; nanoseconds per item of an input, which is a character, a key or a report; how many
-events each parser makes of an input, where these aren't its items; what many parsers cost that get
-reads in turn; and what names of keys, bindings and a matcher cost, from C.
+turn, and of each the least time counts. What is printed is what docs/PERFORMANCE.md has:
+
+- when and where it was
+- nanoseconds per item of an input, which is a character, a key or a report
+- how many events each parser makes of an input, where these aren't its items
+- what many parsers cost that get reads in turn
+- what names of keys, bindings and a matcher cost, from C
 
 The parsers are C (InputParser), Legacy and Kitty (the extended parser under that protocol, from C),
 Rust and Python (InputParser), libtermkey, crossterm and prompt_toolkit. The last three are those of

@@ -1,6 +1,5 @@
-# Judges what tools/growth.sh counted of names, bindings and matchers; judge.awk follows. The third file has a line for each task: what it does,
-# with what, the size of that, how many times, the bytes of memory that it took, its nanoseconds and, unless it was only timed, its
-# instructions. A task of a larger size comes after the one of a smaller size.
+# Judges what tools/growth.sh counted of names, bindings and matchers; judge.awk follows. The third file has a line for each task, as
+# tools/growth/chords.c prints it. Unless the task was only timed, its instructions follow. A task of a larger size comes after the one of a smaller size.
 BEGIN {
     # The most instructions of one time, beside those of the smaller size. A search among four times the chords takes two steps more.
     GROWS["read"] = GROWS["print"] = 1.1

@@ -1,8 +1,9 @@
 /* What tools/growth.sh counts of names of keys, bindings and matchers.
  *
- *     chords            carries tasks out within `counted`, and prints of each what it does, with what, the size of that, how many times, the
- *                       bytes of memory that it took, and its nanoseconds
- *     chords figures    does so with those tasks whose time is told: tools/performance.py and tools/growth.sh read it */
+ *     chords            carries tasks out within `counted`, and prints a line of each
+ *     chords figures    does so with those tasks whose time is told: tools/performance.py and tools/growth.sh read it
+ *
+ * A line has what the task does, with what, the size of that and how many times, then the bytes of memory that it took and its nanoseconds. */
 #include "counts.h"
 #include "hedrugal.h"
 #include <stdint.h>
