@@ -1418,12 +1418,16 @@ static bool begins_age(size_t at, uint8_t by) {
   return by == HED_AGE_LAST ? told_notes[at].seen.fed : told_notes[at].seen.taken || told_notes[at - 1].seen.empty;
 }
 
+static size_t last_beginning(uint8_t by) {
+  size_t at = told_len - 1;
+  while (!begins_age(at, by)) at--;
+  return at;
+}
+
 /* How far the clock stepped forward since the age began, up to the longest time. */
 static uint64_t plain_age(uint8_t by, uint64_t now) {
-  size_t at = told_len - 1;
   uint64_t age = 0;
-  while (!begins_age(at, by)) at--;
-  for (; at < told_len; at++) {
+  for (size_t at = last_beginning(by); at < told_len; at++) {
     uint64_t next = at + 1 < told_len ? told_notes[at + 1].now : now;
     uint64_t step = next > told_notes[at].now ? next - told_notes[at].now : 0;
     age = step > UINT64_MAX - age ? UINT64_MAX : age + step;
@@ -1450,21 +1454,34 @@ static hed_seen make_seen(void) {
   return (hed_seen){ limits[number_below(8)], (uint8_t)number_below(2), number_below(3) == 0, number_below(3) == 0, number_below(3) == 0 };
 }
 
-/* A timer and its copy answer as a plain timer does, before and after each note. */
-static void agrees_with_a_plain_timer(void) {
-  for (int timers = 0; timers < 300; timers++) {
-    hed_timer timer = HED_TIMER_NONE;
-    uint64_t now = make_time(0);
-    for (told_len = 0; told_len < PLAIN_NOTES;) {
-      told_notes[told_len].now = now;
-      told_notes[told_len].seen = make_seen();
-      EXPECT(hed_timer_note(&timer, now, &told_notes[told_len++].seen));
-      for (int asks = 0; asks < 3; asks++, now = make_time(now)) {
-        hed_timer copy = timer;
-        EXPECT(hed_timer_timeout(&copy, now) == plain_timeout(now) && memcmp(&copy, &timer, sizeof timer) == 0);
-      }
-    }
+/* Notes something in a timer and in the plain one. */
+static void note_in_both(hed_timer *timer, uint64_t now) {
+  hed_seen seen = make_seen();
+  EXPECT(hed_timer_note(timer, now, &seen));
+  told_notes[told_len].now = now;
+  told_notes[told_len++].seen = seen;
+}
+
+/* A timer's copy answers as the plain timer does, at three times from this one on. Returns the next time. */
+static uint64_t ask_both(const hed_timer *timer, uint64_t now) {
+  for (int asks = 0; asks < 3; asks++, now = make_time(now)) {
+    hed_timer copy = *timer;
+    EXPECT(hed_timer_timeout(&copy, now) == plain_timeout(now) && memcmp(&copy, timer, sizeof copy) == 0);
   }
+  return now;
+}
+
+static void agrees_with_one_plain_timer(void) {
+  hed_timer timer = HED_TIMER_NONE;
+  uint64_t now = make_time(0);
+  for (told_len = 0; told_len < PLAIN_NOTES;) {
+    note_in_both(&timer, now);
+    now = ask_both(&timer, now);
+  }
+}
+
+static void agrees_with_plain_timers(void) {
+  for (int timers = 0; timers < 300; timers++) agrees_with_one_plain_timer();
 }
 
 /* A number of no age is refused in either struct, and the timer is unchanged. */
@@ -1615,7 +1632,7 @@ int main(int argc, char **argv) {
   keeps_many_keys();
   keeps_short_keys();
   tells_how_long_to_wait();
-  agrees_with_a_plain_timer();
+  agrees_with_plain_timers();
   refuses_other_ages();
   takes_null_for_no_bytes();
   reads_from_a_page_that_is_read_only();

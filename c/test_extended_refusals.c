@@ -365,26 +365,39 @@ static bool refuse_while_binding(long number) {
   return told > 0;
 }
 
-/* Another value for a chord, and another init, with each request refused in turn: until one is granted, the bindings are unchanged. */
-static void refuse_while_binding_again(void) {
+/* Another value for a chord, with each request refused in turn: until one is granted, the bindings are unchanged. The chord has its value again
+ * in the end. */
+static void refuse_another_value(hed_bindings *bindings) {
   enum { REPLACED = 4 };
-  hed_bindings bindings = HED_BINDINGS_NONE;
   hed_key_press keys[HED_CHORD_MOST];
+  size_t count = read_bound(REPLACED, keys);
   uint64_t value;
   long number;
+  for (number = 1; refuse(number), hed_bindings_bind(bindings, keys, count, 99) == HED_BOUND_NO_MEMORY; number++)
+    expect_bound(bindings, BOUND);
+  EXPECT(number > 1 && !refused && hed_bindings_len(bindings) == BOUND);
+  EXPECT(hed_bindings_lookup(bindings, keys, count, &value) == HED_BOUND_VALUE && value == 99);
+  refuse(0);
+  EXPECT(hed_bindings_bind(bindings, keys, count, REPLACED) == HED_BOUND_VALUE);
+}
+
+/* The same of another init, after which no chord has a value. */
+static void refuse_another_init(hed_bindings *bindings) {
+  long number;
+  for (number = 1; refuse(number), !hed_bindings_init(bindings); number++) expect_bound(bindings, BOUND);
+  EXPECT(number > 1 && !refused);
+  expect_bound(bindings, 0);
+  refuse(0);
+}
+
+/* Calls that find bindings, with each request refused in turn. */
+static void refuse_while_binding_again(void) {
+  hed_bindings bindings = HED_BINDINGS_NONE;
+  hed_key_press keys[HED_CHORD_MOST];
   EXPECT(hed_bindings_init(&bindings));
   for (size_t at = 0; at < BOUND; at++) EXPECT(hed_bindings_bind(&bindings, keys, read_bound(at, keys), at) == HED_BOUND_VALUE);
-  size_t count = read_bound(REPLACED, keys);
-  for (number = 1; refuse(number), hed_bindings_bind(&bindings, keys, count, 99) == HED_BOUND_NO_MEMORY; number++)
-    expect_bound(&bindings, BOUND);
-  EXPECT(number > 1 && !refused && hed_bindings_len(&bindings) == BOUND);
-  EXPECT(hed_bindings_lookup(&bindings, keys, count, &value) == HED_BOUND_VALUE && value == 99);
-  refuse(0);
-  EXPECT(hed_bindings_bind(&bindings, keys, count, REPLACED) == HED_BOUND_VALUE);
-  for (number = 1; refuse(number), !hed_bindings_init(&bindings); number++) expect_bound(&bindings, BOUND);
-  EXPECT(number > 1 && !refused);
-  expect_bound(&bindings, 0);
-  refuse(0);
+  refuse_another_value(&bindings);
+  refuse_another_init(&bindings);
   hed_bindings_free(&bindings);
   EXPECT(in_use == 0);
 }

@@ -170,7 +170,7 @@ def build(chosen, work):
             missing[name] = reason
     if "C" in programs:
         programs[OWN] = builder.from_c("-DOWN_TABLES")
-    return programs, missing, builder.tasks() if "C" in programs else None
+    return programs, missing, [Tasks(builder.tasks())] if "C" in programs else []
 
 
 class Input:
@@ -276,7 +276,7 @@ def costs(many):
 
 def report(chosen, work):
     """Builds and measures, and returns the text."""
-    programs, missing, words = build(chosen, work)
+    programs, missing, tasks = build(chosen, work)
     size = chosen.kilobytes << 10
     inputs = {name: Input(work, name, size) for name in chosen.inputs or TITLES}
     cells = {}
@@ -287,7 +287,6 @@ def report(chosen, work):
     for it, count in itertools.product([it for it in MANY if it in programs], [1, *chosen.parsers]):
         given = [Input(work, name, size if count == 1 else MANY_BYTES) for name in MANY_INPUTS]
         many[it, count] = [Cell(programs[it], each, chosen.read, count) for each in given]
-    tasks = [Tasks(words)] if words else []
     for number in range(chosen.runs):
         progress(f"pass {number + 1} of {chosen.runs}")
         for cell in [*cells.values(), *sum(many.values(), []), *tasks]:

@@ -273,25 +273,35 @@ def modes() -> Iterator[None]:
                 write(OFF)
 
 
+def first_lines(bindings: Bindings[Command]) -> List[str]:
+    """Returns a line of the first chord that ends the program, if there is one."""
+    return [f"{chord} ends" for chord, command in bindings.items() if command is Command.QUIT][:1]
+
+
+def edit_until_noted(program: Edit, wake: int, lines: List[str]) -> None:
+    """Prints lines, and runs the program until a signal that stops or continues it."""
+    with raw_mode(0), modes():
+        for line in lines:
+            print_line(line)
+        while not noted:
+            program.step(wake)
+
+
 def edit(bindings: Bindings[Command]) -> NoReturn:
     """Runs the program. It raises SystemExit at the end."""
     wake, handlers = os.pipe()
     os.set_blocking(handlers, False)
     signal.set_wakeup_fd(handlers, warn_on_full_buffer=False)
     note_job_signals()
-    ends = [f"{chord} ends" for chord, command in bindings.items() if command is Command.QUIT][:1]
+    lines = first_lines(bindings)
     with ExtendedParser() as parser:
         program = Edit(parser, bindings)
         while True:
-            with raw_mode(0), modes():
-                for line in ends:
-                    print_line(line)
-                while not noted:
-                    program.step(wake)
+            edit_until_noted(program, wake, lines)
             stop_if_asked()
             # Another program had the terminal: what was buffered before no longer counts.
             parser.reset()
-            ends.clear()
+            lines = []
 
 
 def main() -> int:

@@ -167,13 +167,17 @@ static uint32_t draw(size_t below) {
   return (uint32_t)(((uint64_t)state * below) >> 32);
 }
 
+static void shuffle(uint32_t *places, size_t count) {
+  for (size_t i = count; i > 1; i--) {
+    uint32_t other = draw(i), place = places[other];
+    places[other] = places[i - 1];
+    places[i - 1] = place;
+  }
+}
+
 static void put_in_order(work *it, enum order order) {
   for (size_t i = 0; i < it->count; i++) it->order[i] = (uint32_t)(order == FALLING ? it->count - 1 - i : i);
-  for (size_t i = it->count; order == DRAWN && i > 1; i--) {
-    uint32_t other = draw(i), place = it->order[other];
-    it->order[other] = it->order[i - 1];
-    it->order[i - 1] = place;
-  }
+  if (order == DRAWN) shuffle(it->order, it->count);
 }
 
 static void bind_all(void *given) {
