@@ -86,6 +86,7 @@ static bool read_replies(hed_terminal *terminal, hed_extended *parser) {
     switch (hed_terminal_wait(terminal, wait_ms(parser, now, end))) {
       case HED_TERMINAL_INPUT: goes_on = read_bytes(parser, &is_over); break;
       case HED_TERMINAL_NOTHING: goes_on = print_expired(parser); break;
+      case HED_TERMINAL_RESUMED: hed_extended_reset(parser); break;
       case HED_TERMINAL_ENDING:
       case HED_TERMINAL_FAILED: goes_on = false; break;
       default: break;

@@ -58,9 +58,9 @@ int signals_ending(void) {
 }
 
 static bool take(volatile sig_atomic_t *came) {
-  bool was = *came;
+  if (!*came) return false;
   *came = 0;
-  return was;
+  return true;
 }
 
 bool signals_take_stop(void) {
@@ -78,8 +78,8 @@ bool signals_take_resize(void) {
 void signals_stop(void) {
   handle(SIGTSTP, SIG_DFL);
   raise(SIGTSTP);
-  handle(SIGTSTP, note);
   stopping = 0;
+  handle(SIGTSTP, note);
   note(SIGCONT);
 }
 

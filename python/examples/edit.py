@@ -252,13 +252,12 @@ def note_job_signals() -> None:
 def stop_if_asked() -> None:
     """Stops as a program does that handles no SIGTSTP. Goes on once it is continued, or at once if
     no shell could continue it."""
-    is_asked = signal.SIGTSTP in noted
-    noted.clear()
-    if is_asked:
+    if signal.SIGTSTP in noted:
         signal.signal(signal.SIGTSTP, signal.SIG_DFL)
         os.kill(os.getpid(), signal.SIGTSTP)
+        noted.discard(signal.SIGTSTP)
         note_job_signals()
-        noted.discard(signal.SIGCONT)
+    noted.discard(signal.SIGCONT)
 
 
 @contextlib.contextmanager
