@@ -109,6 +109,7 @@ static const struct {
   { "a b c", "a b UNBIND:a_b_c", "?a; ?b", "" },
   { "ctrl+x ctrl+c", "ctrl+x ctrl+\321\201/ctrl+c", "1", "" },
   { "ctrl+\321\201,ctrl+c", "ctrl+\321\201/ctrl+c", "1", "" },
+  { "ctrl+c", "ctrl+\321\201/ctrl+c a", "1; ?a", "" },
   { "", "a ctrl+b", "?a; ?ctrl+b", "" },
 };
 

@@ -77,6 +77,7 @@ fn keys_run_commands() {
         ("a b c", "a b UNBIND:a_b_c", "?a; ?b", ""),
         ("ctrl+x ctrl+c", "ctrl+x ctrl+с/ctrl+c", "1", ""),
         ("ctrl+с, ctrl+c", "ctrl+с/ctrl+c", "1", ""),
+        ("ctrl+c", "ctrl+с/ctrl+c a", "1; ?a", ""),
         ("g, g g", "g", "", "g"),
     ];
     for (chords, words, outcome, pending) in rows {
