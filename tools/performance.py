@@ -155,7 +155,7 @@ TASKS = {
 
 
 def build(chosen, work):
-    """Returns the programs, why some couldn't be built, and the words that carry tasks out."""
+    """Returns the programs, why some couldn't be built, and the tasks."""
     progress("building the library")
     run("make", "-s", "library", f"LIBRARY={chosen.library or ''}")
     builder = Builder(f"{work}/built", chosen.library or f"{TOP}/out/lib")
