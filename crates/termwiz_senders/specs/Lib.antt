@@ -1,0 +1,2 @@
+pub mod Pastes
+pub mod PasteLaws
