@@ -1,5 +1,5 @@
 -- The laws of mouse reports: what is sent is read back.
-use Rattle.std.specs.Prelude.{◌≡◌, ℕ, ◌+◌, ◌^◌, ◌<◌, Bool, true, List, [], ◌∷◌, Some}
+use Rattle.std.specs.Prelude.{◌≡◌, ℕ, ◌^◌, ◌<◌, Bool, true, List, [], ◌∷◌, Some}
 use Rattle.termwiz_base.specs.Mouse.{IsReport, report_of}
 use Rattle.termwiz_base.specs.declared.mouse.MouseReport.{MouseReport}
 use Rattle.termwiz_base.specs.declared.mouse.MouseReport.TheVariants.{SGR1006}

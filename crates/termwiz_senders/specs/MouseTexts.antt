@@ -1,6 +1,6 @@
 -- What a terminal sends for a mouse report: xterm's modes 9, 1000, 1002 and 1003, in its encodings of bytes and of mode 1006, and in that of
 -- urxvt's mode 1015.
-use Rattle.std.specs.Prelude.{◌≡◌, ℕ, ◌+◌, ◌<◌, Bool, true, false, ◌||◌, nat_lt, List, [], ◌∷◌, ◌++◌, codes, decimal, Option, Some, None, if◌then◌else◌}
+use Rattle.std.specs.Prelude.{ℕ, ◌+◌, Bool, true, false, ◌||◌, nat_lt, List, [], ◌∷◌, ◌++◌, codes, decimal, Option, Some, None, if◌then◌else◌}
 use Rattle.termwiz_base.specs.Mouse.{final_press, final_release}
 use Rattle.termwiz_base.specs.declared.modifiers.Modifiers.{Modifiers}
 use Rattle.termwiz_base.specs.declared.mouse.MouseButton.{MouseButton}
