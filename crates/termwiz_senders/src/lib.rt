@@ -4,3 +4,5 @@
 pub mod laws;
 pub mod mouse;
 pub mod paste;
+#[cfg(test)]
+mod tests;
