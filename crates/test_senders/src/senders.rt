@@ -1,11 +1,11 @@
 // Each call on its happy path.
 
-use crate::mouse::{MouseEncoding, MouseError, MouseTracking, encode_mouse};
-use crate::paste::encode_paste;
 use std::alloc::{AllocError, Global};
 use std::process::Abort;
 use std::test::Fail;
 use termwiz_base::{Modifiers, MouseButton, MouseReport};
+use termwiz_senders::mouse::{MouseEncoding, MouseError, MouseTracking, encode_mouse};
+use termwiz_senders::paste::encode_paste;
 
 // A text with both ends of a line, the end of a paste, a tab and a broken byte.
 fn check_paste(rt: &impl Abort, alloc: Global) -> Result<(), AllocError> {
