@@ -790,7 +790,8 @@ def test_full_disk(words):
 def test_memory_refused(compiled, tmp_path, bound, words, has_bindings):
     """Each request is refused in turn. The program says so, or needed no more than granted."""
     wraps = ["-Wl,--wrap=malloc", "-Wl,--wrap=realloc"]
-    program = compiled("refusing", "c11", *wraps, *TOP.glob("keys/*.c"), TOP / "tests/refuse.c")
+    sources = [*TOP.glob("keys/*.c"), TOP / "c/hedrugal_terminal.c", TOP / "tests/refuse.c"]
+    program = compiled("refusing", "c11", *wraps, f"-I{TOP}/c", *sources)
     (tmp_path / "typed").write_bytes(b"abc" * 50 + START + b"x" * 5000 + END)
     words = [*words, *["--bindings", bound()] * has_bindings, tmp_path / "typed"]
     for count in range(1000):
