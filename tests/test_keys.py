@@ -367,7 +367,7 @@ def test_kitty_keyboard(start):
 
 
 def test_flags_of_kitty_nest(start):
-    """They are pushed again only after they were popped, and not by a SIGCONT without a stop."""
+    """They are pushed again only after they were popped, also by a SIGCONT without a stop."""
     keys = start("--kitty-keyboard", "--focus")
     keys.kill(signal.SIGCONT)
     keys.wait_for(lambda: keys.output.count(b"\033[?1004h") == 2, "focus mode again")
@@ -375,7 +375,7 @@ def test_flags_of_kitty_nest(start):
     keys.continue_in_foreground()
     keys.wait_for(keys.modes, "modes")
     keys.end_by(signal.SIGTERM)
-    assert re.findall(rb"\033\[(>31|<)u", keys.output) == [b">31", b"<"] * 2
+    assert re.findall(rb"\033\[(>31|<)u", keys.output) == [b">31", b"<"] * 3
 
 
 @pytest.mark.parametrize("number", ENDING_SIGNALS, ids=lambda it: it.name)
