@@ -141,8 +141,8 @@ out/build/lib%.a: tools/growth/%.rt.txt $(proved_libraries) | out/build
 out/bin/keyshow: crates/keyshow/out/keyshow | out/bin
 	cp $< $@
 
-out/bin/hedrugal-keys: $(wildcard keys/*.[ch]) $(lib)/libhedrugal.a | out/bin
-	$(CC) -std=c11 $(CPPFLAGS) $(CFLAGS) -fPIE -I$(lib) keys/*.c $(lib)/libhedrugal.a $(LDFLAGS) -pie -o $@
+out/bin/hedrugal-keys: $(wildcard keys/*.[ch] c/hedrugal_terminal.[ch]) $(lib)/libhedrugal.a | out/bin
+	$(CC) -std=c11 $(CPPFLAGS) $(CFLAGS) -fPIE -I$(lib) -Ic keys/*.c c/hedrugal_terminal.c $(lib)/libhedrugal.a $(LDFLAGS) -pie -o $@
 
 # Install. Relative folders are those of the folder in which make runs.
 destdir = $(shell realpath -ms -- '$(DESTDIR)/')

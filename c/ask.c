@@ -113,7 +113,7 @@ int main(void) {
     fputs("ask: out of memory\n", stderr);
     return 1;
   }
-  if (!hed_terminal_open(&terminal, "", "")) {
+  if (!hed_terminal_open(&terminal, 1, "", "")) {
     fprintf(stderr, "ask: %s\n", terminal.failure);
     hed_extended_free(&parser);
     return 2;

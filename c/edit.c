@@ -417,7 +417,7 @@ static void print_end(const edit *it) {
 }
 
 static void run(edit *it) {
-  if (!hed_terminal_open(&it->terminal, enter, leave)) {
+  if (!hed_terminal_open(&it->terminal, 1, enter, leave)) {
     fail(it, it->terminal.failure);
     return;
   }

@@ -14,6 +14,7 @@
 static volatile sig_atomic_t ending, stopping, continued, resized;
 static int wake[2];
 static const hed_terminal *volatile entered; /* the one that is in raw mode */
+static volatile sig_atomic_t is_switched; /* whether its leave is still to be written */
 
 static bool fail(hed_terminal *it, const char *failure) {
   it->failure = failure;
@@ -48,10 +49,37 @@ void hed_terminal_end(void) {
   raise(ending);
 }
 
+static void write_text(const hed_terminal *it, const char *text) {
+  size_t left = strlen(text);
+  while (left > 0) {
+    ssize_t written = write(it->output, text, left);
+    if (written <= 0) return; /* the terminal is gone, which the next read tells as well */
+    text += written;
+    left -= (size_t)written;
+  }
+}
+
+/* Not twice, also where the handler below interrupts it: modes may nest. */
+static void write_leave(const hed_terminal *it) {
+  if (!is_switched) return;
+  is_switched = false;
+  write_text(it, it->leave);
+}
+
+/* What can't be written at once is left out. */
+static void leave_at_once(const hed_terminal *it) {
+  int flags = fcntl(it->output, F_GETFL);
+  fcntl(it->output, F_SETFL, flags | O_NONBLOCK);
+  write_leave(it);
+  fcntl(it->output, F_SETFL, flags);
+  tcflush(0, TCIFLUSH);
+  tcsetattr(0, TCSANOW, &it->saved);
+}
+
 /* The program still runs a second after a signal that ends it: a write blocks, and goes on after signals. */
 static void end_at_once(int number) {
   (void)number;
-  if (entered) tcsetattr(0, TCSANOW, &entered->saved);
+  if (entered) leave_at_once(entered);
   hed_terminal_end();
 }
 
@@ -66,7 +94,7 @@ static bool note_signals(hed_terminal *it) {
 }
 
 static bool find_terminal(hed_terminal *it) {
-  if (!isatty(1) || tcgetattr(0, &it->saved) != 0) return fail(it, "standard input and output have to be a terminal");
+  if (!isatty(it->output) || tcgetattr(0, &it->saved) != 0) return fail(it, "standard input and output have to be a terminal");
   it->raw = it->saved;
   it->raw.c_iflag &= ~(tcflag_t)(BRKINT | ICRNL | IGNCR | INLCR | INPCK | ISTRIP | IXON);
   it->raw.c_lflag &= ~(tcflag_t)(ECHO | ICANON | IEXTEN | ISIG);
@@ -75,27 +103,19 @@ static bool find_terminal(hed_terminal *it) {
   return true;
 }
 
-static void write_text(const char *text) {
-  size_t left = strlen(text);
-  while (left > 0) {
-    ssize_t written = write(1, text, left);
-    if (written <= 0) return; /* the terminal is gone, which the next read tells as well */
-    text += written;
-    left -= (size_t)written;
-  }
-}
-
 /* If it was never left, as around SIGSTOP, modes that nest are left first. */
 static bool enter_terminal(hed_terminal *it) {
   if (tcsetattr(0, TCSADRAIN, &it->raw) != 0) return fail(it, "raw mode can't be set");
-  if (entered) write_text(it->leave);
   entered = it;
-  write_text(it->enter);
+  write_leave(it);
+  write_text(it, it->enter);
+  is_switched = true;
   return true;
 }
 
-bool hed_terminal_open(hed_terminal *terminal, const char *enter, const char *leave) {
+bool hed_terminal_open(hed_terminal *terminal, int output, const char *enter, const char *leave) {
   memset(terminal, 0, sizeof *terminal);
+  terminal->output = output;
   terminal->enter = enter;
   terminal->leave = leave;
   return find_terminal(terminal) && note_signals(terminal) && enter_terminal(terminal);
@@ -104,7 +124,7 @@ bool hed_terminal_open(hed_terminal *terminal, const char *enter, const char *le
 void hed_terminal_close(hed_terminal *terminal) {
   if (!entered) return;
   fflush(stdout);
-  write_text(terminal->leave);
+  write_leave(terminal);
   tcsetattr(0, TCSAFLUSH, &terminal->saved);
   entered = NULL;
 }
@@ -149,7 +169,7 @@ enum hed_terminal_event hed_terminal_wait(hed_terminal *terminal, int millisecon
 
 bool hed_terminal_size(unsigned *columns, unsigned *rows) {
   struct winsize size;
-  if (ioctl(0, TIOCGWINSZ, &size) != 0) return false;
+  if (ioctl(1, TIOCGWINSZ, &size) != 0) return false;
   *columns = size.ws_col;
   *rows = size.ws_row;
   return true;

@@ -7,7 +7,7 @@
  *
  * q ends the program, and so do the end of the input, SIGHUP, SIGINT, SIGQUIT and SIGTERM. ^C, ^Z and ^\ are keys like any other (ISIG is
  * off), as in an editor; SIGTSTP from another process stops it until SIGCONT. The terminal is restored whenever it ends or stops in one of
- * these ways; if its output can't be written since nobody reads it, its settings alone, a second after the signal. */
+ * these ways; if nobody reads its output, a second after the signal, but for what can't be written at once. */
 #define _POSIX_C_SOURCE 200809L
 #include "hedrugal.h"
 #include "hedrugal_terminal.h"
@@ -110,7 +110,7 @@ static void run(live *it) {
 static void run_on_terminal(live *it, bool mouse) {
   const char *enter = mouse ? "\033[?2004h\033[?1003h\033[?1006h" : "\033[?2004h";
   const char *leave = mouse ? "\033[?1006l\033[?1003l\033[?2004l" : "\033[?2004l";
-  if (!hed_terminal_open(&it->terminal, enter, leave)) {
+  if (!hed_terminal_open(&it->terminal, 1, enter, leave)) {
     fail(it, it->terminal.failure);
     return;
   }

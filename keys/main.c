@@ -4,36 +4,34 @@
  * any other (ISIG is off). The terminal is restored whenever the program ends or stops, as in c/live.c. */
 #define _POSIX_C_SOURCE 200809L
 #include "bindings.h"
+#include "hedrugal_terminal.h"
 #include "json.h"
 #include "names.h"
 #include "options.h"
 #include "reader.h"
 #include "screen.h"
-#include "signals.h"
-#include "terminal.h"
 #include "waiting.h"
 #include <errno.h>
 #include <fcntl.h>
-#include <poll.h>
 #include <signal.h>
 #include <stdio.h>
 #include <string.h>
-#include <time.h>
 #include <unistd.h>
 
 enum { READ_SIZE = 4096, PASTE_LIMIT = 1 << 20 };
 
 typedef struct keys {
   options options;
-  terminal terminal;
+  hed_terminal terminal;
+  text enter, leave; /* which switch the modes on and off */
   screen screen;
   line line;
   reader reader;
   bindings bindings;
-  int input, wake;
+  int input;
   bool is_live; /* whether the input is a terminal, where pauses count */
   bool was_end; /* whether the last event was ^D */
-  bool is_over; /* whether ^D came twice */
+  bool is_over; /* whether ^D came twice, or a signal ends the program */
   const char *failure; /* why the program ends, if nobody asked for it */
   int error; /* the system's number for that, 0 if it has none */
   bool is_refused; /* whether the file of bindings is, and standard error says why */
@@ -46,13 +44,6 @@ static bool fail(keys *it, const char *failure, int error) {
   it->failure = failure;
   it->error = error;
   return false;
-}
-
-/* The time in milliseconds, by a clock that nobody sets. */
-static uint64_t now_ms(void) {
-  struct timespec now;
-  clock_gettime(CLOCK_MONOTONIC, &now);
-  return (uint64_t)now.tv_sec * 1000 + (uint64_t)now.tv_nsec / 1000000;
 }
 
 static bool flush_output(keys *it) {
@@ -84,7 +75,7 @@ static void note_end(keys *it, const hed_extended_event *event) {
 static bool decide(keys *it, bool more) {
   outcome decided;
   uint32_t next;
-  while ((next = bindings_next(&it->bindings, more, now_ms(), &decided)) == HED_NEXT_EVENT)
+  while ((next = bindings_next(&it->bindings, more, hed_terminal_now(), &decided)) == HED_NEXT_EVENT)
     if (!line_decide(&it->line, &decided)) return fail(it, no_memory, 0);
   return next == HED_NEXT_NONE || fail(it, no_memory, 0);
 }
@@ -165,7 +156,7 @@ static void show(keys *it) {
   reasons why = { .lists_keys = true };
   if (!it->is_live && is_undecided(it)) return;
   add_waiting(&why.bytes, &it->reader, &it->line);
-  if (it->is_live) add_waiting_for(&why.bytes, &it->reader, now_ms());
+  if (it->is_live) add_waiting_for(&why.bytes, &it->reader, hed_terminal_now());
   if (it->is_live) add_pending(&why.presses);
   draw(it, &why);
 }
@@ -198,10 +189,10 @@ static bool handle_input(keys *it) {
 static bool handle_pause(keys *it) {
   hed_extended_event event;
   uint32_t next;
-  while ((next = reader_expire(&it->reader, now_ms(), &event)) == HED_NEXT_EVENT)
+  while ((next = reader_expire(&it->reader, hed_terminal_now(), &event)) == HED_NEXT_EVENT)
     if (!handle_event(it, &event)) return false;
   if (next != HED_NEXT_NONE) return fail(it, no_memory, 0);
-  if (bindings_timeout(&it->bindings, now_ms()) == 0 && !give_up(it)) return false;
+  if (bindings_timeout(&it->bindings, hed_terminal_now()) == 0 && !give_up(it)) return false;
   show(it);
   return true;
 }
@@ -218,13 +209,9 @@ static bool handle_end(keys *it) {
 }
 
 static void take_size(keys *it) {
-  size_t columns, rows;
-  terminal_size(&columns, &rows);
+  unsigned columns = 0, rows = 0;
+  hed_terminal_size(&columns, &rows);
   screen_resize(&it->screen, columns, rows);
-}
-
-static bool enter_terminal(keys *it) {
-  return terminal_enter(&it->terminal) || fail(it, "raw mode can't be set", errno);
 }
 
 static void forget_waiting(keys *it) {
@@ -236,30 +223,9 @@ static void forget_waiting(keys *it) {
   bindings_forget(&it->bindings);
 }
 
-/* Another program had the terminal: what was buffered before no longer counts, and the size may be new. */
-static bool resume(keys *it) {
-  if (!enter_terminal(it)) return false;
-  take_size(it);
-  forget_waiting(it);
-  return true;
-}
-
-static bool handle_wake(keys *it) {
-  signals_heed();
-  if (signals_ending()) return false;
-  if (signals_take_stop()) {
-    terminal_leave(&it->terminal);
-    signals_stop();
-    return true; /* a signal that ends the program comes before raw mode */
-  }
-  if (signals_take_continue()) return resume(it);
-  if (signals_take_resize()) take_size(it);
-  return true;
-}
-
 /* How long nothing has to come until something is decided: -1 if a pause decides nothing. */
 static int32_t timeout(keys *it) {
-  uint64_t now = now_ms();
+  uint64_t now = hed_terminal_now();
   int32_t bytes = reader_timeout(&it->reader, now);
   int32_t presses = bindings_timeout(&it->bindings, now);
   if (bytes < 0 || presses < 0) return bytes < 0 ? presses : bytes;
@@ -267,11 +233,17 @@ static int32_t timeout(keys *it) {
 }
 
 static bool wait_and_handle(keys *it) {
-  struct pollfd ready[2] = { { .fd = it->input, .events = POLLIN }, { .fd = it->wake, .events = POLLIN } };
-  int count = poll(ready, 2, timeout(it));
-  if (count == 0) return handle_pause(it);
-  if (count < 0) return errno == EINTR || fail(it, "the terminal can't be polled", errno);
-  return ready[1].revents ? handle_wake(it) : handle_input(it);
+  switch (hed_terminal_wait(&it->terminal, timeout(it))) {
+    case HED_TERMINAL_NOTHING: return timeout(it) != 0 || handle_pause(it); /* a signal may end the wait earlier */
+    case HED_TERMINAL_INPUT: return handle_input(it);
+    case HED_TERMINAL_RESUMED:
+      take_size(it);
+      forget_waiting(it);
+      return true;
+    case HED_TERMINAL_RESIZED: take_size(it); return true;
+    case HED_TERMINAL_FAILED: return fail(it, it->terminal.failure, errno);
+    default: it->is_over = true; return false;
+  }
 }
 
 static void run(keys *it) {
@@ -288,18 +260,27 @@ static void show_waiting(keys *it) {
 }
 
 static void finish(keys *it) {
-  bool has_ended = !it->failure && !it->is_over && !signals_ending();
+  bool has_ended = !it->failure && !it->is_over;
   if (has_ended && !handle_end(it)) return;
   if (!it->failure) show_waiting(it);
   if (!it->failure) flush_output(it);
 }
 
+static void join_modes(keys *it) {
+  for (size_t i = 0; i < MODE_COUNT; i++) {
+    size_t back = MODE_COUNT - 1 - i;
+    if (it->options.modes[i]) text_add(&it->enter, "%s", all_modes[i].on);
+    if (it->options.modes[back]) text_add(&it->leave, "%s", all_modes[back].off);
+  }
+}
+
+/* The terminal is written there, whatever the standard output is. */
 static bool start_live(keys *it) {
-  if (!terminal_find(&it->terminal, it->options.modes)) return fail(it, "the terminal can't be written", errno);
-  it->wake = signals_note(terminal_leave_at_once);
-  if (it->wake < 0) return fail(it, "signals can't be handled", errno);
-  if (!enter_terminal(it)) return false;
-  terminal_write(&it->terminal, "hedrugal-keys: press keys; ^D twice ends it.\n");
+  int output = isatty(1) ? 1 : open("/dev/tty", O_WRONLY | O_NOCTTY);
+  if (output < 0) return fail(it, "the terminal can't be written", errno);
+  join_modes(it);
+  if (!hed_terminal_open(&it->terminal, output, it->enter.bytes, it->leave.bytes)) return fail(it, it->terminal.failure, errno);
+  dprintf(output, "hedrugal-keys: press keys; ^D twice ends it.\n");
   return true;
 }
 
@@ -332,7 +313,7 @@ static void show_input(keys *it) {
     run(it);
     finish(it);
   }
-  terminal_leave(&it->terminal);
+  hed_terminal_close(&it->terminal);
   reader_free(&it->reader);
   line_free(&it->line);
   bindings_free(&it->bindings);
@@ -350,7 +331,7 @@ static void print_error(const char *words, int error) {
 }
 
 static int status_of(const keys *it) {
-  if (signals_ending()) signals_end(signals_ending());
+  hed_terminal_end();
   if (it->is_refused) return 2;
   if (!it->failure) return 0;
   print_error(it->failure, it->error);

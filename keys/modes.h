@@ -11,7 +11,6 @@ typedef struct mode {
   const char *word; /* that asks for it */
   const char *on, *off;
   bool wants_kitty; /* whether the input is to be read as Kitty's keyboard protocol means it */
-  bool nests; /* whether the terminal counts how often it was switched on, and wants it off as often */
 } mode;
 
 extern const mode all_modes[MODE_COUNT];

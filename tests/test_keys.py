@@ -367,7 +367,7 @@ def test_kitty_keyboard(start):
 
 
 def test_flags_of_kitty_nest(start):
-    """They are pushed again only after they were popped, and not by a SIGCONT without a stop."""
+    """They are pushed again only after they were popped, also by a SIGCONT without a stop."""
     keys = start("--kitty-keyboard", "--focus")
     keys.kill(signal.SIGCONT)
     keys.wait_for(lambda: keys.output.count(b"\033[?1004h") == 2, "focus mode again")
@@ -375,7 +375,7 @@ def test_flags_of_kitty_nest(start):
     keys.continue_in_foreground()
     keys.wait_for(keys.modes, "modes")
     keys.end_by(signal.SIGTERM)
-    assert re.findall(rb"\033\[(>31|<)u", keys.output) == [b">31", b"<"] * 2
+    assert re.findall(rb"\033\[(>31|<)u", keys.output) == [b">31", b"<"] * 3
 
 
 @pytest.mark.parametrize("number", ENDING_SIGNALS, ids=lambda it: it.name)
@@ -790,7 +790,8 @@ def test_full_disk(words):
 def test_memory_refused(compiled, tmp_path, bound, words, has_bindings):
     """Each request is refused in turn. The program says so, or needed no more than granted."""
     wraps = ["-Wl,--wrap=malloc", "-Wl,--wrap=realloc"]
-    program = compiled("refusing", "c11", *wraps, *TOP.glob("keys/*.c"), TOP / "tests/refuse.c")
+    sources = [*TOP.glob("keys/*.c"), TOP / "c/hedrugal_terminal.c", TOP / "tests/refuse.c"]
+    program = compiled("refusing", "c11", *wraps, f"-I{TOP}/c", *sources)
     (tmp_path / "typed").write_bytes(b"abc" * 50 + START + b"x" * 5000 + END)
     words = [*words, *["--bindings", bound()] * has_bindings, tmp_path / "typed"]
     for count in range(1000):
