@@ -15,7 +15,7 @@ const char options_help[] =
     "  --kitty-keyboard            it reports keys by Kitty's protocol, with repeats and releases; implies --extended=kitty\n"
     "  --extended, --extended=kitty\n"
     "                              also reads what terminals send beyond the sequence table; =kitty as Kitty's protocol means it\n"
-    "  --bindings FILE             shows what the keys do by the bindings of a file, and which keys may follow;\n"
+    "  --bindings=FILE             shows what the keys do by the bindings of a file, and which keys may follow;\n"
     "                              a line of it is a command and the keys of a chord: save ctrl+x ctrl+s\n"
     "  --hex                       bytes in hexadecimal\n"
     "  --json                      an object on a line for each event\n"
@@ -42,7 +42,7 @@ static bool read_file(options *it, const char *word) {
   return it->refused.length == 0;
 }
 
-/* The file is the next word, NULL if there is none. */
+/* The file is the rest of the word, or the next one: NULL if there is none. */
 static bool read_bindings(options *it, const char *word) {
   if (!word) text_add(&it->refused, "--bindings wants a file behind it; --help says more");
   else if (it->bindings) text_add(&it->refused, "wants one file of bindings, and '%s' is another; --help says more", word);
@@ -59,7 +59,9 @@ static bool read_reading(options *it, const char *word) {
 }
 
 static bool read_word(options *it, const char *word) {
+  static const char bindings[] = "--bindings=";
   if (*word != '-') return read_file(it, word);
+  if (strncmp(word, bindings, strlen(bindings)) == 0) return read_bindings(it, word + strlen(bindings));
   if (read_reading(it, word)) return true;
   bool *is_asked = NULL;
   if (strcmp(word, "--hex") == 0) is_asked = &it->is_hex;

@@ -621,7 +621,7 @@ def test_what_keys_do(bound):
 
 
 def test_what_keys_do_as_json(bound):
-    status, out, errors = run("--json", "--bindings", bound(), typed=DONE_BY)
+    status, out, errors = run("--json", f"--bindings={bound()}", typed=DONE_BY)
     told = [json.loads(line) for line in out.splitlines()]
     fields = ["kind", "outcomes", "pending", "continuations"]
     shown = [{name: it[name] for name in fields if name in it} for it in told]
