@@ -3,6 +3,7 @@ pub mod ExtendedCuts
 pub mod ExtendedStreams
 pub mod SequencesStand
 pub mod StringsStand
+pub mod PastesStand
 pub mod SameAsPort
 pub mod PartsOfPastes
 pub mod QuestionsMoveNothing

@@ -59,7 +59,7 @@ none_begins reading u b (inl h) =
 none_begins reading u b (inr o) =
     no_opening_after 27 91 (codes "200~" ++ b.0) (λ escape is. omega arith) (subst StartsWithOpening b.1 o)
 
-usual_start : (reading : Reading) (u : List ℕ) (f : Bool) → Begins START u → IsUsual reading u f
+pub usual_start : (reading : Reading) (u : List ℕ) (f : Bool) → Begins START u → IsUsual reading u f
 usual_start reading u f b = record {
   none = none_begins reading u b;
   closed = λ h. ⊎_elim
@@ -111,7 +111,7 @@ stands reading body rest f first =
     usual (START ++ body ++ END) rest (Paste (utf8_lossy body)) (paste_stands body rest f first) refl (usual_start reading u f b)
     (λ v split. usual_after reading u v b split f)
 
-paste_then : (reading : Reading) (body rest W : List ℕ) (E : List ExtendedEvent) (f : Bool) → EndsFirst body → Means reading rest f E W
+pub paste_then : (reading : Reading) (body rest W : List ℕ) (E : List ExtendedEvent) (f : Bool) → EndsFirst body → Means reading rest f E W
     → Means reading (START ++ (body ++ END ++ rest)) f (Input (Paste (utf8_lossy body)) ∷ E) W
 paste_then reading body rest W E f first means =
     record { steps = (rest, stands reading body rest f first, means.steps); rest = means.rest }

@@ -55,6 +55,13 @@ no_mark_into u r b some second mark =
     let last : b ∷ r ≡ 92 ∷ [] = escape_within u (b ∷ r) some mark in
     second_no_backslash b second (cc (last))
 
+-- nothing extra begins an ESC alone
+usual_escape : (reading : Reading) → IsUsual reading ESC false
+usual_escape reading = record { none = none; closed = λ h. cc (h.more_comes) }
+  where
+    none : StartsExtended reading ESC → ⊥
+    none h = (let s = starts_shape reading ESC h in cc (s.2))
+
 module _ (reading : Reading) (b : ℕ) (r : List ℕ) (second : IsSecond b) where
   -- a mark doesn't go on from a text into this one
   not_past : (u t s : List ℕ) → u ≢ [] → t ≢ [] → IsMark reading.x10_mouse (u ++ t) → 27 ∷ b ∷ r ≡ t ++ s → ⊥
@@ -96,8 +103,12 @@ module _ (reading : Reading) (b : ℕ) (r : List ℕ) (second : IsSecond b) wher
   usual_before : (u : List ℕ) (f : Bool) → u ≢ [] → IsUsual reading u false → IsUsual reading (u ++ 27 ∷ b ∷ r) f
   usual_before u f some is = record { none = λ h. is.none (starts_before u some h); closed = open_before u f some }
 
-  -- an item of a flush stands also before such a text, to which an ESC by itself isn't joined
-  item_before : (u left : List ℕ) (event : ExtendedEvent) (f : Bool) → (u ≡ ESC → StartsApart reading (27 ∷ b ∷ r))
+  pub usual_escape_before : (f : Bool) → IsUsual reading (ESC ++ 27 ∷ b ∷ r) f
+  usual_escape_before f = usual_before ESC f (λ e. cc (e)) (usual_escape reading)
+
+  -- an item of a flush stands also before such a text, before which an ESC by itself is the Escape key
+  item_before : (u left : List ℕ) (event : ExtendedEvent) (f : Bool)
+      → (u ≡ ESC → Stands reading (ESC ++ 27 ∷ b ∷ r) f (27 ∷ b ∷ r) (Input (Key escape)))
       → Stands reading u false left event → Stands reading (u ++ 27 ∷ b ∷ r) f (left ++ 27 ∷ b ∷ r) event
   item_before u left event f here (extra text left2 e is split) =
       extra text (left2 ++ 27 ∷ b ∷ r) e is (ap (λ x. x ++ 27 ∷ b ∷ r) split ∙ append_assoc text left2 (27 ∷ b ∷ r))
@@ -113,10 +124,9 @@ module _ (reading : Reading) (b : ℕ) (r : List ℕ) (second : IsSecond b) wher
       let one = item_once ESC false bytes ESC e (Key escape)
       (subst (λ x. port.Item x false bytes e) alone stands.item) escape_itself in
       let none : left2 ≡ [] = append_cancel_left ESC left2 [] (ap (λ z. z ++ left2) (sym one.0) ∙ sym split ∙ alone) in
-      let item : Stands reading (ESC ++ 27 ∷ b ∷ r) f (27 ∷ b ∷ r) (Input (Key escape)) = lone_escape (27 ∷ b ∷ r) refl (here alone) in
       subst (λ x. Stands reading (u ++ 27 ∷ b ∷ r) f (x ++ 27 ∷ b ∷ r) (Input e)) (sym none)
       (subst (λ x. Stands reading (u ++ 27 ∷ b ∷ r) f (27 ∷ b ∷ r) (Input x)) (sym one.1)
-      (subst (λ x. Stands reading (x ++ 27 ∷ b ∷ r) f (27 ∷ b ∷ r) (Input (Key escape))) (sym alone) item)))
+      (subst (λ x. Stands reading (x ++ 27 ∷ b ∷ r) f (27 ∷ b ∷ r) (Input (Key escape))) (sym alone) (here alone))))
       (λ (longer : u ≡ ESC → ⊥). usual bytes (left2 ++ 27 ∷ b ∷ r) e (stands_before u (b ∷ r) bytes e f longer stands)
       (ap (λ x. x ++ 27 ∷ b ∷ r) split ∙ append_assoc bytes left2 (27 ∷ b ∷ r))
       (usual_before u f some is)
@@ -127,28 +137,30 @@ module _ (reading : Reading) (b : ℕ) (r : List ℕ) (second : IsSecond b) wher
       some : u ≢ []
       some = port_some u bytes left2 false e stands split
 
--- an ESC that is left by a flush isn't joined to z
+-- an ESC that is left by a flush is the Escape key before z
+abbrev pub EscapesStand : Reading → List ℕ → List ℕ → Bool → Type 0
+EscapesStand reading T z f = (before : List ExtendedEvent) → Steps reading T false before ESC
+    → Stands (after_events reading before) (ESC ++ z) f z (Input (Key escape))
+
+-- it isn't joined to z
 abbrev pub EscapesApart : Reading → List ℕ → List ℕ → Type 0
 EscapesApart reading T z = (before : List ExtendedEvent) → Steps reading T false before ESC → StartsApart (after_events reading before) z
 
-steps_before : (b : ℕ) (r : List ℕ) → IsSecond b → (reading : Reading) (E : List ExtendedEvent) (T W : List ℕ) (f : Bool)
-    → EscapesApart reading T (27 ∷ b ∷ r) → Steps reading T false E W → Steps reading (T ++ 27 ∷ b ∷ r) f E (W ++ 27 ∷ b ∷ r)
-steps_before b r second reading [] T W f apart h = ap (λ x. x ++ 27 ∷ b ∷ r) h
-steps_before b r second reading (e ∷ E) T W f apart (left, stands, steps) = (
+pub steps_before : (b : ℕ) (r : List ℕ) → IsSecond b → (reading : Reading) (E : List ExtendedEvent) (T W : List ℕ) (f : Bool)
+    → EscapesStand reading T (27 ∷ b ∷ r) f → Steps reading T false E W → Steps reading (T ++ 27 ∷ b ∷ r) f E (W ++ 27 ∷ b ∷ r)
+steps_before b r second reading [] T W f escapes h = ap (λ x. x ++ 27 ∷ b ∷ r) h
+steps_before b r second reading (e ∷ E) T W f escapes (left, stands, steps) = (
   left ++ 27 ∷ b ∷ r,
-  item_before reading b r second T left e f (λ alone. apart [] alone) stands,
-  steps_before b r second (after_event reading e) E left W f (λ before more. apart (e ∷ before) (left, stands, more)) steps,
+  item_before reading b r second T left e f (λ alone. escapes [] alone) stands,
+  steps_before b r second (after_event reading e) E left W f (λ before more. escapes (e ∷ before) (left, stands, more)) steps,
 )
 
 -- a flush makes the Escape key of ESC alone
 escape_alone : (reading : Reading) → Stands reading ESC false [] (Input (Key escape))
 escape_alone reading = usual ESC [] (Key escape) (record { closed = λ h. cc (h.more_comes); item = escape_itself }) refl
-    (record { none = no_extended; closed = λ h. cc (h.more_comes) })
+    (usual_escape reading)
     (λ v split. subst (λ x. IsUsual reading x false) (let none : [] ≡ v = cc (split) in none)
     (record { none = none_at_end reading; closed = λ h. h.some refl }))
-  where
-    no_extended : StartsExtended reading ESC → ⊥
-    no_extended h = (let s = starts_shape reading ESC h in cc (s.2))
 
 -- so what a flush leaves of the reading is what was left of it before that ESC
 same_reading : (reading : Reading) (T : List ℕ) (E before : List ExtendedEvent) → Means reading T false E [] → Steps reading T false before ESC
@@ -166,7 +178,8 @@ pub flushed_before : (reading : Reading) (T z : List ℕ) (E : List ExtendedEven
     → EscapesApart reading T z → Steps reading T false E [] → Steps reading (T ++ z) f E z
 flushed_before reading T z E f at apart before =
     let s = starts_shape (after_events reading E) z at in
-    let first = steps_before s.0 s.1 s.3 reading E T [] f (subst (EscapesApart reading T) s.2 apart) before in
+    let escapes : EscapesStand reading T z f = λ left steps. lone_escape z refl (apart left steps) in
+    let first = steps_before s.0 s.1 s.3 reading E T [] f (subst (λ y. EscapesStand reading T y f) s.2 escapes) before in
     subst (λ y. Steps reading (T ++ y) f E y) (sym s.2) first
 
 pub sequence_stands : SequenceStands

@@ -40,12 +40,12 @@ digits_pass (d ∷ ds) a =
     rw (here, digits_pass ds a.1) refl
 
 -- digits of a number within limits are read as that number
-number_of_digits : (least limit n : ℕ) (ds : List ℕ) → IsDecimal n ds → length ds ≤ 7 → least ≤ n → n ≤ limit
-    → number least limit ds ≡ Some n
+pub number_of_digits : (most least limit n : ℕ) (ds : List ℕ) → IsDecimal n ds → length ds ≤ most → least ≤ n → n ≤ limit
+    → number_within most least limit ds ≡ Some n
 unfolding number_within
-number_of_digits least limit n ds is short low high =
+number_of_digits most least limit n ds is short low high =
     let some : nat_lt 0 (length ds) ≡ true = grind (arith, nat_tests, is.some) in
-    let few : nat_le (length ds) 7 ≡ true = grind (arith, nat_tests) in
+    let few : nat_le (length ds) most ≡ true = grind (arith, nat_tests) in
     let above : nat_le least n ≡ true = grind (arith, nat_tests) in
     let below : nat_le n limit ≡ true = grind (arith, nat_tests) in
     rw (some, few, digits_pass ds is.each, is.value, above, below) refl
@@ -59,7 +59,7 @@ few n h = lt_trans h (lit< tt)
 
 pub number_decimal : (least limit n : ℕ) → least ≤ n → n ≤ limit → n < 2000000 → number least limit (decimal n) ≡ Some n
 number_decimal least limit n low high small =
-    number_of_digits least limit n (decimal n) (decimal_is n (in_word n small))
+    number_of_digits 7 least limit n (decimal n) (decimal_is n (in_word n small))
     (length-decimal-le 7 n (lit< tt) (few n small) (in_word n small)) low high
 
 -- the number of a character

@@ -1,0 +1,11 @@
+pub mod SafeFronts
+pub mod SafeCharacters
+pub mod SafeLengths
+pub mod SafePastes
+pub mod TypedPastes
+pub mod MouseCodes
+pub mod WrittenNumbers
+pub mod ControlForms
+pub mod SgrReports
+pub mod UrxvtReports
+pub mod ByteReports

@@ -1,0 +1,4 @@
+pub mod Pastes
+pub mod PasteLaws
+pub mod MouseTexts
+pub mod MouseLaws
