@@ -4,5 +4,3 @@
 pub mod laws;
 pub mod mouse;
 pub mod paste;
-#[cfg(test)]
-mod tests;

@@ -91,7 +91,7 @@ const NO_BUTTON: u8 = 3;
 /// What a terminal sends for a mouse report, if the program asked for these reports in this encoding. It is empty for a report that the
 /// program doesn't get. Of the modifiers Shift, Alt and Ctrl are sent, and in mode 9 none.
 ///
-/// `TooFar` comes exactly for a place that the encoding can't tell. The only other error is `Memory`.
+/// `TooFar` comes exactly for a report that the program gets, at a place that the encoding can't tell. The only other error is `Memory`.
 #[tactic(auto, unfolding(crate::specs::MouseTexts::mouse_text))]
 pub fn encode_mouse(
     alloc: Global,

@@ -32,7 +32,7 @@ read_scalars (suc fuel) (x ∷ xs) le =
     rw (lossy_chars-step text some, read_scalar text, read_scalars fuel (drop size text) shorter) refl
 
 -- the characters of a text are those that are read one by one
-pub characters_read : (text : List ℕ) → characters text ≡ lossy_chars text
+characters_read : (text : List ℕ) → characters text ≡ lossy_chars text
 characters_read text =
     ap chars (sym (lossy_chars-utf8_lossy text)) ∙ chars-encodes (lossy_chars text) (read_scalars (length text) text (omega arith))
 
@@ -111,7 +111,7 @@ line_end_front text (rest, e) =
 
 -- any other character
 
-pub reads_ascii : (text : List ℕ) (c : ℕ) → or_replacement (decoded text).char ≡ c → c < 128 → text ≡ c ∷ drop (decoded text).size text
+reads_ascii : (text : List ℕ) (c : ℕ) → or_replacement (decoded text).char ≡ c → c < 128 → text ≡ c ∷ drop (decoded text).size text
 reads_ascii text c e low = go (decoded text).char refl
   where
     go : (o : Option ℕ) → (decoded text).char ≡ o → text ≡ c ∷ drop (decoded text).size text

@@ -14,7 +14,7 @@ use Rattle.termwiz_senders.proofs.lemmas.SafeCharacters.{Becomes, becomes}
 use Rattle.termwiz_senders.proofs.lemmas.SafeCharacters.Becomes.{tab, line_end, shown, delete, broken, itself}
 use Rattle.termwiz_senders.proofs.lemmas.SafeFronts.{safe_read}
 
-abbrev pub encoded_length : List ℕ → ℕ
+abbrev encoded_length : List ℕ → ℕ
 encoded_length cs = length (encode_utf8_all cs)
 
 some_bytes : (c : ℕ) → 1 ≤ length (encode_utf8 c)

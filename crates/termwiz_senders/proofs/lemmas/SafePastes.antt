@@ -35,7 +35,7 @@ safe_no_escape c scalar (inl tab) = rw tab ((λ e. omega arith), tt)
 safe_no_escape c scalar (inr (inl line_end)) = rw line_end ((λ e. omega arith), tt)
 safe_no_escape c scalar (inr (inr none)) = character_no_escape c (text_character c scalar none)
 
-pub all_no_escape : (cs : List ℕ) → all_scalars cs ≡ true → All IsSafe cs → HasNoEscape (encode_utf8_all cs)
+all_no_escape : (cs : List ℕ) → all_scalars cs ≡ true → All IsSafe cs → HasNoEscape (encode_utf8_all cs)
 all_no_escape [] scalars are = tt
 all_no_escape (c ∷ cs) scalars are =
     let both = and_parts _ (all_scalars cs) scalars in

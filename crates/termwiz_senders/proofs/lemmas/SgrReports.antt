@@ -134,7 +134,7 @@ sgr_sent : (tracking : MouseTracking) (t : Told) (bytes : List ℕ) → is_repor
 sgr_sent tracking t bytes reported e =
     let some : Some (sgr_text (code_of tracking Sgr t) t.x t.y (last_byte (action_of t.button))) ≡ Some bytes = rw reported at e in cc (some)
 
-pub sgr_small : (tracking : MouseTracking) (t : Told) → code_of tracking Sgr t ≤ 95
+sgr_small : (tracking : MouseTracking) (t : Told) → code_of tracking Sgr t ≤ 95
 sgr_small tracking t =
     let h = held_bits tracking t.modifiers.0 in
     subst (λ n. n ≤ 95) (sym (code_is tracking Sgr t h)) (small_is _ (sgr_tells t.button h.s h.a h.c).small)
