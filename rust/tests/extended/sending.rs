@@ -18,14 +18,14 @@ const PASTES: [(&[u8], &str); 7] = [
 
 fn is_one_paste(text: &[u8], safe: &str) {
     let sent = encode_paste(text, true);
-    let paste = InputEvent::Paste(safe.to_string());
+    let paste = || InputEvent::Paste(safe.to_string());
     assert_eq!(sent, format!("\x1b[200~{safe}\x1b[201~"));
     assert_eq!(encode_paste(text, false), safe);
     let mut port = InputParser::new();
-    assert_eq!(port.parse_as_vec(sent.as_bytes(), true), [paste.clone()]);
+    assert_eq!(port.parse_as_vec(sent.as_bytes(), true), [paste()]);
     let mut extended = ExtendedParser::new(Protocol::Kitty);
     let events = extended.parse_as_vec(sent.as_bytes(), true);
-    assert_eq!(events, [ExtendedEvent::Input(paste)]);
+    assert_eq!(events, [ExtendedEvent::Input(paste())]);
     assert_eq!((port.waiting_len(), extended.waiting_len()), (0, 0));
 }
 
