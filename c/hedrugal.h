@@ -510,15 +510,16 @@ typedef struct hed_modes {
   bool has_modify_other_keys; /* modifyOtherKeys is on, at the level above */
 } hed_modes;
 
-/* What hed_encode and hed_encode_kitty return. */
+/* What hed_encode, hed_encode_kitty, hed_encode_paste and hed_encode_mouse return. */
 enum hed_encoded {
   /* numbers.txt: encoded c */
-  HED_ENCODED_TEXT = 0, /* The key's text, which may be empty. */
+  HED_ENCODED_TEXT = 0, /* The bytes, of which there may be none. */
   HED_ENCODED_REFUSED_KEY = 1, /* The key has no text. Of hed_encode it is a function key, since only F1 to F24 have one. */
   HED_ENCODED_REFUSED_MEMORY = 2, /* Memory was refused. The call may be made again. */
   HED_ENCODED_BAD_NUMBER = 3, /* A number names nothing. */
   HED_ENCODED_TOO_LONG = 4, /* The key's sequence would have more than 256 bytes. Only a key report with a long text has such a one. */
-  HED_ENCODED_BAD_TEXT = 5 /* The text of the key report isn't UTF-8. */
+  HED_ENCODED_BAD_TEXT = 5, /* The text of the key report isn't UTF-8. */
+  HED_ENCODED_TOO_FAR = 6 /* The place of the mouse report is above 223, which its encoding can't tell. */
   /* numbers.txt: end */
 };
 
@@ -858,6 +859,80 @@ uint32_t hed_extended_expire(hed_extended *parser, uint64_t now, hed_extended_ev
  * name. */
 uint32_t hed_encode_kitty(const hed_key_report *report, const uint8_t *text, size_t text_len, uint8_t flags, uint8_t *out, size_t len,
                           size_t *sent_len);
+
+/* Writes what a terminal sends for a pasted text to out, and the number of these bytes to *sent_len: the other way from a HED_KIND_PASTE.
+ * A terminal or a multiplexer calls it. text is any text_len bytes, read as UTF-8, with U+FFFD for each piece that is none. The text is made
+ * safe: LF, and CR LF as one, become CR, which Enter sends; HT and CR stay; any other control character becomes a character that does
+ * nothing, those below U+0020 and U+007F their pictures, U+2400 to U+241F and U+2421, and U+0080 to U+009F U+FFFD. If bracketed is true, the
+ * program turned bracketed paste mode on (mode 2004): ESC [200~ comes before the text, and ESC [201~ after it. Since no ESC is left in the
+ * text, no text can end its paste. The bytes are UTF-8 without a final 0, at most three for each byte of the text and twelve more.
+ *
+ * Returns an enum hed_encoded. With HED_ENCODED_TEXT *sent_len is the number of all these bytes, and out has as many of them as len says:
+ * if *sent_len is above len, call again with more room. The rest of out is unchanged. The only other answer is HED_ENCODED_REFUSED_MEMORY.
+ * Then *sent_len is 0 and out is unchanged. */
+uint32_t hed_encode_paste(const uint8_t *text, size_t text_len, bool bracketed, uint8_t *out, size_t len, size_t *sent_len);
+
+/* What a mouse report that is sent says: the field button of a hed_mouse_report. */
+enum hed_mouse {
+  /* numbers.txt: mouse c */
+  HED_MOUSE_NONE = 0, /* The mouse was moved while no button was down. */
+  HED_MOUSE_BUTTON1_PRESS = 1, /* The left button was pressed. */
+  HED_MOUSE_BUTTON2_PRESS = 2, /* The middle button was pressed. */
+  HED_MOUSE_BUTTON3_PRESS = 3, /* The right button was pressed. */
+  HED_MOUSE_BUTTON4_PRESS = 4, /* A wheel was turned up. */
+  HED_MOUSE_BUTTON5_PRESS = 5, /* A wheel was turned down. */
+  HED_MOUSE_BUTTON6_PRESS = 6, /* A wheel was turned left. */
+  HED_MOUSE_BUTTON7_PRESS = 7, /* A wheel was turned right. */
+  HED_MOUSE_BUTTON1_RELEASE = 8, /* The left button was released. */
+  HED_MOUSE_BUTTON2_RELEASE = 9, /* The middle button was released. */
+  HED_MOUSE_BUTTON3_RELEASE = 10, /* The right button was released. */
+  HED_MOUSE_BUTTON4_RELEASE = 11, /* The end of turning a wheel up, which few terminals report. */
+  HED_MOUSE_BUTTON5_RELEASE = 12, /* The end of turning a wheel down, which few terminals report. */
+  HED_MOUSE_BUTTON6_RELEASE = 13, /* The end of turning a wheel left, which few terminals report. */
+  HED_MOUSE_BUTTON7_RELEASE = 14, /* The end of turning a wheel right, which few terminals report. */
+  HED_MOUSE_BUTTON1_DRAG = 15, /* The mouse was moved while the left button was down. */
+  HED_MOUSE_BUTTON2_DRAG = 16, /* The mouse was moved while the middle button was down. */
+  HED_MOUSE_BUTTON3_DRAG = 17 /* The mouse was moved while the right button was down. */
+  /* numbers.txt: end */
+};
+
+/* The mouse reports that a program asked for, by xterm's modes: what hed_encode_mouse is given. */
+enum hed_mouse_tracking {
+  /* numbers.txt: mouse_tracking c */
+  HED_MOUSE_TRACKING_X10 = 0, /* Mode 9: presses, of wheels too, without modifiers. */
+  HED_MOUSE_TRACKING_NORMAL = 1, /* Mode 1000: presses and releases. */
+  HED_MOUSE_TRACKING_BUTTON = 2, /* Mode 1002: also moves while a button is down. */
+  HED_MOUSE_TRACKING_ANY = 3 /* Mode 1003: also moves while none is. */
+  /* numbers.txt: end */
+};
+
+/* How mouse reports are written: what hed_encode_mouse is given. */
+enum hed_mouse_encoding {
+  /* numbers.txt: mouse_encoding c */
+  HED_MOUSE_ENCODING_DEFAULT = 0, /* ESC [M and three bytes, which can't tell a place above 223. */
+  HED_MOUSE_ENCODING_URXVT = 1, /* Mode 1015, from urxvt: the same in decimal numbers. */
+  HED_MOUSE_ENCODING_SGR = 2 /* Mode 1006, and 1016 with a place in pixels: decimal numbers, and a release tells its button. */
+  /* numbers.txt: end */
+};
+
+/* A mouse report that is sent. */
+typedef struct hed_mouse_report {
+  uint16_t x; /* the column: the leftmost is 1; in mode 1016 the distance from the left in pixels */
+  uint16_t y; /* the row: the topmost is 1; in mode 1016 the distance from the top in pixels */
+  uint16_t modifiers; /* a set of HED_TERMWIZ_MOD_.. */
+  uint8_t button; /* an enum hed_mouse */
+} hed_mouse_report;
+
+/* Writes what a terminal sends for a mouse report to out, and the number of these bytes to *sent_len: the other way from a HED_KIND_MOUSE.
+ * tracking, an enum hed_mouse_tracking, is which reports the program asked for: there are no bytes for one that it doesn't get. encoding is
+ * an enum hed_mouse_encoding. Of the modifiers HED_TERMWIZ_MOD_SHIFT, ALT and CTRL are sent, and with HED_MOUSE_TRACKING_X10 none. Without
+ * HED_MOUSE_ENCODING_SGR the report of a release doesn't tell its button.
+ *
+ * Returns an enum hed_encoded. With HED_ENCODED_TEXT *sent_len is the number of all these bytes, and out has as many of them as len says:
+ * if *sent_len is above len, call again with more room. The rest of out is unchanged. Otherwise *sent_len is 0 and out is unchanged:
+ * HED_ENCODED_TOO_FAR if the program gets the report, and x or y is above 223 with HED_MOUSE_ENCODING_DEFAULT; HED_ENCODED_REFUSED_MEMORY
+ * if memory was refused; HED_ENCODED_BAD_NUMBER if button, tracking or encoding names nothing, or a bit of modifiers has no name. */
+uint32_t hed_encode_mouse(const hed_mouse_report *report, uint32_t tracking, uint32_t encoding, uint8_t *out, size_t len, size_t *sent_len);
 
 /* The press of a key: the key and the modifiers held with it, the same however the terminal reports the key. A program compares presses,
  * field by field, and looks up by them what a key does.

@@ -1,5 +1,5 @@
 /* A test of the calls of the extended parser. Events are told as lines, and compared for texts that are read whole, byte by byte and cut at
- * each place. Key reports are encoded and read back. */
+ * each place. Key reports, pastes and mouse reports are encoded and read back. */
 #define _DEFAULT_SOURCE
 #include "expect.h"
 #include "hedrugal.h"
@@ -1105,6 +1105,141 @@ static void reads_keys_back(hed_extended *parser) {
 
 static const hed_key_press unwritten = { 0x5555, 0x55, 0x55555555 }, no_press = NO_PRESS;
 
+#define START "\033[200~"
+#define END "\033[201~"
+#define PICTURE(last) "\342\220" last
+#define REPLACED "\357\277\275"
+
+/* A pasted text, and what it is made. */
+struct paste {
+  const char *text;
+  size_t len;
+  const char *safe;
+};
+
+static const struct paste pastes[] = {
+  { TEXT("two\nlines\r\n"), "two\rlines\r" },
+  { TEXT("a" END "b"), "a" PICTURE("\233") "[201~b" },
+  { TEXT("\033[20" END "1~"), PICTURE("\233") "[20" PICTURE("\233") "[201~1~" },
+  { TEXT("\0\003\t\177"), PICTURE("\200") PICTURE("\203") "\t" PICTURE("\241") },
+  { TEXT("\302\233201~\233"), REPLACED "201~" REPLACED },
+  { TEXT("\r\r\n\n"), "\r\r\r" },
+  { NULL, 0, "" },
+};
+
+static uint32_t encode_paste_in(const struct paste *it, bool bracketed, uint8_t room[64], size_t len, size_t *sent_len) {
+  memset(room, '.', 64);
+  *sent_len = 99;
+  return hed_encode_paste((const uint8_t *)it->text, it->len, bracketed, room, len, sent_len);
+}
+
+/* In brackets a paste is read as one event, of the text that it is made. */
+static void reads_paste_back(hed_extended *parser, const struct paste *it) {
+  uint8_t room[64];
+  size_t sent_len;
+  hed_extended_event event;
+  EXPECT(encode_paste_in(it, true, room, sizeof room, &sent_len) == HED_ENCODED_TEXT && hed_extended_feed(parser, room, sent_len));
+  EXPECT(hed_extended_next(parser, true, &event) == HED_NEXT_EVENT && event.kind == HED_KIND_PASTE);
+  EXPECT(hed_extended_text(parser, room, sizeof room) == strlen(it->safe) && memcmp(room, it->safe, strlen(it->safe)) == 0);
+  EXPECT(hed_extended_next(parser, true, &event) == HED_NEXT_NONE && hed_extended_waiting_len(parser) == 0);
+}
+
+static void reads_paste_back_by_the_port(const struct paste *it) {
+  hed_parser parser = HED_PARSER_NONE;
+  uint8_t room[64];
+  size_t sent_len;
+  hed_event event;
+  EXPECT(hed_parser_init(&parser) && encode_paste_in(it, true, room, sizeof room, &sent_len) == HED_ENCODED_TEXT);
+  EXPECT(hed_parser_feed(&parser, room, sent_len) && hed_parser_next(&parser, true, &event) == HED_NEXT_EVENT);
+  EXPECT(event.kind == HED_KIND_PASTE && event.paste_len == strlen(it->safe));
+  EXPECT(hed_parser_paste(&parser, room, sizeof room) == event.paste_len && memcmp(room, it->safe, event.paste_len) == 0);
+  EXPECT(hed_parser_next(&parser, true, &event) == HED_NEXT_NONE && hed_parser_waiting_len(&parser) == 0);
+  hed_parser_free(&parser);
+}
+
+static void encodes_paste(const struct paste *it, bool bracketed) {
+  char wanted[64];
+  int wanted_len = snprintf(wanted, sizeof wanted, bracketed ? START "%s" END : "%s", it->safe);
+  for (size_t len = 0; len <= (size_t)wanted_len + 1; len++) {
+    uint8_t room[64];
+    size_t kept = len < (size_t)wanted_len ? len : (size_t)wanted_len, sent_len;
+    EXPECT(encode_paste_in(it, bracketed, room, len, &sent_len) == HED_ENCODED_TEXT && sent_len == (size_t)wanted_len);
+    EXPECT(memcmp(room, wanted, kept) == 0 && room[kept] == '.' && room[63] == '.');
+  }
+}
+
+static void encodes_pastes(hed_extended *parser) {
+  for (size_t i = 0; i < sizeof pastes / sizeof *pastes; i++) {
+    encodes_paste(&pastes[i], true);
+    encodes_paste(&pastes[i], false);
+    reads_paste_back(parser, &pastes[i]);
+    reads_paste_back_by_the_port(&pastes[i]);
+  }
+}
+
+/* A mouse report, what a program asked for, what hed_encode_mouse returns, the bytes, and the event that they are read as. */
+struct sent_mouse {
+  hed_mouse_report report;
+  uint32_t tracking;
+  uint32_t encoding;
+  uint32_t answer;
+  const char *bytes;
+  const char *events;
+};
+
+#define MOUSE(button, x, y, held) \
+  { x, y, held, HED_MOUSE_##button }
+#define SENT(tracking, encoding) HED_MOUSE_TRACKING_##tracking, HED_MOUSE_ENCODING_##encoding, HED_ENCODED_TEXT
+#define EVERY_MODIFIER 4094
+
+static const struct sent_mouse sent_mouse[] = {
+  { MOUSE(BUTTON1_PRESS, 1, 1, 0), SENT(ANY, SGR), "\033[<0;1;1M", "Mouse(1, 1, 2, 0); " },
+  { MOUSE(BUTTON1_RELEASE, 1, 1, 0), SENT(ANY, SGR), "\033[<0;1;1m", "Mouse(1, 1, 0, 0); " },
+  { MOUSE(BUTTON1_RELEASE, 1, 1, HED_TERMWIZ_MOD_CTRL), SENT(NORMAL, DEFAULT), "\033[M3!!", "Mouse(1, 1, 0, 8); " },
+  { MOUSE(BUTTON3_RELEASE, 5, 6, 0), SENT(NORMAL, URXVT), "\033[35;5;6M", "Mouse(5, 6, 0, 0); " },
+  { MOUSE(BUTTON2_DRAG, 80, 24, HED_TERMWIZ_MOD_SHIFT), SENT(BUTTON, SGR), "\033[<37;80;24M", "Mouse(80, 24, 8, 2); " },
+  { MOUSE(BUTTON2_DRAG, 80, 24, 0), SENT(NORMAL, SGR), "", "" },
+  { MOUSE(NONE, 3, 4, HED_TERMWIZ_MOD_ALT), SENT(ANY, URXVT), "\033[75;3;4M", "Mouse(3, 4, 0, 4); " },
+  { MOUSE(NONE, 3, 4, 0), SENT(BUTTON, SGR), "", "" },
+  { MOUSE(BUTTON5_PRESS, 2, 2, 0), SENT(NORMAL, DEFAULT), "\033[Ma\"\"", "Mouse(2, 2, 16, 0); " },
+  { MOUSE(BUTTON6_RELEASE, 2, 2, 0), SENT(ANY, SGR), "\033[<66;2;2m", "Mouse(2, 2, 0, 0); " },
+  { MOUSE(BUTTON6_RELEASE, 2, 2, 0), SENT(NORMAL, DEFAULT), "\033[M#\"\"", "Mouse(2, 2, 0, 0); " },
+  { MOUSE(BUTTON1_PRESS, 1, 1, HED_TERMWIZ_MOD_CTRL), SENT(X10, DEFAULT), "\033[M !!", "Mouse(1, 1, 2, 0); " },
+  { MOUSE(BUTTON1_RELEASE, 1, 1, 0), SENT(X10, SGR), "", "" },
+  { MOUSE(BUTTON1_PRESS, 223, 95, 0), SENT(NORMAL, DEFAULT), "\033[M \377\177", "Mouse(223, 95, 2, 0); " },
+  { MOUSE(BUTTON1_PRESS, 224, 1, 0), HED_MOUSE_TRACKING_NORMAL, HED_MOUSE_ENCODING_DEFAULT, HED_ENCODED_TOO_FAR, "", "" },
+  { MOUSE(BUTTON1_PRESS, 1, 224, 0), HED_MOUSE_TRACKING_X10, HED_MOUSE_ENCODING_DEFAULT, HED_ENCODED_TOO_FAR, "", "" },
+  { MOUSE(BUTTON1_DRAG, 224, 1, 0), SENT(NORMAL, DEFAULT), "", "" },
+  { MOUSE(BUTTON7_PRESS, 65535, 0, 2 | 4 | 8), SENT(ANY, SGR), "\033[<95;65535;0M", "Mouse(65535, 0, 32, 14); " },
+  { MOUSE(BUTTON1_PRESS, 1, 1, EVERY_MODIFIER), SENT(ANY, SGR), "\033[<28;1;1M", "Mouse(1, 1, 2, 14); " },
+  /* what names nothing */
+  { { 1, 1, 0, HED_MOUSE_BUTTON3_DRAG + 1 }, HED_MOUSE_TRACKING_X10, HED_MOUSE_ENCODING_SGR, HED_ENCODED_BAD_NUMBER, "", "" },
+  { { 1, 1, 0, 255 }, HED_MOUSE_TRACKING_ANY, HED_MOUSE_ENCODING_SGR, HED_ENCODED_BAD_NUMBER, "", "" },
+  { MOUSE(BUTTON1_PRESS, 1, 1, 1), HED_MOUSE_TRACKING_ANY, HED_MOUSE_ENCODING_SGR, HED_ENCODED_BAD_NUMBER, "", "" },
+  { MOUSE(BUTTON1_PRESS, 1, 1, 4096), HED_MOUSE_TRACKING_X10, HED_MOUSE_ENCODING_SGR, HED_ENCODED_BAD_NUMBER, "", "" },
+  { MOUSE(NONE, 224, 1, 0), HED_MOUSE_TRACKING_ANY + 1, HED_MOUSE_ENCODING_DEFAULT, HED_ENCODED_BAD_NUMBER, "", "" },
+  { MOUSE(NONE, 224, 1, 0), HED_MOUSE_TRACKING_X10, HED_MOUSE_ENCODING_SGR + 1, HED_ENCODED_BAD_NUMBER, "", "" },
+  { MOUSE(NONE, 1, 1, 0), 0xffffffff, 0xffffffff, HED_ENCODED_BAD_NUMBER, "", "" },
+};
+
+static void encodes_mouse_in(const struct sent_mouse *it, size_t len) {
+  uint8_t room[64];
+  size_t wanted = strlen(it->bytes), kept = wanted < len ? wanted : len, sent_len = 99;
+  memset(room, '.', sizeof room);
+  EXPECT(hed_encode_mouse(&it->report, it->tracking, it->encoding, room, len, &sent_len) == it->answer && sent_len == wanted);
+  EXPECT(memcmp(room, it->bytes, kept) == 0 && room[kept] == '.' && room[63] == '.');
+}
+
+/* Mouse reports are written, and a parser that reads X10 mouse reports reads them back. */
+static void encodes_mouse_reports(hed_extended *parser) {
+  EXPECT(set_reading(parser, HED_PROTOCOL_KITTY, true, 0));
+  for (size_t i = 0; i < sizeof sent_mouse / sizeof *sent_mouse; i++) {
+    for (size_t len = 0; len <= strlen(sent_mouse[i].bytes) + 1; len++) encodes_mouse_in(&sent_mouse[i], len);
+    is_told(parser, sent_mouse[i].bytes, strlen(sent_mouse[i].bytes), sent_mouse[i].events);
+    EXPECT(hed_extended_waiting_len(parser) == 0);
+  }
+}
+
 /* What was written is the press, or nothing where there is none. */
 static void is_press(bool has, const hed_key_press *told, const hed_key_press *wanted) {
   const hed_key_press *is = has ? wanted : &unwritten;
@@ -1611,6 +1746,8 @@ int main(void) {
   tells_texts_of_presses();
   EXPECT(hed_extended_init(&parser, HED_PROTOCOL_KITTY));
   reads_keys_back(&parser);
+  encodes_pastes(&parser);
+  encodes_mouse_reports(&parser);
   hed_extended_free(&parser);
   return expected("test_extended");
 }

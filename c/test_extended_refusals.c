@@ -1,6 +1,6 @@
 /* Refuses each request for memory in turn, one in each run, and makes the refused call again. The answers must be those of a run without a
  * refusal, and each refusal must be told once. What is dropped or freed leaves no memory in use. The calls are those of the extended parser and
- * of bindings, hed_encode_kitty and hed_key_print.
+ * of bindings, hed_encode_kitty, hed_encode_paste, hed_encode_mouse and hed_key_print.
  *
  *     cc -Wl,--wrap=malloc -Wl,--wrap=realloc -Wl,--wrap=free test_extended_refusals.c libhedrugal.a && ./a.out [STEP]
  *
@@ -250,6 +250,34 @@ static void refuse_while_encoding(void) {
     EXPECT(number > 1);
     printf("key report: %ld refusals\n", number - 1);
   }
+}
+
+static uint32_t encode_sent(bool is_paste, uint8_t *room, size_t len, size_t *sent_len) {
+  static const hed_mouse_report report = { 1, 1, HED_TERMWIZ_MOD_NONE, HED_MOUSE_BUTTON1_PRESS };
+  static const uint8_t text[] = "\033 and some more text";
+  return is_paste ? hed_encode_paste(text, sizeof text - 1, true, room, len, sent_len)
+                  : hed_encode_mouse(&report, HED_MOUSE_TRACKING_ANY, HED_MOUSE_ENCODING_SGR, room, len, sent_len);
+}
+
+/* A paste or a mouse report, with each request refused in turn: nothing is written, and the call may be made again. */
+static void refuse_while_sending(bool is_paste) {
+  unsigned met;
+  long number = 0;
+  do {
+    uint8_t room[64] = { '.' };
+    size_t sent_len = 99;
+    refuse(++number);
+    uint32_t answer = encode_sent(is_paste, room, sizeof room, &sent_len);
+    met = refused;
+    refuse(0);
+    EXPECT(answer == (met ? HED_ENCODED_REFUSED_MEMORY : HED_ENCODED_TEXT));
+    EXPECT(!met || (sent_len == 0 && room[0] == '.'));
+    EXPECT(!met || encode_sent(is_paste, room, sizeof room, &sent_len) == HED_ENCODED_TEXT);
+    EXPECT(sent_len == (is_paste ? sizeof "\033[200~\342\220\233 and some more text\033[201~" - 1 : sizeof "\033[<0;1;1M" - 1)
+           && room[0] == '\033');
+  } while (met);
+  EXPECT(number > 1);
+  printf("%s: %ld refusals\n", is_paste ? "paste" : "mouse report", number - 1);
 }
 
 /* The names of two chords, with each request refused in turn: nothing is written, and the call may be made again. Nothing else of names needs
@@ -578,6 +606,8 @@ int main(int argc, char **argv) {
   refuse_parts();
   refuse_time();
   refuse_while_encoding();
+  refuse_while_sending(true);
+  refuse_while_sending(false);
   refuse_while_printing();
   refuse_bindings();
   refuse_replies();

@@ -24,6 +24,7 @@ from hedrugal import (
     Waiting,
     extended,
     replies,
+    sending,
 )
 from helpers import HERE, LIBRARY, constants, read, run_python
 
@@ -118,7 +119,8 @@ def test_calls():
     header = re.sub(r"/\*.*?\*/", "", read("c/hedrugal.h"), flags=re.S)
     calls = re.findall(r"^[a-z].*?[ *](hed_\w+)\(([^;]*)\);", header, flags=re.M)
     counts = {name: 0 if taken == "void" else taken.count(",") + 1 for name, taken in calls}
-    declared = {**hedrugal._CALLS, **extended._CALLS, **replies._CALLS}
+    modules = (hedrugal, extended, replies, sending)
+    declared = {name: call for it in modules for name, call in it._CALLS.items()}
     assert counts == {name: len(taken) for name, (_, taken) in declared.items()}
 
 
@@ -145,6 +147,11 @@ def test_layouts_of_the_extended_parser():
     raw = event(report=report(1, 2, 3, 4, 5, 6), input=hedrugal._RawEvent(1, 2, 3, 4, 5, 6, 7, 8))
     assert extended._report_fields_of(raw, extended._REPORT_AT) == (1, 2, 3, 4, 5, 6)
     assert hedrugal._fields_of(raw, extended._INPUT_AT) == (1, 2, 3, 4, 5, 6, 7, 8)
+
+
+def test_layout_of_mouse_reports():
+    raw = sending._RawMouseReport
+    assert (ctypes.sizeof(raw), raw.modifiers.offset, raw.button.offset) == (8, 4, 6)
 
 
 def test_layout_of_replies():

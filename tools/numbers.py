@@ -70,12 +70,13 @@ PLACES = {
     HEADER: {
         "c": "kind next waiting age termwiz_mod button key encoding kitty_flag encoded found"
         " protocol side_button key_event_kind kitty_mod named printed bound pressed outcome replied"
-        " reply device_attributes mode_state colour_name colour_scheme"
+        " reply device_attributes mode_state colour_name colour_scheme mouse mouse_tracking"
+        " mouse_encoding"
     },
     "rust/src/raw.rs": {
         "const": "next waiting age encoded found kind protocol side_button key_event_kind encoding"
         " named printed bound pressed outcome replied reply device_attributes mode_state"
-        " colour_name colour_scheme"
+        " colour_name colour_scheme mouse mouse_tracking mouse_encoding"
     },
     "rust/src/input/flags.rs": {"flag": "termwiz_mod button kitty_flag kitty_mod"},
     "rust/src/input/keys.rs": {"variant": "key", "number": "key", "of": "key"},
@@ -92,6 +93,7 @@ PLACES = {
         "member": "device_attributes mode_state colour_name colour_scheme",
         "private": "replied reply",
     },
+    "python/hedrugal/sending.py": {"member": "mouse mouse_tracking mouse_encoding"},
     "keys/names.c": {"table": "termwiz_mod button kitty_mod"},
 }
 
@@ -120,7 +122,7 @@ FORMS = {
 # The types of groups in Rust; the others are u32.
 RUST_TYPES = {
     **dict.fromkeys(
-        "kind side_button key_event_kind encoding reply device_attributes age".split(), "u8"
+        "kind side_button key_event_kind encoding reply device_attributes age mouse".split(), "u8"
     ),
     **dict.fromkeys("mode_state colour_name colour_scheme".split(), "u8"),
     **{"termwiz_mod": "Modifiers", "button": "MouseButtons"},
@@ -214,6 +216,10 @@ def constants(prefix: str) -> str:
     return rf"^(?:pub\(crate\) )?const {prefix}_(?P<name>\w+): u(?:8|32) = (?P<number>\d+);$"
 
 
+def variants(enum: str) -> str:
+    return rf"^ *(?P<number>\d+) => Some\({enum}::(?P<name>\w+)"
+
+
 FLAG = r"^ *pub const (?P<name>[A-Z0-9_]+): \w+ = \w+\((?P<number>\d+)(?: << (?P<shift>\d+))?\);$"
 KEY_NUMBER = r"^ *KeyCode::(?P<name>\w+)(?:\(_\))? => (?P<number>\d+),?$"
 KEY_NAME = r'^ *KeyCode::(?P<name>\w+)(?:\(_\))? => "(?P<text>\w+)"'
@@ -226,7 +232,7 @@ PROVED = [
     ("kind", "hedrugal/src/events.rt hedrugal/src/extended_events.rt", constants("KIND")),
     ("side_button", "hedrugal/src/extended_events.rt", constants("SIDE_BUTTON")),
     ("key_event_kind", "hedrugal/src/extended_events.rt", constants("KEY_EVENT_KIND")),
-    ("encoding", "hedrugal/src/modes.rt", r"^ *(?P<number>\d+) => Some\(\w+::(?P<name>\w+)"),
+    ("encoding", "hedrugal/src/modes.rt", variants("KeyboardEncoding")),
     ("next", "hedrugal/src/lib.rt", constants("NEXT")),
     ("encoded", "hedrugal/src/lib.rt", constants("ENCODED")),
     ("waiting", "hedrugal/src/lib.rt", constants("WAITING")),
@@ -244,6 +250,9 @@ PROVED = [
     ("mode_state", "hedrugal/src/replies.rt", constants("MODE_STATE")),
     ("colour_name", "hedrugal/src/replies.rt", constants("COLOUR_NAME")),
     ("colour_scheme", "hedrugal/src/replies.rt", constants("COLOUR_SCHEME")),
+    ("mouse", "hedrugal/src/sender_calls.rt", variants("MouseButton")),
+    ("mouse_tracking", "hedrugal/src/sender_calls.rt", variants("MouseTracking")),
+    ("mouse_encoding", "hedrugal/src/sender_calls.rt", variants("MouseEncoding")),
     ("termwiz_mod", "termwiz_base/src/modifiers.rt", FLAG),
     ("kitty_flag", "termwiz_base/src/kitty.rt", FLAG),
     ("button", "termwiz_keys/src/types.rt", FLAG),

@@ -103,8 +103,12 @@ __all__ = [
     "ModeReply",
     "ModeState",
     "Modifiers",
+    "MouseButton",
     "MouseButtons",
+    "MouseEncoding",
     "MouseEvent",
+    "MouseReport",
+    "MouseTracking",
     "NeedData",
     "Nothing",
     "Osc",
@@ -127,6 +131,7 @@ __all__ = [
     "Waiting",
     "WindowSizeReply",
     "encode",
+    "encode_paste",
     "key_report",
     "reply",
     "typed_text",
@@ -602,6 +607,7 @@ _ENCODED_REFUSED_MEMORY = 2
 _ENCODED_BAD_NUMBER = 3
 _ENCODED_TOO_LONG = 4
 _ENCODED_BAD_TEXT = 5
+_ENCODED_TOO_FAR = 6
 # numbers.txt: end
 # numbers.txt: found private
 _FOUND_NONE = 0
@@ -1771,8 +1777,8 @@ def encode(
     _fault()
 
 
-# The extended parser and replies have files of their own, which import names of this one: so these
-# lines come last.
+# The extended parser, replies and what is sent have files of their own, which import names of this
+# one: so these lines come last.
 from .extended import (  # noqa: E402
     Apc,
     Bindings,
@@ -1822,4 +1828,11 @@ from .replies import (  # noqa: E402
     VersionReply,
     WindowSizeReply,
     reply,
+)
+from .sending import (  # noqa: E402
+    MouseButton,
+    MouseEncoding,
+    MouseReport,
+    MouseTracking,
+    encode_paste,
 )

@@ -15,6 +15,7 @@ pub(crate) mod flags;
 mod keys;
 mod parser;
 mod policy;
+mod sending;
 mod timer;
 
 pub use encode::{EncodeError, KeyCodeEncodeModes, KeyboardEncoding, CSI, SS3};
@@ -26,6 +27,10 @@ pub use flags::{
 pub use keys::KeyCode;
 pub use parser::{AllocError, InputParser, ParseError, ParseVecError, Waiting};
 pub use policy::Policy;
+pub use sending::{
+    encode_paste, try_encode_paste, MouseButton, MouseEncoding, MouseError, MouseReport,
+    MouseTracking,
+};
 pub use timer::{Age, Seen, Timer};
 
 // What is said if the library answers otherwise than its header says.

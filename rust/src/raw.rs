@@ -40,7 +40,7 @@ pub const AGE_FRONT: u8 = 1;
 // numbers.txt: end
 
 // numbers.txt: encoded const
-/// The key's text, which may be empty.
+/// The bytes, of which there may be none.
 pub const ENCODED_TEXT: u32 = 0;
 /// The key has no text. Of hed_encode it is a function key, since only F1 to F24 have one.
 pub const ENCODED_REFUSED_KEY: u32 = 1;
@@ -52,6 +52,8 @@ pub const ENCODED_BAD_NUMBER: u32 = 3;
 pub const ENCODED_TOO_LONG: u32 = 4;
 /// The text of the key report isn't UTF-8.
 pub const ENCODED_BAD_TEXT: u32 = 5;
+/// The place of the mouse report is above 223, which its encoding can't tell.
+pub const ENCODED_TOO_FAR: u32 = 6;
 // numbers.txt: end
 
 // numbers.txt: found const
@@ -283,6 +285,65 @@ pub const COLOUR_SCHEME_DARK: u8 = 1;
 pub const COLOUR_SCHEME_LIGHT: u8 = 2;
 // numbers.txt: end
 
+// numbers.txt: mouse const
+/// The mouse was moved while no button was down.
+pub const MOUSE_NONE: u8 = 0;
+/// The left button was pressed.
+pub const MOUSE_BUTTON1_PRESS: u8 = 1;
+/// The middle button was pressed.
+pub const MOUSE_BUTTON2_PRESS: u8 = 2;
+/// The right button was pressed.
+pub const MOUSE_BUTTON3_PRESS: u8 = 3;
+/// A wheel was turned up.
+pub const MOUSE_BUTTON4_PRESS: u8 = 4;
+/// A wheel was turned down.
+pub const MOUSE_BUTTON5_PRESS: u8 = 5;
+/// A wheel was turned left.
+pub const MOUSE_BUTTON6_PRESS: u8 = 6;
+/// A wheel was turned right.
+pub const MOUSE_BUTTON7_PRESS: u8 = 7;
+/// The left button was released.
+pub const MOUSE_BUTTON1_RELEASE: u8 = 8;
+/// The middle button was released.
+pub const MOUSE_BUTTON2_RELEASE: u8 = 9;
+/// The right button was released.
+pub const MOUSE_BUTTON3_RELEASE: u8 = 10;
+/// The end of turning a wheel up, which few terminals report.
+pub const MOUSE_BUTTON4_RELEASE: u8 = 11;
+/// The end of turning a wheel down, which few terminals report.
+pub const MOUSE_BUTTON5_RELEASE: u8 = 12;
+/// The end of turning a wheel left, which few terminals report.
+pub const MOUSE_BUTTON6_RELEASE: u8 = 13;
+/// The end of turning a wheel right, which few terminals report.
+pub const MOUSE_BUTTON7_RELEASE: u8 = 14;
+/// The mouse was moved while the left button was down.
+pub const MOUSE_BUTTON1_DRAG: u8 = 15;
+/// The mouse was moved while the middle button was down.
+pub const MOUSE_BUTTON2_DRAG: u8 = 16;
+/// The mouse was moved while the right button was down.
+pub const MOUSE_BUTTON3_DRAG: u8 = 17;
+// numbers.txt: end
+
+// numbers.txt: mouse_tracking const
+/// Mode 9: presses, of wheels too, without modifiers.
+pub const MOUSE_TRACKING_X10: u32 = 0;
+/// Mode 1000: presses and releases.
+pub const MOUSE_TRACKING_NORMAL: u32 = 1;
+/// Mode 1002: also moves while a button is down.
+pub const MOUSE_TRACKING_BUTTON: u32 = 2;
+/// Mode 1003: also moves while none is.
+pub const MOUSE_TRACKING_ANY: u32 = 3;
+// numbers.txt: end
+
+// numbers.txt: mouse_encoding const
+/// ESC [M and three bytes, which can't tell a place above 223.
+pub const MOUSE_ENCODING_DEFAULT: u32 = 0;
+/// Mode 1015, from urxvt: the same in decimal numbers.
+pub const MOUSE_ENCODING_URXVT: u32 = 1;
+/// Mode 1006, and 1016 with a place in pixels: decimal numbers, and a release tells its button.
+pub const MOUSE_ENCODING_SGR: u32 = 2;
+// numbers.txt: end
+
 /// A parser, or none.
 #[repr(C)]
 pub struct Parser {
@@ -336,6 +397,15 @@ pub struct Policy {
     pub string: i32,
     pub character: i32,
     pub paste: i32,
+}
+
+/// A mouse report that is sent.
+#[repr(C)]
+pub struct MouseReport {
+    pub x: u16,
+    pub y: u16,
+    pub modifiers: u16,
+    pub button: u8,
 }
 
 /// What a program tells a timer: what is pending now, and what happened since the last note.
@@ -698,6 +768,22 @@ extern "C" {
         text: *const u8,
         text_len: usize,
         flags: u8,
+        out: *mut u8,
+        len: usize,
+        sent_len: *mut usize,
+    ) -> u32;
+    pub fn hed_encode_paste(
+        text: *const u8,
+        text_len: usize,
+        bracketed: bool,
+        out: *mut u8,
+        len: usize,
+        sent_len: *mut usize,
+    ) -> u32;
+    pub fn hed_encode_mouse(
+        report: *const MouseReport,
+        tracking: u32,
+        encoding: u32,
         out: *mut u8,
         len: usize,
         sent_len: *mut usize,

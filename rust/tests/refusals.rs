@@ -8,13 +8,15 @@ use hedrugal::extended::{
     BindErrorKind, Bindings, Chord, ExtendedEvent, ExtendedParser, KeyEventKind, KeyReport,
     KittyEncodeError, KittyModifiers, Protocol, Reading, ReportedKey, StringKind,
 };
+use hedrugal::input::{try_encode_paste, MouseButton, MouseEncoding, MouseError};
 use hedrugal::input::{
     AllocError, EncodeError, InputEvent, InputParser, KeyCode, KeyCodeEncodeModes, KeyboardEncoding,
 };
 use hedrugal::input::{KittyKeyboardFlags, Modifiers, ParseError, Policy, Waiting};
+use hedrugal::input::{MouseReport, MouseTracking};
 use hedrugal::keymap::{Found, InsertError, KeyMap};
 use malloc::{in_use, refusing};
-use std::fmt::Write;
+use std::fmt::{Debug, Write};
 use std::time::{Duration, Instant};
 
 const STREAM: &[u8] =
@@ -688,6 +690,41 @@ fn encodes_reports_after_a_refusal() {
         assert!(number > 2);
         assert_eq!(encode().as_deref(), Ok(wanted));
     }
+}
+
+// What is sent of a call that refusals are asked of.
+fn sends_after_a_refusal<T: PartialEq + Debug, E: PartialEq + Debug>(
+    send: impl Fn() -> Result<T, E>,
+    refused: &E,
+    wanted: &T,
+) {
+    let mut number = 1;
+    while refusing(number, &send).1 > 0 {
+        assert_eq!(refusing(number, &send).0.as_ref(), Err(refused));
+        number += 1;
+    }
+    assert!(number > 2);
+    assert_eq!(send().as_ref().ok(), Some(wanted));
+}
+
+#[test]
+fn sends_pastes_and_mouse_reports_after_a_refusal() {
+    for text in ["text", &"long ".repeat(100)] {
+        let wanted = format!("\x1b[200~{text}\x1b[201~");
+        sends_after_a_refusal(
+            || try_encode_paste(text.as_bytes(), true),
+            &AllocError,
+            &wanted,
+        );
+    }
+    let report = MouseReport {
+        x: 1,
+        y: 1,
+        button: MouseButton::Button1Press,
+        modifiers: Modifiers::NONE,
+    };
+    let send = || report.try_encode(MouseTracking::Any, MouseEncoding::Sgr);
+    sends_after_a_refusal(send, &MouseError::Memory, &b"\x1b[<0;1;1M".to_vec());
 }
 
 // A map of so many keys, each with its number.

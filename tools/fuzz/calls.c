@@ -10,6 +10,8 @@
  *     Z n    take text of an open paste of more than n bytes; from n = 128 on, skip it
  *     [ n    set limits of 16 n ms   ] n  16 n ms pass, and the time is told     ^  take all that is due
  *     _ n m  tell a timer what bits of n say, with a limit of 16 m ms
+ *     @ n bytes m  send n bytes as a paste, 63 at most, with room for m; from n = 128 on, in brackets
+ *     \ x y mods button tracking encoding m  send a mouse report, with room for m bytes; the first three have two bytes each
  *
  *     J, P, Q, R, S  the calls of a map, as in tools/fuzz/maps.c
  *
@@ -21,7 +23,8 @@
  * A second parser gets the same calls and is never refused, and the waiting bytes are kept beside them. Each answer has to be the second
  * parser's, and what the waiting bytes say. The rows that would complete these begin with them, and the rows before and after don't. A call
  * that is refused changes nothing, and made again it is granted. What needs no memory asks for none. Before init and after free every call
- * says that there is no parser. At the end no memory is left. The timer answers as a plain one does. */
+ * says that there is no parser. At the end no memory is left. The timer answers as a plain one does. A paste in brackets and an SGR mouse report
+ * are read back. */
 #include "fuzz.h"
 #include <string.h>
 
@@ -348,6 +351,104 @@ static void tell_timer(input *it) {
   HOLDS(requests == 0);
 }
 
+/* A text that is sent as a paste. */
+typedef struct pasted {
+  const uint8_t *bytes;
+  size_t len;
+  bool bracketed;
+} pasted;
+
+static uint32_t encode_pasted(const void *key, uint8_t *out, size_t capacity, size_t *len) {
+  static room bytes;
+  const pasted *it = key;
+  room_with(&bytes, it->bytes, it->len);
+  uint32_t encoded = hed_encode_paste(pointer_to(&bytes), it->len, it->bracketed, out, capacity, len);
+  HOLDS(is_unchanged(&bytes, it->bytes));
+  return encoded;
+}
+
+/* A mouse report that is sent, and what the program asked for. */
+typedef struct told_mouse {
+  hed_mouse_report report;
+  uint32_t tracking;
+  uint32_t encoding;
+} told_mouse;
+
+static uint32_t encode_mouse(const void *key, uint8_t *out, size_t capacity, size_t *len) {
+  static room report;
+  const told_mouse *it = key;
+  room_with(&report, &it->report, sizeof it->report);
+  uint32_t encoded = hed_encode_mouse((hed_mouse_report *)report.at, it->tracking, it->encoding, out, capacity, len);
+  HOLDS(is_unchanged(&report, &it->report));
+  return encoded;
+}
+
+/* What a call sends that is refused memory, or not, and then is made again, with room for all and for some. */
+static const sent *send_again(encoder *call, const void *key, size_t some) {
+  enum { ROOM = 256 };
+  static sent whole, part;
+  encode(&whole, call, key, ROOM);
+  HOLDS((whole.encoded == HED_ENCODED_REFUSED_MEMORY) == (refusals > 0));
+  refuse_request(0);
+  encode(&whole, call, key, ROOM);
+  encode(&part, call, key, some);
+  HOLDS(whole.encoded != HED_ENCODED_REFUSED_MEMORY && whole.len <= ROOM && same_sent(&whole, &part, some < ROOM ? some : ROOM));
+  return &whole;
+}
+
+/* A new parser reads what is sent as one event. */
+static hed_event read_back(const sent *it, uint8_t *out, size_t len) {
+  hed_parser reader = HED_PARSER_NONE;
+  hed_event event, other;
+  HOLDS(hed_parser_init_sharing(&reader, &twin) && hed_parser_feed(&reader, it->bytes, it->len));
+  HOLDS(hed_parser_next(&reader, true, &event) == HED_NEXT_EVENT);
+  HOLDS(hed_parser_next(&reader, true, &other) == HED_NEXT_NONE && hed_parser_waiting_len(&reader) == 0);
+  hed_parser_paste(&reader, out, len);
+  hed_parser_free(&reader);
+  return event;
+}
+
+static void send_paste(input *it) {
+  enum { BRACKETED = 0x80, BRACKETS = 12 };
+  uint8_t n = take_byte(it), out[3 * ONE_FEED];
+  pasted told = { .bracketed = n & BRACKETED };
+  told.bytes = take_bytes(it, n & ONE_FEED, &told.len);
+  const sent *all = send_again(encode_pasted, &told, take_byte(it));
+  size_t brackets = told.bracketed ? BRACKETS : 0;
+  HOLDS(all->encoded == HED_ENCODED_TEXT && all->len >= brackets && all->len <= 3 * told.len + brackets);
+  if (!told.bracketed) {
+    HOLDS(!memchr(all->bytes, 0x1b, all->len));
+    return;
+  }
+  hed_event event;
+  BY_TWIN(event = read_back(all, out, sizeof out));
+  HOLDS(event.kind == HED_KIND_PASTE && event.paste_len == all->len - BRACKETS);
+  HOLDS(memcmp(out, all->bytes + BRACKETS / 2, event.paste_len) == 0);
+}
+
+static void send_mouse(input *it) {
+  enum { EVERY_MODIFIER = 4094, FARTHEST = 223 };
+  told_mouse told;
+  hed_mouse_report *report = &told.report;
+  memset(&told, 0, sizeof told);
+  report->x = (uint16_t)take_number(it, 2);
+  report->y = (uint16_t)take_number(it, 2);
+  report->modifiers = (uint16_t)take_number(it, 2);
+  report->button = take_byte(it);
+  told.tracking = take_byte(it);
+  told.encoding = take_byte(it);
+  const sent *all = send_again(encode_mouse, &told, take_byte(it));
+  bool is_bad = report->button > HED_MOUSE_BUTTON3_DRAG || report->modifiers & ~EVERY_MODIFIER || told.tracking > HED_MOUSE_TRACKING_ANY
+                || told.encoding > HED_MOUSE_ENCODING_SGR;
+  bool is_far = told.encoding == HED_MOUSE_ENCODING_DEFAULT && (report->x > FARTHEST || report->y > FARTHEST);
+  HOLDS((all->encoded == HED_ENCODED_BAD_NUMBER) == is_bad);
+  HOLDS(all->encoded != HED_ENCODED_TOO_FAR || is_far);
+  if (all->len == 0 || told.encoding != HED_MOUSE_ENCODING_SGR) return;
+  hed_event event;
+  BY_TWIN(event = read_back(all, NULL, 0));
+  HOLDS(event.kind == HED_KIND_MOUSE && event.x == report->x && event.y == report->y);
+}
+
 static void reset(void) {
   HOLDS(hed_parser_reset(parser) == waiting_len);
   if (is_made) HOLDS(hed_parser_reset(&twin) == waiting_len);
@@ -402,6 +503,8 @@ static void call(input *it) {
     case ']': now += MANY * (uint64_t)take_byte(it), tell_both(false, 0); break;
     case '^': take_all(EXPIRE, number); break;
     case '_': tell_timer(it); break;
+    case '@': send_paste(it); break;
+    case '\\': send_mouse(it); break;
     default: call_map(of, it);
   }
   check_state();

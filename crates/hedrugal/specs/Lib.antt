@@ -19,6 +19,7 @@ pub mod PressCalls
 pub mod Presses
 pub mod ReadingCalls
 pub mod Replies
+pub mod SenderCalls
 pub mod TimerCalls
 pub mod Timings
 pub mod Views

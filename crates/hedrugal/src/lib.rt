@@ -42,6 +42,7 @@ mod raw_box;
 mod reading_calls;
 mod replies;
 mod reply_calls;
+mod sender_calls;
 mod sending;
 mod sharing_calls;
 mod slot;
@@ -89,7 +90,7 @@ const WAITING_PASTE: u32 = 4;
 
 const WAITING_STRING: u32 = 5;
 
-// The answers of `hed_encode` and `hed_encode_kitty`.
+// The answers of `hed_encode`, `hed_encode_kitty`, `hed_encode_paste` and `hed_encode_mouse`.
 const ENCODED_TEXT: u32 = 0;
 
 const ENCODED_REFUSED_KEY: u32 = 1;
@@ -101,6 +102,8 @@ const ENCODED_BAD_NUMBER: u32 = 3;
 const ENCODED_TOO_LONG: u32 = 4;
 
 const ENCODED_BAD_TEXT: u32 = 5;
+
+const ENCODED_TOO_FAR: u32 = 6;
 
 /// Makes a parser, and frees the one that was there. If memory is refused, the answer is false and nothing changes.
 #[unsafe(no_mangle)]

@@ -91,8 +91,8 @@ types_before r flags = types (told_key r flags) r
 abbrev pub is_in_tables : KeyReport → ℕ → Bool
 is_in_tables r flags = not (types_before r flags) && is_some (legacy_of r flags)
 
--- The press that is read of a key that is sent so before the protocol: of its text that of the key, where the space has no SHIFT, of a text of
--- the tables that of the key's twin, and of a report that of what it tells.
+-- The press that is read of a key that is sent so before the protocol. A typed text has that of the key, where the space has no SHIFT. A text of
+-- the tables has that of the key's twin, and a report that of what it tells.
 abbrev pub press_before : KeyReport → ℕ → Option KeyPress
 press_before r flags =
     if types_before r flags then option_map space_alone (canonical r)

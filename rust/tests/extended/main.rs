@@ -18,6 +18,7 @@ mod reading;
 mod recorded;
 mod replies;
 mod rows;
+mod sending;
 mod streams;
 mod waiting;
 

@@ -1,0 +1,119 @@
+"""Pasted texts and mouse reports that are sent, and read back."""
+from unittest import mock
+
+import pytest
+
+import hedrugal
+from hedrugal import (
+    EncodeError,
+    ExtendedParser,
+    InputParser,
+    Modifiers,
+    MouseButton,
+    MouseButtons,
+    MouseEncoding,
+    MouseEvent,
+    MouseReport,
+    MouseTracking,
+    Paste,
+    Protocol,
+    Reading,
+    encode_paste,
+)
+
+START, END = b"\x1b[200~", b"\x1b[201~"
+
+# Texts, and what they are made.
+PASTES = [
+    (b"two\nlines\r\n", "two\rlines\r"),
+    (b"a" + END + b"b", "a␛[201~b"),
+    (b"\x1b[20" + END + b"1~", "␛[20␛[201~1~"),
+    (b"\0\x03\t\x7f", "␀␃\t␡"),
+    (b"\xc2\x9b201~\x9b", "\ufffd201~\ufffd"),
+    (b"\r\r\n\n", "\r\r\r"),
+    (b"", ""),
+    (b"\x1b" * 1000, "␛" * 1000),
+]
+
+# Reports, what a program asked for, what is sent, and the event that it is read as.
+REPORTS = [
+    (
+        MouseReport(1, 1, MouseButton.BUTTON1_RELEASE, Modifiers.CTRL),
+        MouseTracking.NORMAL,
+        MouseEncoding.DEFAULT,
+        b"\x1b[M3!!",
+        [MouseEvent(1, 1, MouseButtons.NONE, Modifiers.CTRL)],
+    ),
+    (
+        MouseReport(3, 4, MouseButton.NONE, Modifiers.ALT),
+        MouseTracking.ANY,
+        MouseEncoding.URXVT,
+        b"\x1b[75;3;4M",
+        [MouseEvent(3, 4, MouseButtons.NONE, Modifiers.ALT)],
+    ),
+    (
+        MouseReport(80, 24, MouseButton.BUTTON2_DRAG, Modifiers.SHIFT),
+        MouseTracking.BUTTON,
+        MouseEncoding.SGR,
+        b"\x1b[<37;80;24M",
+        [MouseEvent(80, 24, MouseButtons.MIDDLE, Modifiers.SHIFT)],
+    ),
+    (
+        MouseReport(80, 24, MouseButton.BUTTON2_DRAG),
+        MouseTracking.NORMAL,
+        MouseEncoding.SGR,
+        b"",
+        [],
+    ),
+    (
+        MouseReport(223, 95, MouseButton.BUTTON1_PRESS),
+        MouseTracking.X10,
+        MouseEncoding.DEFAULT,
+        b"\x1b[M \xff\x7f",
+        [MouseEvent(223, 95, MouseButtons.LEFT, Modifiers.NONE)],
+    ),
+]
+
+
+@pytest.mark.parametrize("text, safe", PASTES)
+def test_pastes_are_made_safe_and_read_back(text, safe):
+    sent = encode_paste(text, True)
+    assert (sent, encode_paste(text, False)) == (START + safe.encode() + END, safe.encode())
+    assert encode_paste(memoryview(bytearray(text)), True) == sent
+    for parser in (InputParser(), ExtendedParser()):
+        with parser:
+            assert (parser.parse(sent), parser.waiting_len) == ([Paste(safe)], 0)
+
+
+@pytest.mark.parametrize("report, tracking, encoding, sent, events", REPORTS)
+def test_mouse_reports_are_read_back(report, tracking, encoding, sent, events):
+    assert report.encode(tracking, encoding) == sent
+    with ExtendedParser() as parser:
+        parser.reading = Reading(Protocol.LEGACY, x10_mouse=True)
+        assert (parser.parse(sent), parser.waiting_len) == (events, 0)
+
+
+def test_what_is_no_report():
+    far = MouseReport(1, 224, MouseButton.BUTTON1_PRESS)
+    with pytest.raises(EncodeError, match="too far"):
+        far.encode(MouseTracking.ANY, MouseEncoding.DEFAULT)
+    for report in (
+        MouseReport(65536, 1, MouseButton.NONE),
+        MouseReport(1, -1, MouseButton.NONE),
+    ):
+        with pytest.raises(EncodeError):
+            report.encode(MouseTracking.ANY, MouseEncoding.SGR)
+    for report in (MouseReport(1, 1, 0), MouseReport(1, 1, MouseButton.NONE, 2)):
+        with pytest.raises(TypeError):
+            report.encode(MouseTracking.ANY, MouseEncoding.SGR)
+    with pytest.raises(TypeError):
+        far.encode(3, MouseEncoding.SGR)
+
+
+def test_memory_is_refused():
+    with mock.patch.object(hedrugal._library, "hed_encode_paste", lambda *_: 2):
+        with pytest.raises(MemoryError):
+            encode_paste(b"a", True)
+    with mock.patch.object(hedrugal._library, "hed_encode_mouse", lambda *_: 2):
+        with pytest.raises(MemoryError):
+            MouseReport(1, 1, MouseButton.NONE).encode(MouseTracking.ANY, MouseEncoding.SGR)

@@ -1,0 +1,317 @@
+// What a terminal sends that is no key: pasted texts and mouse reports.
+use super::{AllocError, Modifiers, FAULT};
+use crate::raw;
+use std::{error, fmt};
+
+/// Returns what a terminal sends for a pasted text, made safe: the other way from
+/// [`InputEvent::Paste`](crate::input::InputEvent::Paste). A terminal or a multiplexer calls it.
+/// `bracketed` is whether the program asked for bracketed pastes (mode 2004).
+///
+/// The text is read as UTF-8, with U+FFFD for each piece that is none. Each end of a line becomes
+/// CR, which Enter sends, and HT stays. Any other control character becomes a character that does
+/// nothing. So no text can end its paste.
+///
+/// ```
+/// use hedrugal::input::encode_paste;
+///
+/// assert_eq!(encode_paste(b"two\nlines\x1b[201~", true), "\x1b[200~two\rlines␛[201~\x1b[201~");
+/// assert_eq!(encode_paste(b"two\nlines", false), "two\rlines");
+/// ```
+///
+/// # Panics
+///
+/// If memory is refused.
+#[must_use]
+pub fn encode_paste(text: &[u8], bracketed: bool) -> String {
+    try_encode_paste(text, bracketed).expect("out of memory")
+}
+
+/// Returns what [`encode_paste`] returns.
+///
+/// ```
+/// assert_eq!(hedrugal::input::try_encode_paste(b"a\tb\x07", false).as_deref(), Ok("a\tb␇"));
+/// ```
+///
+/// # Errors
+///
+/// If memory is refused.
+pub fn try_encode_paste(text: &[u8], bracketed: bool) -> Result<String, AllocError> {
+    let call = |out: &mut [u8], len: &mut usize| {
+        // SAFETY: the pointers lead to values of their types that live through the call, with as
+        // many bytes as the lengths say.
+        unsafe {
+            raw::hed_encode_paste(
+                text.as_ptr(),
+                text.len(),
+                bracketed,
+                out.as_mut_ptr(),
+                out.len(),
+                len,
+            )
+        }
+    };
+    match sent(call)? {
+        (raw::ENCODED_TEXT, bytes) => Ok(String::from_utf8(bytes).expect(FAULT)),
+        (raw::ENCODED_REFUSED_MEMORY, _) => Err(AllocError),
+        _ => unreachable!("{FAULT}"),
+    }
+}
+
+/// What happened to which button of the mouse, in a [`MouseReport`].
+///
+/// ```
+/// use hedrugal::input::MouseButton;
+///
+/// assert_ne!(MouseButton::Button1Press, MouseButton::Button1Release);
+/// ```
+#[derive(Debug, Clone, Copy, PartialEq, Eq, Hash)]
+#[repr(u8)]
+pub enum MouseButton {
+    /// The mouse was moved while no button was down.
+    None = raw::MOUSE_NONE,
+    /// The left button was pressed.
+    Button1Press = raw::MOUSE_BUTTON1_PRESS,
+    /// The middle button was pressed.
+    Button2Press = raw::MOUSE_BUTTON2_PRESS,
+    /// The right button was pressed.
+    Button3Press = raw::MOUSE_BUTTON3_PRESS,
+    /// A wheel was turned up.
+    Button4Press = raw::MOUSE_BUTTON4_PRESS,
+    /// A wheel was turned down.
+    Button5Press = raw::MOUSE_BUTTON5_PRESS,
+    /// A wheel was turned left.
+    Button6Press = raw::MOUSE_BUTTON6_PRESS,
+    /// A wheel was turned right.
+    Button7Press = raw::MOUSE_BUTTON7_PRESS,
+    /// The left button was released.
+    Button1Release = raw::MOUSE_BUTTON1_RELEASE,
+    /// The middle button was released.
+    Button2Release = raw::MOUSE_BUTTON2_RELEASE,
+    /// The right button was released.
+    Button3Release = raw::MOUSE_BUTTON3_RELEASE,
+    /// The end of turning a wheel up, which few terminals report.
+    Button4Release = raw::MOUSE_BUTTON4_RELEASE,
+    /// The end of turning a wheel down, which few terminals report.
+    Button5Release = raw::MOUSE_BUTTON5_RELEASE,
+    /// The end of turning a wheel left, which few terminals report.
+    Button6Release = raw::MOUSE_BUTTON6_RELEASE,
+    /// The end of turning a wheel right, which few terminals report.
+    Button7Release = raw::MOUSE_BUTTON7_RELEASE,
+    /// The mouse was moved while the left button was down.
+    Button1Drag = raw::MOUSE_BUTTON1_DRAG,
+    /// The mouse was moved while the middle button was down.
+    Button2Drag = raw::MOUSE_BUTTON2_DRAG,
+    /// The mouse was moved while the right button was down.
+    Button3Drag = raw::MOUSE_BUTTON3_DRAG,
+}
+
+/// Which mouse reports a program asked for, by xterm's modes.
+///
+/// ```
+/// use hedrugal::input::{Modifiers, MouseButton, MouseEncoding, MouseReport, MouseTracking};
+///
+/// let (x, y, button, modifiers) = (1, 1, MouseButton::Button1Release, Modifiers::NONE);
+/// let released = MouseReport { x, y, button, modifiers };
+/// let sent = |tracking| released.encode(tracking, MouseEncoding::Sgr).unwrap();
+/// assert_eq!(sent(MouseTracking::Normal), b"\x1b[<0;1;1m");
+/// assert_eq!(sent(MouseTracking::X10), b"");
+/// ```
+#[derive(Debug, Clone, Copy, PartialEq, Eq, Hash)]
+#[repr(u32)]
+pub enum MouseTracking {
+    /// Mode 9: presses, of wheels too, without modifiers.
+    X10 = raw::MOUSE_TRACKING_X10,
+    /// Mode 1000: presses and releases.
+    Normal = raw::MOUSE_TRACKING_NORMAL,
+    /// Mode 1002: also moves while a button is down.
+    Button = raw::MOUSE_TRACKING_BUTTON,
+    /// Mode 1003: also moves while none is.
+    Any = raw::MOUSE_TRACKING_ANY,
+}
+
+/// How mouse reports are written.
+///
+/// ```
+/// use hedrugal::input::{Modifiers, MouseButton, MouseEncoding, MouseReport, MouseTracking};
+///
+/// let (x, y, button, modifiers) = (1, 2, MouseButton::Button1Press, Modifiers::NONE);
+/// let pressed = MouseReport { x, y, button, modifiers };
+/// let sent = |encoding| pressed.encode(MouseTracking::Normal, encoding).unwrap();
+/// assert_eq!(sent(MouseEncoding::Default), b"\x1b[M !\"");
+/// assert_eq!(sent(MouseEncoding::Urxvt), b"\x1b[32;1;2M");
+/// assert_eq!(sent(MouseEncoding::Sgr), b"\x1b[<0;1;2M");
+/// ```
+#[derive(Debug, Clone, Copy, PartialEq, Eq, Hash)]
+#[repr(u32)]
+pub enum MouseEncoding {
+    /// ESC `[M` and three bytes, which can't tell a place above 223.
+    Default = raw::MOUSE_ENCODING_DEFAULT,
+    /// Mode 1015, from urxvt: the same in decimal numbers.
+    Urxvt = raw::MOUSE_ENCODING_URXVT,
+    /// Mode 1006, and 1016 with a place in pixels: decimal numbers, and a release tells its button.
+    Sgr = raw::MOUSE_ENCODING_SGR,
+}
+
+/// Why [`MouseReport::try_encode`] made no bytes.
+///
+/// ```
+/// use hedrugal::input::MouseError;
+///
+/// assert_eq!(MouseError::TooFar.to_string(), "the place is too far");
+/// ```
+#[derive(Debug, Clone, Copy, PartialEq, Eq)]
+pub enum MouseError {
+    /// The column or the row is above 223, which the encoding can't tell.
+    TooFar,
+    /// The modifiers have a bit that no flag has.
+    UnnamedBits,
+    /// Memory was refused. The call may be made again.
+    Memory,
+}
+
+impl fmt::Display for MouseError {
+    fn fmt(&self, f: &mut fmt::Formatter<'_>) -> fmt::Result {
+        f.write_str(match self {
+            MouseError::TooFar => "the place is too far",
+            MouseError::UnnamedBits => "a bit has no name",
+            MouseError::Memory => "out of memory",
+        })
+    }
+}
+
+impl error::Error for MouseError {}
+
+impl From<AllocError> for MouseError {
+    fn from(_: AllocError) -> Self {
+        MouseError::Memory
+    }
+}
+
+/// A mouse report that a terminal sends: see [`MouseReport::encode`].
+///
+/// ```
+/// use hedrugal::input::{Modifiers, MouseButton, MouseReport};
+///
+/// let (x, y, button, modifiers) = (1, 1, MouseButton::None, Modifiers::NONE);
+/// assert_eq!(MouseReport { x, y, button, modifiers }.x, 1);
+/// ```
+#[derive(Debug, Clone, Copy, PartialEq, Eq)]
+pub struct MouseReport {
+    /// The column: the leftmost is 1.
+    pub x: u16,
+    /// The row: the topmost is 1.
+    pub y: u16,
+    /// What happened to which button.
+    pub button: MouseButton,
+    /// The modifiers that are held, of which SHIFT, ALT and CTRL are sent.
+    pub modifiers: Modifiers,
+}
+
+impl MouseReport {
+    /// Returns what a terminal sends for the report: the other way from
+    /// [`InputEvent::Mouse`](crate::input::InputEvent::Mouse). There are no bytes for a report that
+    /// the program doesn't get.
+    ///
+    /// ```
+    /// use hedrugal::input::{Modifiers, MouseButton, MouseEncoding, MouseReport, MouseTracking};
+    ///
+    /// let report = MouseReport {
+    ///     x: 80,
+    ///     y: 24,
+    ///     button: MouseButton::Button2Drag,
+    ///     modifiers: Modifiers::SHIFT,
+    /// };
+    /// let sent = |tracking| report.encode(tracking, MouseEncoding::Sgr).unwrap();
+    /// assert_eq!(sent(MouseTracking::Button), b"\x1b[<37;80;24M");
+    /// assert_eq!(sent(MouseTracking::Normal), b"");
+    /// ```
+    ///
+    /// # Errors
+    ///
+    /// `TooFar` if the program gets the report, and its place is above 223 with
+    /// [`MouseEncoding::Default`]. `UnnamedBits` for modifiers with a bit that no flag has.
+    ///
+    /// # Panics
+    ///
+    /// If memory is refused.
+    pub fn encode(
+        &self,
+        tracking: MouseTracking,
+        encoding: MouseEncoding,
+    ) -> Result<Vec<u8>, MouseError> {
+        let sent = self.try_encode(tracking, encoding);
+        assert!(sent != Err(MouseError::Memory), "out of memory");
+        sent
+    }
+
+    /// Returns what [`MouseReport::encode`] returns.
+    ///
+    /// ```
+    /// use hedrugal::input::{Modifiers, MouseButton, MouseEncoding, MouseError};
+    /// use hedrugal::input::{MouseReport, MouseTracking};
+    ///
+    /// let (x, y, button, modifiers) = (224, 1, MouseButton::Button1Press, Modifiers::NONE);
+    /// let far = MouseReport { x, y, button, modifiers };
+    /// let sent = far.try_encode(MouseTracking::Normal, MouseEncoding::Default);
+    /// assert_eq!(sent, Err(MouseError::TooFar));
+    /// ```
+    ///
+    /// # Errors
+    ///
+    /// The same, and `Memory` if memory is refused.
+    pub fn try_encode(
+        &self,
+        tracking: MouseTracking,
+        encoding: MouseEncoding,
+    ) -> Result<Vec<u8>, MouseError> {
+        let report = raw::MouseReport {
+            x: self.x,
+            y: self.y,
+            modifiers: self.modifiers.bits(),
+            button: self.button as u8,
+        };
+        let call = |out: &mut [u8], len: &mut usize| {
+            // SAFETY: the pointers lead to values of their types that live through the call, and
+            // `out` has as many bytes as it says.
+            unsafe {
+                raw::hed_encode_mouse(
+                    &report,
+                    tracking as u32,
+                    encoding as u32,
+                    out.as_mut_ptr(),
+                    out.len(),
+                    len,
+                )
+            }
+        };
+        match sent(call)? {
+            (raw::ENCODED_TEXT, bytes) => Ok(bytes),
+            (raw::ENCODED_TOO_FAR, _) => Err(MouseError::TooFar),
+            // The only number of a report that may name nothing is that of the modifiers.
+            (raw::ENCODED_BAD_NUMBER, _) => Err(MouseError::UnnamedBits),
+            (raw::ENCODED_REFUSED_MEMORY, _) => Err(MouseError::Memory),
+            _ => unreachable!("{FAULT}"),
+        }
+    }
+}
+
+// As much room as most of what is sent needs.
+const ROOM: usize = 256;
+
+// What a call of the library that sends bytes answers, and the bytes. It is made again if the room
+// was too short.
+fn sent(call: impl Fn(&mut [u8], &mut usize) -> u32) -> Result<(u32, Vec<u8>), AllocError> {
+    let mut room = [0; ROOM];
+    let mut len = 0;
+    let answer = call(&mut room, &mut len);
+    let mut bytes = Vec::new();
+    bytes.try_reserve_exact(len).map_err(|_| AllocError)?;
+    if let Some(sent) = room.get(..len) {
+        bytes.extend_from_slice(sent);
+        return Ok((answer, bytes));
+    }
+    bytes.resize(len, 0);
+    let answer = call(&mut bytes, &mut len);
+    bytes.truncate(len);
+    Ok((answer, bytes))
+}
