@@ -83,10 +83,15 @@ static void end_at_once(int number) {
   hed_terminal_end();
 }
 
+/* It stays open, for the next terminal. */
+static bool open_wake(void) {
+  if (wake[1] > 0) return true;
+  return pipe(wake) == 0 && fcntl(wake[0], F_SETFL, O_NONBLOCK) == 0 && fcntl(wake[1], F_SETFL, O_NONBLOCK) == 0;
+}
+
 static bool note_signals(hed_terminal *it) {
   static const int numbers[] = { SIGHUP, SIGINT, SIGQUIT, SIGTERM, SIGTSTP, SIGCONT, SIGWINCH };
-  if (pipe(wake) != 0 || fcntl(wake[0], F_SETFL, O_NONBLOCK) != 0 || fcntl(wake[1], F_SETFL, O_NONBLOCK) != 0)
-    return fail(it, "a pipe can't be opened");
+  if (!open_wake()) return fail(it, "a pipe can't be opened");
   it->wake = wake[0];
   for (size_t i = 0; i < sizeof numbers / sizeof *numbers; i++)
     if (!handle_signal(numbers[i], note_signal)) return fail(it, "a signal can't be handled");
@@ -108,8 +113,8 @@ static bool enter_terminal(hed_terminal *it) {
   if (tcsetattr(0, TCSADRAIN, &it->raw) != 0) return fail(it, "raw mode can't be set");
   entered = it;
   write_leave(it);
+  is_switched = true; /* from the first byte on, since the handler above may interrupt the write */
   write_text(it, it->enter);
-  is_switched = true;
   return true;
 }
 
