@@ -1,11 +1,12 @@
 #!/usr/bin/env bash
-# Counts the instructions and the memory of the parser and of bindings, and checks that neither grows faster than what they read and have.
+# Counts the instructions and the memory of the parser, of bindings and of pastes that are sent, and checks that neither grows faster than what
+# they read and have.
 #
 #     tools/growth.sh FEED          (make check-growth)
 #
 # tools/growth/growth.c reads texts in several ways, and tools/growth/judge.awk has the bounds. tools/growth/chords.c reads and prints names, binds
-# chords and looks them up, and tools/growth/chords.awk has the bounds. callgrind counts the instructions and a wrapped malloc the memory, so
-# that each run finds the same numbers. Only the seconds of binding and unbinding are measured.
+# chords and looks them up, and tools/growth/pastes.c sends pasted texts: tools/growth/tasks.awk has their bounds. callgrind counts the
+# instructions and a wrapped malloc the memory, so that each run finds the same numbers. Only the seconds of binding and unbinding are measured.
 #
 # The C library is that of HEDRUGAL_LIBRARY, else of out/lib. FEED is a static library that calls parse_as_vec, which make builds of
 # tools/growth/feed.rt.txt. The last line is 'N passed, N failed', the status 1 if a case failed.
@@ -32,10 +33,10 @@ count() { # program
         paste -d ' ' "$work/$1.tasks" -
 }
 
-build growth -Wl,--wrap=memcpy,--wrap=memmove,--wrap=memset "$feed" "$(dirname "$(rt doc)")/c/liblibc_c.a" && build chords || exit 1
+build growth -Wl,--wrap=memcpy,--wrap=memmove,--wrap=memset "$feed" "$(dirname "$(rt doc)")/c/liblibc_c.a" && build chords && build pastes || exit 1
 { timeout 60 "$work/growth" parsers && timeout 240 "$work/growth" long; } > "$work/others" &
 others=$!
-{ count chords && timeout 60 "$work/chords" figures; } > "$work/chords.all" &
-chords=$!
-count growth > "$work/passes" && wait $others && wait $chords || exit 1
-awk -f tools/growth/chords.awk -f tools/growth/judge.awk "$work/passes" "$work/others" "$work/chords.all"
+{ count chords && count pastes && timeout 60 "$work/chords" figures; } > "$work/tasks" &
+tasks=$!
+count growth > "$work/passes" && wait $others && wait $tasks || exit 1
+awk -f tools/growth/tasks.awk -f tools/growth/judge.awk "$work/passes" "$work/others" "$work/tasks"

@@ -4,17 +4,11 @@
  *     chords figures    does so with those tasks whose time is told: tools/performance.py and tools/growth.sh read it
  *
  * A line has what the task does, with what, the size of that and how many times, then the bytes of memory that it took and its nanoseconds. */
-#include "counts.h"
 #include "hedrugal.h"
+#include "tasks.h"
 #include <stdint.h>
 #include <stdio.h>
 #include <string.h>
-
-/* Counts a task, which does something so many times to what has this size. */
-static void show(const char *name, const char *of, size_t size, size_t times, void (*task)(void *), void *it) {
-  cost took = counted(task, it);
-  printf("%s %s %zu %zu %zu %.0f\n", name, of, size, times, took.memory, took.time);
-}
 
 /* Texts: what each begins with, then a part again and again, and what it ends with; and what reading it answers. */
 static const struct text {
