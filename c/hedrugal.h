@@ -862,10 +862,10 @@ uint32_t hed_encode_kitty(const hed_key_report *report, const uint8_t *text, siz
 
 /* Writes what a terminal sends for a pasted text to out, and the number of these bytes to *sent_len: the other way from a HED_KIND_PASTE.
  * A terminal or a multiplexer calls it. text is any text_len bytes, read as UTF-8, with U+FFFD for each piece that is none. The text is made
- * safe: LF, and CR LF as one, become CR, which Enter sends; HT and CR stay; any other control character becomes a character that does
- * nothing, those below U+0020 and U+007F their pictures, U+2400 to U+241F and U+2421, and U+0080 to U+009F U+FFFD. If bracketed is true, the
- * program turned bracketed paste mode on (mode 2004): ESC [200~ comes before the text, and ESC [201~ after it. Since no ESC is left in the
- * text, no text can end its paste. The bytes are UTF-8 without a final 0, at most three for each byte of the text and twelve more.
+ * safe. LF, and CR LF as one, become CR, which Enter sends. HT and CR stay. Any other control character becomes a character that does nothing:
+ * those below U+0020 and U+007F their pictures, and U+0080 to U+009F U+FFFD. If bracketed is true, the program turned bracketed paste mode on
+ * (mode 2004): ESC [200~ comes before the text, and ESC [201~ after it. Since no ESC is left in the text, no text can end its paste. The bytes
+ * are UTF-8 without a final 0, at most three for each byte of the text and twelve more.
  *
  * Returns an enum hed_encoded. With HED_ENCODED_TEXT *sent_len is the number of all these bytes, and out has as many of them as len says:
  * if *sent_len is above len, call again with more room. The rest of out is unchanged. The only other answer is HED_ENCODED_REFUSED_MEMORY.
