@@ -59,7 +59,7 @@ libraries_of = $(shell sed -nE 's/^$(1)( staticlib)?://p' crates.txt)
 rlibs_of = $(if $(wildcard crates/$(1)/src),$(CURDIR)/crates/$(1)/out/rlib,$(kit)/rlibs)
 over = $(foreach it,std $(1),--extern $(it)=$(call rlibs_of,$(it))/$(it).rlib) -L dependency=$(kit)/rlibs \
 	$(patsubst %/src/lib.rt,-L dependency=$(CURDIR)/%/out/rlib,$(filter-out crates/test_%,$(wildcard crates/*/src/lib.rt))) \
-	--antt-project $(kit)/rattle/logic/antt-project.json --logic-built $(kit)/logic_built --jobs 1 --list-axioms
+	--antt-project $(kit)/rattle/logic/antt-project.json --logic-built $(kit)/logic_built --jobs 4 --list-axioms
 # The command that proves a folder's src/lib.rt and writes a static library: NAME,LIBRARIES,FILE
 static_library = rattle build --crate-name $(1) src/lib.rt $(call over,$(2)) --links $(1)= --crate-type staticlib \
 	--toolchain $(kit)/toolchain --backend llvm -o $(abspath $(3))
