@@ -43,8 +43,8 @@ module _ {V : Type 0} where
     pub those : (place : ℕ) (chord : List KeyPress) (value : V) → IsChord chord → IsBindingAt m place chord value
         → GoesOnAfter ps chord ↔ ((low ≤ place) × (place < high))
 
-  -- What is found for presses, of which more may come: the longest chord that they begin with, by the number of its presses, and whether
-  -- a longer chord is still possible.
+  -- What is found for presses, of which more may come: the longest chord that they begin with, by the number of its presses. It also tells
+  -- whether a longer chord is still possible.
   abbrev pub FindGives : ByteMap V → List KeyPress → Bool → Found V → Type 0
   FindGives m ps more (Ambiguous count value) = HasLongest (find m) ps count value × IsContinued (find m) ps × (more ≡ true)
   FindGives m ps more (Exact count value) = HasLongest (find m) ps count value × (IsContinued (find m) ps → more ≡ false)
