@@ -6,7 +6,7 @@ ghost use Rattle.termwiz_kitty.specs.KittyTexts as texts;
 ghost use Rattle.termwiz_kitty.specs.KittyTexts.{kitty_text, sequence_text, IsTooLong, IsWithin};
 ghost use Rattle.termwiz_kitty.specs.declared.encode.KittyEncodeError.TheVariants as error;
 
-mod sequences;
+pub mod sequences;
 
 use crate::key_forms::{KeyForm, form_of};
 use crate::legacy::{LegacyText, with_shift};

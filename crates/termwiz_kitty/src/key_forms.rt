@@ -1,4 +1,4 @@
-// How Kitty's keyboard protocol writes a key.
+//! How Kitty's keyboard protocol writes a key.
 ghost use Rattle.std.specs.Prelude.{◌≡◌};
 ghost use Rattle.termwiz_extended_events.specs.ReportedKeys.{entry_at};
 ghost use Rattle.termwiz_kitty.specs.KeyForms as forms;
@@ -7,14 +7,14 @@ ghost use Rattle.termwiz_kitty.specs.KeyForms.{form_of};
 use termwiz_extended_events::types::ReportedKey;
 use termwiz_keys::types::KeyCode;
 
-// The sequence of a key, by what tells the key.
+/// The sequence of a key, by what tells the key.
 #[derive(Clone, Copy, PartialEq, Eq, Debug)]
-pub(crate) enum KeyForm {
-    // A letter at the end.
+pub enum KeyForm {
+    /// A letter at the end.
     Letter(char),
-    // A number and a tilde.
+    /// A number and a tilde.
     Number(u32),
-    // A number and the letter u.
+    /// A number and the letter u.
     Code(u32),
 }
 
@@ -120,8 +120,8 @@ fn named_form(key: KeyCode) -> Option<KeyForm>
     Some(form)
 }
 
-// The form of a key, if the protocol has one.
-pub(crate) fn form_of(key: ReportedKey) -> Option<KeyForm>
+/// The form of a key, if the protocol has one.
+pub fn form_of(key: ReportedKey) -> Option<KeyForm>
     ensures { result ≡ form_of key }
 {
     match key {

@@ -2,7 +2,7 @@
 #![tactic(auto)]
 
 pub mod encode;
-mod key_forms;
+pub mod key_forms;
 pub mod laws;
 mod legacy;
 mod telling;

@@ -1,4 +1,4 @@
-// Key reports to their sequences.
+//! Key reports to their sequences.
 ghost use Rattle.std.specs.Prelude.{◌≡◌, ◌++◌, OnOk, string_bytes, codes, flat_map};
 ghost use Rattle.std.specs.Str.{chars};
 ghost use Rattle.termwiz_kitty.specs.KittyTexts.{manner_text, manner_behind, is_plain, lettered_text, numbered_text, codes_text, further_character, characters_text, first_text, fields_behind, coded_text};
@@ -75,20 +75,20 @@ pub(super) fn push_numbered(
     text.push('~')
 }
 
-// The numbers of a key.
+/// The numbers of a key.
 #[derive(Clone, Copy)]
-pub(super) struct Codes {
-    // Its own.
+pub struct Codes {
+    /// Its own.
     pub own: u32,
-    // Of what it types with Shift.
+    /// Of what it types with Shift.
     pub shifted: Option<char>,
-    // Of what its place types on the standard layout.
+    /// Of what its place types on the standard layout.
     pub base: Option<char>,
 }
 
-// Appends the numbers of a key.
+/// Appends the numbers of a key, parted by colons. A number that isn't there before one that is leaves its place empty.
 #[tactic(auto, unfolding(crate::specs::KittyTexts::codes_text))]
-fn push_codes(text: &mut String, codes: Codes) -> Result<(), AllocError>
+pub fn push_codes(text: &mut String, codes: Codes) -> Result<(), AllocError>
     ensures { OnOk result (string_bytes text.new ≡ string_bytes text.old ++ codes_text codes.own codes.shifted codes.base) }
 {
     let own = codes.own;
@@ -110,8 +110,8 @@ fn push_first(text: &mut String, manner: Manner, first: char) -> Result<(), Allo
     write!(text, ";{}", u32::from(first))
 }
 
-// Appends the numbers of the characters after the first one, each after a colon.
-fn push_further(text: &mut String, rest: &str) -> Result<(), AllocError>
+/// Appends the numbers of characters, each after a colon.
+pub fn push_further(text: &mut String, rest: &str) -> Result<(), AllocError>
     ensures { OnOk result (string_bytes text.new ≡ string_bytes text.old ++ flat_map further_character (chars rest.now)) }
 {
     for c in rest.chars() {
