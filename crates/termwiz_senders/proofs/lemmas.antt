@@ -9,3 +9,8 @@ pub mod ControlForms
 pub mod SgrReports
 pub mod UrxvtReports
 pub mod ByteReports
+pub mod ReadAlone
+pub mod Numbers
+pub mod TableEntries
+pub mod OwnKeys
+pub mod ReportFields

@@ -215,7 +215,7 @@ fn button_code(encoding: MouseEncoding, action: Action, number: u8) -> u8
 }
 
 // What a modifier counts, if it is held.
-fn counted(held: Modifiers, modifier: Modifiers, count: u8) -> u8
+pub(crate) fn counted(held: Modifiers, modifier: Modifiers, count: u8) -> u8
     ensures counted { result ≡ (if holds held.0 modifier.0 then count else 0) }
     ensures small { result ≤ count }
 {
@@ -223,7 +223,7 @@ fn counted(held: Modifiers, modifier: Modifiers, count: u8) -> u8
 }
 
 // What the modifiers add to a code.
-fn modifier_code(tracking: MouseTracking, held: Modifiers) -> u8
+pub(crate) fn modifier_code(tracking: MouseTracking, held: Modifiers) -> u8
     ensures code { result ≡ rules.counted 4 8 16 tracking held.0 }
     ensures small { result ≤ 28 }
 {

@@ -8,9 +8,9 @@ use std::alloc::{AllocError, Global};
 use termwiz_keymap::bytes::begins_with;
 
 // What comes before a pasted text, and after it.
-const PASTE_START: &[u8] = b"\x1b[200~";
+pub(crate) const PASTE_START: &[u8] = b"\x1b[200~";
 
-const PASTE_END: &[u8] = b"\x1b[201~";
+pub(crate) const PASTE_END: &[u8] = b"\x1b[201~";
 
 /// What a terminal sends for a pasted text: the text made safe, and in bracketed paste mode ESC `[200~` before it and ESC `[201~` after it.
 ///

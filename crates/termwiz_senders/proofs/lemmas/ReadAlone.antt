@@ -1,0 +1,328 @@
+-- What is read of a text that is one event alone.
+use Rattle.std.proofs.Common.{◌≡◌, ◌↔◌, ℕ, suc, ◌-◌, ◌<◌, ◌≤◌, Bool, true, false, List, [], ◌∷◌, ◌++◌, length, take, drop, refl, sym, ap, ◌∙◌, subst, IsTrue, append-nil, Option, Some, None, Ok, Err, IfOk, IfSome, IfNone, ◌+◌, ◌⊎◌, ⊎_elim, arith, nat_lt, encode_utf8, Fits, w64}
+use Rattle.std.specs.Prelude.{Result, ◌==◌}
+use Rattle.std.proofs.lemmas.Bool.Decides.{nat_tests}
+use Rattle.std.proofs.lemmas.List.{append_cancel_left}
+use Rattle.memchr.specs.Find.{FindsNeedle}
+use Rattle.termwiz_keymap.specs.Bytes.{Occurs}
+use Rattle.termwiz_keys.specs.Introducers.{ESC, CSI, START, END}
+use Rattle.termwiz_input.proofs.lemmas.pastes.EndSearch.{endless, paste_to}
+use Rattle.termwiz_extended_events.specs.declared.types.ExtendedEvent.{ExtendedEvent}
+use Rattle.termwiz_extended_events.specs.declared.types.ExtendedEvent.TheVariants.{Input, Key, FocusGained, FocusLost, CursorPosition, Resize, KeyboardFlags, SideButton, Csi, Osc, Dcs, Apc, StringPart, StringCut}
+use Rattle.termwiz_extended_events.specs.declared.types.KeyReport.{KeyReport}
+use Rattle.termwiz_extended_events.specs.declared.types.StringKind.{StringKind}
+use Rattle.termwiz_extended_events.specs.declared.types.StringKind.TheVariants as kinds
+use Rattle.termwiz_extended_events.specs.Meanings.{whole_string}
+use Rattle.termwiz_extended_grammar.specs.Forms.{introducer, ST}
+use Rattle.termwiz_kitty.specs.KittyTexts.{most_bytes}
+use Rattle.termwiz_extended_events.specs.declared.types.Reading.{Reading}
+use Rattle.termwiz_extended_grammar.specs.ExtendedGrammar.{IsRest, Steps, Means}
+use Rattle.termwiz_extended_grammar.specs.Readings.{after_event}
+use Rattle.termwiz_extended_grammar.proofs.lemmas.cuts.ExtendedCuts.{cut_independent}
+use Rattle.termwiz_extended_grammar.proofs.lemmas.items.ExtendedItems.{stands_once}
+use Rattle.termwiz_extended_grammar.proofs.lemmas.items.ExtendedRests.{empty_is_rest}
+use Rattle.termwiz_base.specs.declared.modifiers.Modifiers.{Modifiers}
+use Rattle.termwiz_keys.specs.Encoding.{enc, unhandled}
+use Rattle.termwiz_keys.specs.Keys.{plain}
+use Rattle.termwiz_keys.specs.declared.types.InputEvent.{InputEvent}
+use Rattle.termwiz_keys.specs.declared.types.InputEvent.TheVariants as input
+use Rattle.termwiz_keys.specs.declared.types.KeyCode.{KeyCode}
+use Rattle.termwiz_keys.specs.declared.types.KeyCode.TheVariants.{Char}
+use Rattle.termwiz_keys.specs.declared.types.KeyEvent.{KeyEvent}
+use Rattle.termwiz_keys.specs.declared.encode.KeyCodeEncodeModes.{KeyCodeEncodeModes}
+use Rattle.std.specs.FinMap as map
+use Rattle.termwiz_grammar.specs.Table.{table}
+use Rattle.termwiz_grammar.specs.Laws.{row_count}
+use Rattle.termwiz_input_extended.specs.Buffered.{Buffered}
+use Rattle.termwiz_grammar.specs.RowsInOrder.{IsRowAt}
+use Rattle.termwiz_grammar.proofs.lemmas.table.TableAsMap.{rows_in_order}
+use Rattle.termwiz_senders.specs.KeyTexts.{HasRow, IsReadAsKey, IsFirstRowOf, IsSentRow, IsCharacterText, IsPlainKeyText, IsEscapedText, IsKeyText, without_alt}
+use Rattle.termwiz_senders.specs.KeyTexts.IsPlainKeyText.{by_sending, by_row, by_character}
+use Rattle.termwiz_senders.specs.KeyTexts.IsKeyText.{alone, after_escape}
+use Rattle.termwiz_senders.specs.EventTexts.{IsEventText, IsItself, IsReadAtOnce, IsRefused, IsTooLong, string_sent}
+
+-- the event that was found first, and what it left
+pub read_or_not : (reading : Reading) (text : List ℕ) (more : Bool) (event found : ExtendedEvent) (left : List ℕ) (b : Bool)
+    → Steps reading text more (found ∷ []) left → IsTrue b ↔ ((found ≡ event) × (left ≡ [])) → IsTrue b ↔ Means reading text more (event ∷ []) []
+read_or_not reading text more event found left b steps tells = (
+  λ yes. let both = tells.0 yes in record {
+    steps = subst (λ e. Steps reading text more (e ∷ []) []) both.0 (subst (Steps reading text more (found ∷ [])) both.1 steps);
+    rest = empty_is_rest (after_event reading event) more;
+  },
+  λ means. let one = stands_once reading text more steps.0 means.steps.0 found event steps.1 means.steps.1 in
+      tells.1 (one.1, sym steps.2 ∙ one.0 ∙ means.steps.2),
+)
+
+-- the same of a parser that has the bytes alone
+pub read_after : (reading : Reading) (fresh set fed after : Buffered) (bytes : List ℕ) (more : Bool) (event found : ExtendedEvent)
+    (o : Option ExtendedEvent) (left : List ℕ) (b : Bool) → fresh.text ≡ [] → set ≡ record fresh { reading = reading }
+    → fed ≡ record set { text = set.text ++ bytes } → o ≡ Some found
+    → IfSome o (λ e. Steps fed.reading fed.text more (e ∷ []) after.text) → left ≡ after.text
+    → IsTrue b ↔ ((found ≡ event) × (left ≡ [])) → IsTrue b ↔ Means reading bytes more (event ∷ []) []
+read_after reading fresh set fed after bytes more event found o left b empty set_is fed_is is steps left_is tells =
+    let text : fed.text ≡ bytes =
+    ap (λ p. p.text) fed_is ∙ ap (λ p. p.text ++ bytes) set_is ∙ ap (λ t. t ++ bytes) empty in
+    let its : fed.reading ≡ reading = ap (λ p. p.reading) fed_is ∙ ap (λ p. p.reading) set_is in
+    let here : Steps fed.reading fed.text more (found ∷ []) after.text = rw is at steps in
+    let there : Steps reading fed.text more (found ∷ []) after.text =
+    subst (λ r. Steps r fed.text more (found ∷ []) after.text) its here in
+    let alone : Steps reading bytes more (found ∷ []) after.text =
+    subst (λ t. Steps reading t more (found ∷ []) after.text) text there in
+    read_or_not reading bytes more event found left b (subst (Steps reading bytes more (found ∷ [])) (sym left_is) alone) tells
+
+-- nothing is found
+pub rest_not_read : (reading : Reading) (text : List ℕ) (more : Bool) (event : ExtendedEvent) → IsRest reading text more
+    → ¬ Means reading text more (event ∷ []) []
+rest_not_read reading text more event rest means = rest means.steps.0 event means.steps.1
+
+-- an event that is there with more to come is there without
+pub at_once : (reading : Reading) (text : List ℕ) (event : ExtendedEvent) → Means reading text true (event ∷ []) [] → IsReadAtOnce reading event text
+at_once reading text event means true = means
+at_once reading text event means false =
+    subst (λ t. Means reading t false (event ∷ []) []) (append-nil text)
+    (cut_independent reading text [] [] [] (event ∷ []) [] false means
+    (record { steps = refl; rest = empty_is_rest (after_event reading event) false }))
+
+pub itself : (reading : Reading) (event : ExtendedEvent) (text bytes : List ℕ) → bytes ≡ text → Means reading bytes true (event ∷ []) []
+    → IsItself reading event text bytes
+itself reading event text bytes same means = (same, at_once reading bytes event means)
+
+pub not_itself : (reading : Reading) (event : ExtendedEvent) (text sent bytes : List ℕ) → sent ≡ text → ¬ Means reading sent true (event ∷ []) []
+    → ¬ IsItself reading event text bytes
+not_itself reading event text sent bytes same none is =
+    none (subst (λ t. Means reading t true (event ∷ []) []) (is.0 ∙ sym same) (is.1 true))
+
+-- A search for the end of a paste in its text.
+pub occurs_found : (u text : List ℕ) (k : ℕ) → u ≡ START ++ text → FindsNeedle u END 6 (Some k) → Occurs END text
+occurs_found u text k whole found =
+    let to = paste_to u k (text, whole) found in
+    (take (k - 6) (drop 6 u), to.rest, append_cancel_left START text _ (sym whole ∙ to.parts))
+
+pub none_occurs : (u text : List ℕ) → u ≡ START ++ text → FindsNeedle u END 6 None → ¬ Occurs END text
+none_occurs u text whole never = endless u (text, whole) never text whole
+
+-- The sequences and strings, with what comes before and after their bytes.
+abbrev pub own : ExtendedEvent → Option (List ℕ)
+own (Csi t) = Some (CSI ++ t)
+own (Osc t) = Some (string_sent kinds.Osc t)
+own (Dcs t) = Some (string_sent kinds.Dcs t)
+own (Apc t) = Some (string_sent kinds.Apc t)
+own event = None
+
+pub own_text : (reading : Reading) (event : ExtendedEvent) (text bytes : List ℕ) → own event ≡ Some text
+    → IsItself reading event text bytes ↔ IsEventText reading event bytes
+unfolding IsEventText
+own_text reading (Csi t) text bytes e = let same : CSI ++ t ≡ text = cc (e) in
+    (λ is. subst (λ s. IsItself reading (Csi t) s bytes) (sym same) is, λ is. subst (λ s. IsItself reading (Csi t) s bytes) same is)
+own_text reading (Osc t) text bytes e = let same : string_sent kinds.Osc t ≡ text = cc (e) in
+    (λ is. subst (λ s. IsItself reading (Osc t) s bytes) (sym same) is, λ is. subst (λ s. IsItself reading (Osc t) s bytes) same is)
+own_text reading (Dcs t) text bytes e = let same : string_sent kinds.Dcs t ≡ text = cc (e) in
+    (λ is. subst (λ s. IsItself reading (Dcs t) s bytes) (sym same) is, λ is. subst (λ s. IsItself reading (Dcs t) s bytes) same is)
+own_text reading (Apc t) text bytes e = let same : string_sent kinds.Apc t ≡ text = cc (e) in
+    (λ is. subst (λ s. IsItself reading (Apc t) s bytes) (sym same) is, λ is. subst (λ s. IsItself reading (Apc t) s bytes) same is)
+own_text reading (Input event) text bytes e = cc (e)
+own_text reading (Key r) text bytes e = cc (e)
+own_text reading FocusGained text bytes e = cc (e)
+own_text reading FocusLost text bytes e = cc (e)
+own_text reading (CursorPosition row column) text bytes e = cc (e)
+own_text reading (Resize r c h w) text bytes e = cc (e)
+own_text reading (KeyboardFlags flags) text bytes e = cc (e)
+own_text reading (SideButton event) text bytes e = cc (e)
+own_text reading (StringPart kind t) text bytes e = cc (e)
+own_text reading (StringCut kind t) text bytes e = cc (e)
+
+pub if_ok : {A E : Type 0} (r : Result A E) (P Q : A → Type 0) → ((x : A) → P x → Q x) → IfOk r P → IfOk r Q
+if_ok (Ok x) P Q f h = f x h
+if_ok (Err e) P Q f h = h
+
+-- A place of the table has one row.
+pub row_once_at : (place : ℕ) (bytes other : List ℕ) (key own : KeyEvent) → IsRowAt place bytes key → IsRowAt place other own
+    → (bytes ≡ other) × (key ≡ own)
+row_once_at place bytes other key own a b =
+    let same : (bytes, key) ≡ (other, own) = sym (a.there (bytes, key)) ∙ b.there (bytes, key) in (ap (λ r. r.0) same, ap (λ r. r.1) same)
+
+pub not_true : (b : Bool) → b ≡ false → ¬ IsTrue b
+not_true false f is = cc (is)
+not_true true f is = cc (f)
+
+-- A search over the rows, place by place.
+abbrev pub NoneBefore : Reading → KeyEvent → ℕ → Type 0
+NoneBefore reading key place = (before : ℕ) (other : List ℕ) → before < place → IsRowAt before other key → ¬ IsReadAsKey reading key other
+
+pub none_at_start : (reading : Reading) (key : KeyEvent) → NoneBefore reading key 0
+none_at_start reading key before other below = omega (arith, below)
+
+pub none_further : (reading : Reading) (key own : KeyEvent) (place : ℕ) (bytes : List ℕ) → NoneBefore reading key place → IsRowAt place bytes own
+    → ¬ ((own ≡ key) × IsReadAsKey reading key bytes) → NoneBefore reading key (place + 1)
+none_further reading key own place bytes none here not before other below at read = ⊎_elim
+    (λ (earlier : before < place). none before other earlier at read)
+    (λ (same : before ≡ place).
+    let one = row_once_at place bytes other own key here (subst (λ p. IsRowAt p other key) same at) in
+    not (one.1, subst (IsReadAsKey reading key) (sym one.0) read))
+    (below_or_same before place below)
+  where
+    below_or_same : (a b : ℕ) → a < b + 1 → (a < b) ⊎ (a ≡ b)
+    below_or_same a b h = grind (arith, h)
+
+pub none_at_all : (reading : Reading) (key : KeyEvent) (place : ℕ) → NoneBefore reading key place → map.len table ≤ place
+    → ¬ HasRow reading key
+none_at_all reading key place none all (bytes, is) =
+    let at = (rows_in_order.exactly bytes key).0 is.row in
+    none at.0 bytes (omega (arith, all, at.1.inside)) at.1 is.read
+
+-- the place after a row's
+pub place_fits : (place : ℕ) → place < map.len table → Fits w64 (place + 1)
+place_fits place inside = let few : place < row_count = subst (λ n. place < n) rows_in_order.counted inside in grind (arith, few)
+
+pub next_inside : (n place : ℕ) → place < n → place + 1 ≤ n
+next_inside n place inside = omega (arith, inside)
+
+pub smaller : (n place : ℕ) → place < n → n - (place + 1) < n - place
+smaller n place inside = grind (arith, inside)
+
+-- What a key without an ESC before it is written as, by the three ways.
+pub no_plain_text : (reading : Reading) (key : KeyEvent) → ((bytes : List ℕ) → ¬ IsSentRow reading key bytes) → ¬ HasRow reading key
+    → ((bytes : List ℕ) → ¬ IsCharacterText reading key bytes) → (bytes : List ℕ) → ¬ IsPlainKeyText reading key bytes
+no_plain_text reading key sent row character bytes (by_sending is) = sent bytes is
+no_plain_text reading key sent row character bytes (by_row none is) =
+    row (bytes, record { row = (rows_in_order.exactly bytes key).1 (is.place, is.here); read = is.read })
+no_plain_text reading key sent row character bytes (by_character none is) = character bytes is
+
+pub no_key_text : (reading : Reading) (key : KeyEvent) → ((bytes : List ℕ) → ¬ IsPlainKeyText reading key bytes)
+    → ((bytes : List ℕ) → ¬ IsEscapedText reading key bytes) → (bytes : List ℕ) → ¬ IsKeyText reading key bytes
+no_key_text reading key plain escaped bytes (alone is) = plain bytes is
+no_key_text reading key plain escaped bytes (after_escape none is) = escaped bytes is
+
+-- what a call found, or that there is none
+pub if_some : {A E : Type 0} (r : Result (Option A) E) (P Q : A → Type 0) → ((x : A) → P x → Q x) → IfOk r (λ o. IfSome o P)
+    → IfOk r (λ o. IfSome o Q)
+if_some (Ok (Some x)) P Q f h = f x h
+if_some (Ok None) P Q f h = h
+if_some (Err e) P Q f h = h
+
+pub if_none : {A E P Q : Type 0} (r : Result (Option A) E) → (P → Q) → IfOk r (λ o. IfNone o P) → IfOk r (λ o. IfNone o Q)
+if_none (Ok (Some x)) f h = h
+if_none (Ok None) f h = f h
+if_none (Err e) f h = h
+
+-- A key without an ESC before it has one text.
+first_once : (reading : Reading) (key : KeyEvent) (a b : List ℕ) → IsFirstRowOf reading key a → IsFirstRowOf reading key b → a ≡ b
+first_once reading key a b x y = by_order (x.place == y.place) (nat_lt x.place y.place) refl refl
+  where
+    by_order : (same less : Bool) → (x.place == y.place) ≡ same → nat_lt x.place y.place ≡ less → a ≡ b
+    by_order true less e f =
+        let at : y.place ≡ x.place = grind (arith, nat_tests) in
+        (row_once_at x.place a b key key x.here (subst (λ p. IsRowAt p b key) at y.here)).0
+    by_order false true e f =
+        let below : x.place < y.place = grind (arith, nat_tests) in absurd (y.first x.place a below x.here x.read)
+    by_order false false e f =
+        let below : y.place < x.place = grind (arith, nat_tests) in absurd (x.first y.place b below y.here y.read)
+
+row_of_first : (reading : Reading) (key : KeyEvent) (bytes : List ℕ) → IsFirstRowOf reading key bytes → HasRow reading key
+row_of_first reading key bytes is =
+    (bytes, record { row = (rows_in_order.exactly bytes key).1 (is.place, is.here); read = is.read })
+
+pub plain_once : (reading : Reading) (key : KeyEvent) (a b : List ℕ) → IsPlainKeyText reading key a → IsPlainKeyText reading key b → a ≡ b
+plain_once reading key a b (by_sending x) (by_sending y) = let same : Some a ≡ Some b = sym x.0 ∙ y.0 in cc (same)
+plain_once reading key a b (by_sending x) (by_row none y) = absurd (none a x)
+plain_once reading key a b (by_sending x) (by_character none y) = absurd (none (a, x.1))
+plain_once reading key a b (by_row none x) (by_sending y) = absurd (none b y)
+plain_once reading key a b (by_row none x) (by_row other y) = first_once reading key a b x y
+plain_once reading key a b (by_row first x) (by_character none y) = absurd (none (row_of_first reading key a x))
+plain_once reading key a b (by_character none x) (by_sending y) = absurd (none (b, y.1))
+plain_once reading key a b (by_character none x) (by_row first y) = absurd (none (row_of_first reading key b y))
+plain_once reading key a b (by_character none x) (by_character other y) =
+    let both : plain x.character ≡ plain y.character = sym x.key_is ∙ y.key_is in
+    let codes : Char x.character ≡ Char y.character = ap (λ k. k.key) both in
+    let same : x.character ≡ y.character = cc (codes) in x.bytes_are ∙ ap encode_utf8 same ∙ sym y.bytes_are
+
+pub escaped_not : (reading : Reading) (key : KeyEvent) (text bytes : List ℕ) → IsPlainKeyText reading (without_alt key) text
+    → bytes ≡ ESC ++ text → ¬ IsReadAsKey reading key bytes → (other : List ℕ) → ¬ IsEscapedText reading key other
+escaped_not reading key text bytes plain are not other is =
+    let same : is.text ≡ text = plain_once reading (without_alt key) is.text text is.is_text plain in
+    not (subst (IsReadAsKey reading key) (is.bytes_are ∙ ap (λ t. ESC ++ t) same ∙ sym are) is.read)
+
+pub no_escaped : (reading : Reading) (key : KeyEvent) → ((bytes : List ℕ) → ¬ IsPlainKeyText reading (without_alt key) bytes)
+    → (other : List ℕ) → ¬ IsEscapedText reading key other
+no_escaped reading key none other is = none is.text is.is_text
+
+-- what an option that was told has
+pub some_of : {A : Type 0} (P : A → Type 0) (o : Option A) (x : A) → o ≡ Some x → IfSome o P → P x
+some_of P o x e h = rw e at h
+
+pub none_of : {A P : Type 0} (o : Option A) → o ≡ None → IfNone o P → P
+none_of o e h = rw e at h
+
+-- a function key that sends nothing
+pub unsent : (key : KeyCode) (n : ℕ) (held : Modifiers) (modes : KeyCodeEncodeModes) (bytes : List ℕ) → unhandled key ≡ Some n
+    → ¬ (enc key held modes ≡ Some bytes)
+unfolding enc
+unsent key n held modes bytes e sent = (let none : None ≡ Some bytes = rw e at sent in cc (none))
+
+-- A control sequence or a string that was tried.
+own_is : (reading : Reading) (event : ExtendedEvent) (all sent : List ℕ) → own event ≡ Some all → IsItself reading event all sent
+    → IsEventText reading event sent
+own_is reading event all sent e is = (own_text reading event all sent e).0 is
+
+own_none : (reading : Reading) (event : ExtendedEvent) (all : List ℕ) → own event ≡ Some all
+    → ((other : List ℕ) → ¬ IsItself reading event all other) → IsRefused reading event
+own_none reading event all e none bytes is = none bytes ((own_text reading event all bytes e).1 is)
+
+csi_own : (event : ExtendedEvent) (t all : List ℕ) → event ≡ Csi t → all ≡ CSI ++ t ++ [] → own event ≡ Some all
+csi_own event t all e are = ap own e ∙ ap (λ u. Some (CSI ++ u)) (sym (append-nil t)) ∙ ap (λ u. Some u) (sym are)
+
+pub csi_is : (reading : Reading) (event : ExtendedEvent) (t all sent : List ℕ) → event ≡ Csi t → all ≡ CSI ++ t ++ []
+    → IsItself reading event all sent → IsEventText reading event sent
+csi_is reading event t all sent e are is = own_is reading event all sent (csi_own event t all e are) is
+
+pub csi_none : (reading : Reading) (event : ExtendedEvent) (t all : List ℕ) → event ≡ Csi t → all ≡ CSI ++ t ++ []
+    → ((other : List ℕ) → ¬ IsItself reading event all other) → IsRefused reading event
+csi_none reading event t all e are none = own_none reading event all (csi_own event t all e are) none
+
+pub csi_too_long : (event : ExtendedEvent) (t all : List ℕ) → event ≡ Csi t → all ≡ CSI ++ t ++ [] → 256 < length all → IsTooLong event
+unfolding IsTooLong
+csi_too_long event t all e are long =
+    let same : all ≡ CSI ++ t = are ∙ ap (λ u. CSI ++ u) (append-nil t) in
+    let more : 256 < length (CSI ++ t) = subst (λ u. 256 < length u) same long in
+    subst (λ v. IsTooLong v) (sym e) more
+
+string_own : (event : ExtendedEvent) (kind : StringKind) (front t all : List ℕ) → event ≡ whole_string kind t → front ≡ introducer kind
+    → all ≡ front ++ t ++ ST → own event ≡ Some all
+unfolding string_sent
+string_own event kinds.Osc front t all e f are = ap own e ∙ ap (λ u. Some (u ++ t ++ ST)) (sym f) ∙ ap (λ u. Some u) (sym are)
+string_own event kinds.Dcs front t all e f are = ap own e ∙ ap (λ u. Some (u ++ t ++ ST)) (sym f) ∙ ap (λ u. Some u) (sym are)
+string_own event kinds.Apc front t all e f are = ap own e ∙ ap (λ u. Some (u ++ t ++ ST)) (sym f) ∙ ap (λ u. Some u) (sym are)
+
+pub string_is : (reading : Reading) (event : ExtendedEvent) (kind : StringKind) (front t all sent : List ℕ) → event ≡ whole_string kind t
+    → front ≡ introducer kind → all ≡ front ++ t ++ ST → IsItself reading event all sent → IsEventText reading event sent
+string_is reading event kind front t all sent e f are is = own_is reading event all sent (string_own event kind front t all e f are) is
+
+pub string_none : (reading : Reading) (event : ExtendedEvent) (kind : StringKind) (front t all : List ℕ) → event ≡ whole_string kind t
+    → front ≡ introducer kind → all ≡ front ++ t ++ ST → ((other : List ℕ) → ¬ IsItself reading event all other) → IsRefused reading event
+string_none reading event kind front t all e f are none = own_none reading event all (string_own event kind front t all e f are) none
+
+pub string_too_long : (event : ExtendedEvent) (kind : StringKind) (t : List ℕ) → event ≡ whole_string kind t → 65534 < 2 + length t
+    → IsTooLong event
+unfolding IsTooLong
+string_too_long event kinds.Osc t e long = let more : 65535 ≤ suc (suc (length t)) = omega (arith, long) in subst (λ v. IsTooLong v) (sym e) more
+string_too_long event kinds.Dcs t e long = let more : 65535 ≤ suc (suc (length t)) = omega (arith, long) in subst (λ v. IsTooLong v) (sym e) more
+string_too_long event kinds.Apc t e long = let more : 65535 ≤ suc (suc (length t)) = omega (arith, long) in subst (λ v. IsTooLong v) (sym e) more
+
+-- a key of the port's events that has no text
+pub key_refused : (reading : Reading) (event : InputEvent) (k : KeyEvent) → event ≡ input.Key k
+    → ((bytes : List ℕ) → ¬ IsKeyText reading k bytes) → IsRefused reading (Input event)
+unfolding IsEventText
+key_refused reading event k e none bytes is = none bytes (subst (λ v. IsEventText reading (Input v) bytes) e is)
+
+-- a report that is too long isn't written
+report_refused : (reading : Reading) (r : KeyReport) → IsTooLong (Key r) → IsRefused reading (Key r)
+unfolding IsTooLong IsEventText
+report_refused reading r (text, is, long) bytes (of, short) =
+    let both : Some text ≡ Some bytes = sym is ∙ of in
+    let same : text ≡ bytes = cc (both) in
+    let less : most_bytes < length bytes = subst (λ t. most_bytes < length t) same long in omega (arith, less, short)
+
+pub report_too_long : (reading : Reading) (event : ExtendedEvent) (r : KeyReport) → event ≡ Key r → IsTooLong (Key r)
+    → IsTooLong event × IsRefused reading event
+report_too_long reading event r e long =
+    subst (λ v. IsTooLong v × IsRefused reading v) (sym e) (long, report_refused reading r long)
