@@ -1,0 +1,159 @@
+-- Each key report that a reading emits is written.
+use Rattle.std.proofs.Common.{◌≡◌, ◌⊎◌, inl, inr, ℕ, ◌+◌, ◌<◌, ◌≤◌, Bool, true, nat_le, List, [], ◌∷◌, ◌++◌, length, refl, sym, ap, ◌∙◌, subst, arith, decimal, Some, length-append, bit_or}
+use Rattle.std.proofs.lemmas.Nat.{or_of_8}
+use Rattle.std.proofs.lemmas.Bool.{and_parts}
+use Rattle.std.proofs.lemmas.Bool.Decides.{nat_tests}
+use Rattle.termwiz_keys.specs.declared.types.KeyCode.TheVariants.{Char}
+use Rattle.termwiz_grammar.specs.Sequences.{IsSequence}
+use Rattle.termwiz_grammar.proofs.lemmas.table.RowShape.{row_shaped}
+use Rattle.termwiz_extended_events.specs.declared.types.KeyReport.{KeyReport}
+use Rattle.termwiz_extended_events.specs.declared.types.KeyEventKind.TheVariants.{Press}
+use Rattle.termwiz_extended_events.specs.declared.types.ReportedKey.TheVariants.{Named}
+use Rattle.termwiz_extended_events.specs.declared.types.ExtendedEvent.{ExtendedEvent}
+use Rattle.termwiz_extended_events.specs.declared.types.ExtendedEvent.TheVariants.{Key}
+use Rattle.termwiz_extended_events.specs.declared.types.Reading.{Reading}
+use Rattle.termwiz_extended_events.specs.ReportedKeys.{is_functional}
+use Rattle.termwiz_extended_events.specs.KeyReports.{report_of}
+use Rattle.termwiz_extended_grammar.specs.Forms.{IsForm, IsRxvtNumber, IsKeypadKey}
+use Rattle.termwiz_extended_grammar.specs.Forms.IsForm.{control, x10_report, console_key, keypad_key, modified_key, shifted_key, title}
+use Rattle.termwiz_extended_grammar.specs.ExtraSequences.{IsRow, EndsAsRxvt, IsRxvtFunction, IsBareKey, with_alt}
+use Rattle.termwiz_extended_grammar.specs.ExtendedGrammar.{Stands}
+use Rattle.termwiz_extended_grammar.specs.ExtendedGrammar.Stands.{extra, alt_key, lone_escape, string, usual}
+use Rattle.termwiz_extended_grammar.proofs.lemmas.forms.Unfinished.{one_last}
+use Rattle.termwiz_kitty.specs.KittyTexts.{most_bytes}
+use Rattle.termwiz_senders.specs.ReportTexts.{private_character, private_report_text, report_text}
+use Rattle.termwiz_senders.specs.EventTexts.{IsRefused, IsEventText}
+use Rattle.termwiz_event_laws.specs.EventLaws.{Emits}
+use Rattle.termwiz_event_laws.proofs.lemmas.Origins.{FromForm, extra_event, IsOfString, comes_of_string}
+use Rattle.termwiz_event_laws.proofs.lemmas.KeyReportsNumbers.{at_most_seven}
+use Rattle.termwiz_event_laws.proofs.lemmas.KeyReportsWritten.{IsWritten, plain_written, from_character_written, with_modifiers_written}
+use Rattle.termwiz_event_laws.proofs.lemmas.KeyReportsRules.{IsPlain, IsPrivate}
+use Rattle.termwiz_event_laws.proofs.lemmas.KeyReportsEvents.{IsReportOf, event_told}
+use Rattle.termwiz_event_laws.proofs.lemmas.KeyReportsEvents.Told.{plain, private, typed}
+use Rattle.termwiz_event_laws.proofs.lemmas.KeyReportsEvents.IsReportOf.{bracketed, keypad}
+
+-- a private character
+
+private_text : (c bits : ℕ) → is_functional c ≡ true
+    → report_text (report_of (Named (Char c)) (record { modifiers = bits; kind = Press })) ≡ Some (private_report_text c bits)
+unfolding report_text private_character
+private_text c bits inside = rw inside refl
+
+private_long : (c bits : ℕ) → c < 2000000 → bits < 256 → length (private_report_text c bits) ≤ 256
+unfolding private_report_text
+private_long c bits small h = omega (
+  arith,
+  length-append (50 ∷ 55 ∷ 59 ∷ decimal (1 + bits) ++ 59 ∷ [] ++ decimal c) (126 ∷ []),
+  length-append (50 ∷ 55 ∷ 59 ∷ decimal (1 + bits) ++ 59 ∷ []) (decimal c),
+  length-append (50 ∷ 55 ∷ 59 ∷ decimal (1 + bits)) (59 ∷ []),
+  at_most_seven (1 + bits) (omega arith),
+  at_most_seven c small,
+)
+
+private_written : (r : KeyReport) → IsPrivate r → IsWritten r
+private_written r p =
+    let high : nat_le p.character 63743 ≡ true = (and_parts (nat_le 57344 p.character) (nat_le p.character 63743) p.functional).1 in
+    let small : p.character < 2000000 = grind (arith, nat_tests) in
+    subst IsWritten p.is
+    (private_report_text p.character p.bits, private_text p.character p.bits p.functional, private_long p.character p.bits small p.fits)
+
+-- sequences after ESC [ are short
+
+number_few : (number : List ℕ) → IsRxvtNumber number → length number ≤ 2
+number_few [] is = absurd is
+number_few (d ∷ []) is = omega arith
+number_few (d ∷ e ∷ []) is = omega arith
+number_few (d ∷ e ∷ c ∷ digits) is = absurd is
+
+form_short : {x10_mouse : Bool} (text t : List ℕ) → IsForm x10_mouse text → text ≡ 27 ∷ 91 ∷ t → length text ≤ 256
+form_short text t (control f) e = f.short
+form_short text t (x10_report on f) e = omega (arith, ap length f.form)
+form_short text t (console_key f) e = omega (arith, ap length f.form)
+form_short text t (keypad_key f) e = omega (arith, ap length f.form)
+form_short text t (modified_key f) e = absurd (let no : ◌≡◌ {A = ℕ} 79 91 = cc (f.form, e) in omega arith)
+form_short text t (shifted_key f) e =
+    omega (arith, ap length f.form, length-append f.number (36 ∷ []), number_few f.number f.number_is)
+form_short text t (title f) e = absurd (let no : ◌≡◌ {A = ℕ} 93 91 = cc (f.form, e) in omega arith)
+
+typed_long : (text t body : List ℕ) → text ≡ 27 ∷ 91 ∷ t → t ≡ body ++ 117 ∷ [] → length text ≡ length body + 3
+typed_long text t body e f = omega (arith, ap length e, ap length f, length-append body (117 ∷ []))
+
+-- the event of an extra sequence
+extra_written : {x10_mouse : Bool} (text : List ℕ) (r : KeyReport) → IsForm x10_mouse text → FromForm text (Key r) → IsWritten r
+extra_written text r form told = go (event_told text r told)
+  where
+    go : IsReportOf text r → IsWritten r
+    go (keypad p) = plain_written r p.key p.none p.fits
+    go (bracketed t same (plain p)) = plain_written r p.key p.none p.fits
+    go (bracketed t same (private p)) = private_written r p
+    go (bracketed t same (typed body ends from)) =
+        from_character_written (length body) r (omega (arith, typed_long text t body same ends, form_short text t form same)) from
+
+-- rows are short
+row_short : (text : List ℕ) → IsRow text → length text < 12
+unfolding IsSequence
+row_short text row = (row_shaped text row.0 row.1).short
+
+-- a bare key by the letter u is short
+bare_short : (text t body : List ℕ) → IsBareKey text → text ≡ 27 ∷ 91 ∷ t → t ≡ body ++ 117 ∷ [] → length text < 12
+bare_short text t body bare e f = go bare.layout
+  where
+    whole : text ≡ (27 ∷ 91 ∷ body) ++ 117 ∷ []
+    whole = e ∙ ap (λ z. 27 ∷ 91 ∷ z) f
+
+    go : IsRow text ⊎ (IsKeypadKey text ⊎ (EndsAsRxvt text ⊎ IsRxvtFunction text)) → length text < 12
+    go (inl row) = row_short text row
+    go (inr (inl key)) = omega (arith, ap length key.form)
+    go (inr (inr (inl (front, end, ends, its)))) =
+        absurd (let same : end ≡ 117 = (one_last front (27 ∷ 91 ∷ body) end 117 (sym ends ∙ whole)).1 in omega (arith, its, same))
+    go (inr (inr (inr (digit, ends, its)))) = omega (arith, ap length ends)
+
+-- the same report with ALT
+abbrev alt_report : KeyReport → KeyReport
+alt_report r = record r { modifiers = bit_or r.modifiers 2 }
+
+alt_fits : (bits : ℕ) → bits < 256 → bit_or bits 2 < 256
+alt_fits bits h = or_of_8 bits 2 h (omega arith)
+
+bare_written : (text : List ℕ) (r : KeyReport) → IsBareKey text → FromForm text (Key r) → IsWritten (alt_report r)
+bare_written text r bare told = go (event_told text r told)
+  where
+    with_plain : IsPlain r → IsWritten (alt_report r)
+    with_plain p = plain_written (alt_report r) p.key p.none (alt_fits r.modifiers p.fits)
+
+    go : IsReportOf text r → IsWritten (alt_report r)
+    go (keypad p) = with_plain p
+    go (bracketed t same (plain p)) = with_plain p
+    go (bracketed t same (private p)) = private_written (alt_report r) (record {
+      character = p.character;
+      bits = bit_or p.bits 2;
+      is = ap alt_report p.is;
+      functional = p.functional;
+      fits = alt_fits p.bits p.fits;
+    })
+    go (bracketed t same (typed body ends from)) = with_modifiers_written (length body) r (bit_or r.modifiers 2)
+        (omega (arith, typed_long text t body same ends, bare_short text t body bare same ends)) (alt_fits r.modifiers from.fits) from
+
+alt_written : (text : List ℕ) (event : ExtendedEvent) (r : KeyReport) → IsBareKey text → FromForm text event → with_alt event ≡ Key r
+    → IsWritten r
+alt_written text (Key report) r bare told e =
+    let same : alt_report report ≡ r = cc (e) in subst IsWritten same (bare_written text report bare told)
+alt_written text event r bare told e = absurd (cc (e))
+
+stands_written : (reading : Reading) (u : List ℕ) (more : Bool) (left : List ℕ) (event : ExtendedEvent) (r : KeyReport)
+    → Stands reading u more left event → event ≡ Key r → IsWritten r
+stands_written reading u more left event r (extra text l e is split) k = extra_written text r is.is_form (subst (FromForm text) k (extra_event reading text e is))
+stands_written reading u more left event r (alt_key text l e is bare split) k = alt_written text e r bare (extra_event reading text e is) k
+stands_written reading u more left event r (lone_escape l split apart) k = absurd (cc (k))
+stands_written reading u more left event r (string kind head bytes after l e is comes) k =
+    absurd (subst IsOfString k (comes_of_string kind head bytes after l more e comes))
+stands_written reading u more left event r (usual bytes l e stands split here behind) k = absurd (cc (k))
+
+pub key_whole : (reading : Reading) (r : KeyReport) → Emits reading (Key r)
+    → (bytes : List ℕ) × (report_text r ≡ Some bytes) × (length bytes ≤ most_bytes)
+key_whole reading r emits = stands_written reading emits.0 emits.2 emits.1 (Key r) r emits.3 refl
+
+-- so no reading emits one that is refused
+pub key_is_written : (reading : Reading) (r : KeyReport) → Emits reading (Key r) → ¬ IsRefused reading (Key r)
+unfolding IsEventText
+key_is_written reading r emits refused = (let written = key_whole reading r emits in refused written.0 (written.1, written.2))

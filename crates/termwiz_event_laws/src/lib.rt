@@ -1,0 +1,31 @@
+//! Laws of written events, each the contract of a function without effect: what is written is read as the event, and each event that a
+//! reading emits is written. They speak of the definitions alone. That `encode_event` follows them is said by its own contract.
+#![tactic(auto)]
+
+ghost use Rattle.termwiz_event_laws.specs.EventLaws.{AttributesReadBack, PositionsReadBack, ReadBack, SchemesReadBack, Whole};
+
+/// What is written for an event is that event alone, and nothing stays buffered. With more to come that is so too, but for a key of `Input`,
+/// whose text may begin a sequence.
+pub fn read_back()
+    ensures { ReadBack }
+{}
+
+/// Each event that a reading emits is written, but for parts of strings and strings that were cut off. With `read_back`, what is written is
+/// that event: events and their texts are told in both directions.
+pub fn whole()
+    ensures { Whole }
+{}
+
+/// A reply to a question for the cursor's position is that position, whether or not more may come. The private one always is. The
+/// other one isn't where the sequence table has it as F3 with modifiers: under `Protocol::Legacy`, with no open question, in row 1 and
+/// the columns 1 to 16.
+pub fn positions_read_back()
+    ensures { PositionsReadBack }
+{}
+
+/// What a terminal sends of its colours (`schemes`), and its attributes (`attributes`), are each one control sequence, whether or not more may
+/// come. Nothing stays buffered.
+pub fn replies_read_back()
+    ensures schemes { SchemesReadBack }
+    ensures attributes { AttributesReadBack }
+{}
