@@ -510,16 +510,17 @@ typedef struct hed_modes {
   bool has_modify_other_keys; /* modifyOtherKeys is on, at the level above */
 } hed_modes;
 
-/* What hed_encode, hed_encode_kitty, hed_encode_paste and hed_encode_mouse return. */
+/* What the calls return whose names begin with hed_encode. */
 enum hed_encoded {
   /* numbers.txt: encoded c */
   HED_ENCODED_TEXT = 0, /* The bytes, of which there may be none. */
   HED_ENCODED_REFUSED_KEY = 1, /* The key has no text. Of hed_encode it is a function key, since only F1 to F24 have one. */
   HED_ENCODED_REFUSED_MEMORY = 2, /* Memory was refused. The call may be made again. */
   HED_ENCODED_BAD_NUMBER = 3, /* A number names nothing. */
-  HED_ENCODED_TOO_LONG = 4, /* The key's sequence would have more than 256 bytes. Only a key report with a long text has such a one. */
-  HED_ENCODED_BAD_TEXT = 5, /* The text of the key report isn't UTF-8. */
-  HED_ENCODED_TOO_FAR = 6 /* The place of the mouse report is above 223, which its encoding can't tell. */
+  HED_ENCODED_TOO_LONG = 4, /* The bytes would be more than a sequence or a string may have. */
+  HED_ENCODED_BAD_TEXT = 5, /* The text of a key report or of a paste isn't UTF-8. */
+  HED_ENCODED_TOO_FAR = 6, /* The place of the mouse report is above 223, which its encoding can't tell. */
+  HED_ENCODED_NO_TEXT = 7 /* No bytes are read as the event. */
   /* numbers.txt: end */
 };
 
@@ -933,6 +934,44 @@ typedef struct hed_mouse_report {
  * HED_ENCODED_TOO_FAR if the program gets the report, and x or y is above 223 with HED_MOUSE_ENCODING_DEFAULT; HED_ENCODED_REFUSED_MEMORY
  * if memory was refused; HED_ENCODED_BAD_NUMBER if button, tracking or encoding names nothing, or a bit of modifiers has no name. */
 uint32_t hed_encode_mouse(const hed_mouse_report *report, uint32_t tracking, uint32_t encoding, uint8_t *out, size_t len, size_t *sent_len);
+
+/* Writes the bytes that an extended parser with this reading reads as the event to out, and the number of these bytes to *sent_len: the other
+ * way from hed_extended_next, whatever the terminal sent. A multiplexer passes replies on by it, and a test or a recorder writes what it feeds
+ * to a parser. event and text, text_len bytes, are as hed_extended_next and hed_extended_text give them. Of event only the fields are read that
+ * its kind has, and text is read for a paste, a key report, a control sequence and a string.
+ *
+ * With no more to come the bytes are that event alone, and nothing stays buffered. That is so with more to come too, but for HED_KIND_KEY, whose
+ * text may begin a sequence. A key is written as a row of the sequence table or as its character, and a key report in the form of Kitty's
+ * protocol, with what happened to the key always told. hed_encode and hed_encode_kitty write keys as a terminal sends them.
+ *
+ * Returns an enum hed_encoded. With HED_ENCODED_TEXT *sent_len is the number of all these bytes, and out has as many of them as len says:
+ * if *sent_len is above len, call again with more room. The rest of out is unchanged. Otherwise *sent_len is 0 and out is unchanged:
+ * HED_ENCODED_NO_TEXT if no bytes are read as the event, as for HED_KIND_PASTE_PART, HED_KIND_STRING_PART, HED_KIND_STRING_CUT, a paste that
+ * has ESC [201~ in it, and an event that no parser makes; HED_ENCODED_TOO_LONG if the sequence would have more than 256 bytes, or the string
+ * 65535 before its end; HED_ENCODED_BAD_TEXT if the text of a paste or a key report isn't UTF-8; HED_ENCODED_REFUSED_MEMORY if memory was
+ * refused; HED_ENCODED_BAD_NUMBER if a number names nothing, or a bit of the modifiers has no name. */
+uint32_t hed_encode_event(const hed_extended_event *event, const uint8_t *text, size_t text_len, const hed_reading *reading, uint8_t *out,
+                          size_t len, size_t *sent_len);
+
+/* Writes what a terminal replies to a question for the position of its cursor to out, and the number of these bytes to *sent_len: ESC [, the
+ * row, a semicolon, the column and R. private_reply says that the question was ESC [?6n, not ESC [6n: then ? comes before the row. The first row
+ * and the first column are 1. Without it a reply for row 1 and the columns 1 to 16 has the bytes of F3 with modifiers.
+ *
+ * Returns HED_ENCODED_TEXT or HED_ENCODED_REFUSED_MEMORY, as hed_encode_paste does. */
+uint32_t hed_encode_cursor_position(uint16_t row, uint16_t column, bool private_reply, uint8_t *out, size_t len, size_t *sent_len);
+
+/* Writes what a terminal sends when its colours change, and replies to ESC [?996n, to out, and the number of these bytes to *sent_len:
+ * ESC [?997;1n if its colours are dark, and else ESC [?997;2n.
+ *
+ * Returns HED_ENCODED_TEXT or HED_ENCODED_REFUSED_MEMORY, as hed_encode_paste does. */
+uint32_t hed_encode_colour_scheme(bool dark, uint8_t *out, size_t len, size_t *sent_len);
+
+/* Writes what a terminal replies to the question for its attributes (ESC [c) to out, and the number of these bytes to *sent_len: ESC [?, the
+ * count numbers parted by semicolons, and c. The first number is the terminal's class, such as 62.
+ *
+ * Returns HED_ENCODED_TEXT or HED_ENCODED_REFUSED_MEMORY, as hed_encode_paste does, and HED_ENCODED_TOO_LONG if the reply would have more than
+ * 256 bytes. */
+uint32_t hed_encode_device_attributes(const uint16_t *numbers, size_t count, uint8_t *out, size_t len, size_t *sent_len);
 
 /* The press of a key: the key and the modifiers held with it, the same however the terminal reports the key. A program compares presses,
  * field by field, and looks up by them what a key does.

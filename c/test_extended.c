@@ -1240,6 +1240,121 @@ static void encodes_mouse_reports(hed_extended *parser) {
   }
 }
 
+/* What a terminal sent, the protocol by which it is read, and what its event is written as. */
+struct written {
+  uint32_t protocol;
+  const char *text;
+  size_t len;
+  const char *bytes;
+};
+
+static const struct written written[] = {
+  { HED_PROTOCOL_LEGACY, TEXT("\033[A"), "\033[A" },
+  { HED_PROTOCOL_LEGACY, TEXT("\033[9;1u"), "\t" },
+  { HED_PROTOCOL_LEGACY, TEXT("a"), "a" },
+  { HED_PROTOCOL_LEGACY, TEXT("\033\303\251"), "\033\303\251" },
+  { HED_PROTOCOL_KITTY, TEXT("\033[A"), "\033[1;1:1A" },
+  { HED_PROTOCOL_KITTY, TEXT("\033[97;5u"), "\033[97;5:1u" },
+  { HED_PROTOCOL_KITTY, TEXT("\033[97:65:99;2:3u"), "\033[97:65:99;2:3u" },
+  { HED_PROTOCOL_KITTY, TEXT("\033[097;1:2;097u"), "\033[97;:2;97u" },
+  { HED_PROTOCOL_KITTY, TEXT("\033[27;5;57344~"), "\033[27;5;57344~" },
+  { HED_PROTOCOL_KITTY, TEXT("\033[1;5R"), "\033[?1;5R" },
+  { HED_PROTOCOL_LEGACY, TEXT("\033[<64;3;4M"), "\033[<64;3;4M" },
+  { HED_PROTOCOL_LEGACY, TEXT("\033[<0;3;4m"), "\033[<35;3;4M" },
+  { HED_PROTOCOL_LEGACY, TEXT("\033[<145;3;4M"), "\033[<145;3;4M" },
+  { HED_PROTOCOL_LEGACY, TEXT(START "a\377" END), START "a" REPLACED END },
+  { HED_PROTOCOL_LEGACY, TEXT("\033[O"), "\033[O" },
+  { HED_PROTOCOL_LEGACY, TEXT("\033[48;24;80;480;800t"), "\033[48;24;80;480;800t" },
+  { HED_PROTOCOL_LEGACY, TEXT("\033[?05u"), "\033[?5u" },
+  { HED_PROTOCOL_LEGACY, TEXT("\033[?62;22c"), "\033[?62;22c" },
+  { HED_PROTOCOL_LEGACY, TEXT("\033]11;#fff\007"), "\033]11;#fff\033\\" },
+  { HED_PROTOCOL_LEGACY, TEXT("\033P1$r0m\033\\"), "\033P1$r0m\033\\" },
+  { HED_PROTOCOL_LEGACY, TEXT("\033_Gi=1;OK\033\\"), "\033_Gi=1;OK\033\\" },
+};
+
+static void writes_event_in(const hed_extended_event *event, const uint8_t *text, const struct written *it, size_t len) {
+  hed_reading reading = { it->protocol, false, 0 };
+  uint8_t room[64];
+  size_t wanted = strlen(it->bytes), kept = wanted < len ? wanted : len, sent_len = 99;
+  memset(room, '.', sizeof room);
+  EXPECT(hed_encode_event(event, text, event->text_len, &reading, room, len, &sent_len) == HED_ENCODED_TEXT && sent_len == wanted);
+  EXPECT(memcmp(room, it->bytes, kept) == 0 && room[kept] == '.' && room[63] == '.');
+}
+
+/* An event that was read is written. */
+static void writes_events(hed_extended *parser) {
+  for (size_t i = 0; i < sizeof written / sizeof *written; i++) {
+    const struct written *it = &written[i];
+    hed_extended_event event;
+    uint8_t text[64];
+    EXPECT(set_reading(parser, it->protocol, false, 0) && hed_extended_feed(parser, (const uint8_t *)it->text, it->len));
+    EXPECT(hed_extended_next(parser, false, &event) == HED_NEXT_EVENT && hed_extended_waiting_len(parser) == 0);
+    if (event.text_len) hed_extended_text(parser, text, sizeof text);
+    for (size_t len = 0; len <= strlen(it->bytes) + 1; len++) writes_event_in(&event, text, it, len);
+  }
+}
+
+static void refuses_event(hed_extended_event event, const char *text, size_t text_len, uint32_t protocol, uint32_t answer) {
+  hed_reading reading = { protocol, false, 0 };
+  uint8_t room[4] = { '.' };
+  size_t sent_len = 99;
+  EXPECT(hed_encode_event(&event, (const uint8_t *)text, text_len, &reading, room, sizeof room, &sent_len) == answer);
+  EXPECT(sent_len == 0 && room[0] == '.');
+}
+
+/* Events that no bytes are read as, that are too long, or whose numbers or texts stand for nothing. */
+static void refuses_events(void) {
+  static char long_text[65536];
+  hed_extended_event report = { .kind = HED_KIND_REPORT,
+                                .report = { HED_KEY_EVENT_KIND_PRESS, 0, HED_KEY_COPY, 0, HED_NO_CODE, HED_NO_CODE } };
+  hed_extended_event key = { .kind = HED_KIND_KEY, .input = { .key = HED_KEY_UP_ARROW } };
+  hed_extended_event cut = { .kind = HED_KIND_STRING_CUT, .flags = HED_KIND_OSC };
+  hed_extended_event side = { .kind = HED_KIND_SIDE_BUTTON, .flags = HED_SIDE_BUTTON_PRESS, .input = { .detail = 7 } };
+  memset(long_text, 'a', sizeof long_text);
+  memcpy(long_text, "52;", 3);
+  refuses_event(report, NULL, 0, HED_PROTOCOL_LEGACY, HED_ENCODED_NO_TEXT);
+  refuses_event(key, NULL, 0, HED_PROTOCOL_KITTY, HED_ENCODED_NO_TEXT);
+  refuses_event(cut, TEXT("11;a"), HED_PROTOCOL_LEGACY, HED_ENCODED_NO_TEXT);
+  refuses_event(side, NULL, 0, HED_PROTOCOL_LEGACY, HED_ENCODED_NO_TEXT);
+  refuses_event((hed_extended_event){ .kind = HED_KIND_PASTE }, TEXT("a" END), HED_PROTOCOL_LEGACY, HED_ENCODED_NO_TEXT);
+  refuses_event((hed_extended_event){ .kind = HED_KIND_CSI }, TEXT("I"), HED_PROTOCOL_LEGACY, HED_ENCODED_NO_TEXT);
+  refuses_event((hed_extended_event){ .kind = HED_KIND_OSC }, TEXT("ab"), HED_PROTOCOL_LEGACY, HED_ENCODED_NO_TEXT);
+  refuses_event((hed_extended_event){ .kind = HED_KIND_OSC }, long_text, sizeof long_text, HED_PROTOCOL_LEGACY, HED_ENCODED_TOO_LONG);
+  refuses_event((hed_extended_event){ .kind = HED_KIND_CSI }, long_text, 300, HED_PROTOCOL_LEGACY, HED_ENCODED_TOO_LONG);
+  refuses_event((hed_extended_event){ .kind = HED_KIND_PASTE }, TEXT("\377"), HED_PROTOCOL_LEGACY, HED_ENCODED_BAD_TEXT);
+  report.report.key = KEYS + 1;
+  key.input.modifiers = 1;
+  cut.flags = HED_KIND_CSI;
+  side.input.detail = 256;
+  refuses_event(report, NULL, 0, HED_PROTOCOL_LEGACY, HED_ENCODED_BAD_NUMBER);
+  refuses_event(key, NULL, 0, HED_PROTOCOL_LEGACY, HED_ENCODED_BAD_NUMBER);
+  refuses_event(cut, NULL, 0, HED_PROTOCOL_LEGACY, HED_ENCODED_BAD_NUMBER);
+  refuses_event(side, NULL, 0, HED_PROTOCOL_LEGACY, HED_ENCODED_BAD_NUMBER);
+  refuses_event((hed_extended_event){ .kind = HED_KIND_PASTE_PART }, TEXT("a"), HED_PROTOCOL_LEGACY, HED_ENCODED_BAD_NUMBER);
+  refuses_event((hed_extended_event){ .kind = HED_KIND_FOCUS_LOST }, NULL, 0, HED_PROTOCOL_KITTY + 1, HED_ENCODED_BAD_NUMBER);
+}
+
+static void is_written(uint32_t answer, const uint8_t *room, size_t sent_len, const char *wanted) {
+  EXPECT(answer == HED_ENCODED_TEXT && sent_len == strlen(wanted) && memcmp(room, wanted, sent_len) == 0);
+}
+
+/* What a terminal replies. */
+static void writes_replies(void) {
+  static const uint16_t numbers[64] = { 62, 22 };
+  uint8_t room[256] = { '.' };
+  size_t sent_len;
+  is_written(hed_encode_cursor_position(1, 5, true, room, sizeof room, &sent_len), room, sent_len, "\033[?1;5R");
+  is_written(hed_encode_cursor_position(65535, 0, false, room, sizeof room, &sent_len), room, sent_len, "\033[65535;0R");
+  is_written(hed_encode_colour_scheme(true, room, sizeof room, &sent_len), room, sent_len, "\033[?997;1n");
+  is_written(hed_encode_colour_scheme(false, room, sizeof room, &sent_len), room, sent_len, "\033[?997;2n");
+  is_written(hed_encode_device_attributes(numbers, 2, room, sizeof room, &sent_len), room, sent_len, "\033[?62;22c");
+  is_written(hed_encode_device_attributes(NULL, 0, room, sizeof room, &sent_len), room, sent_len, "\033[?c");
+  EXPECT(hed_encode_device_attributes(numbers, 64, NULL, 0, &sent_len) == HED_ENCODED_TEXT && sent_len == 3 + 5 + 62 * 2 + 1);
+  uint16_t many[256];
+  memset(many, 0xff, sizeof many);
+  EXPECT(hed_encode_device_attributes(many, 256, room, sizeof room, &sent_len) == HED_ENCODED_TOO_LONG && sent_len == 0);
+}
+
 /* What was written is the press, or nothing where there is none. */
 static void is_press(bool has, const hed_key_press *told, const hed_key_press *wanted) {
   const hed_key_press *is = has ? wanted : &unwritten;
@@ -1748,6 +1863,9 @@ int main(void) {
   reads_keys_back(&parser);
   encodes_pastes(&parser);
   encodes_mouse_reports(&parser);
+  writes_events(&parser);
+  refuses_events();
+  writes_replies();
   hed_extended_free(&parser);
   return expected("test_extended");
 }

@@ -1,6 +1,6 @@
 /* Refuses each request for memory in turn, one in each run, and makes the refused call again. The answers must be those of a run without a
  * refusal, and each refusal must be told once. What is dropped or freed leaves no memory in use. The calls are those of the extended parser and
- * of bindings, hed_encode_kitty, hed_encode_paste, hed_encode_mouse and hed_key_print.
+ * of bindings, hed_encode_kitty, hed_encode_paste, hed_encode_mouse, hed_encode_event and hed_key_print.
  *
  *     cc -Wl,--wrap=malloc -Wl,--wrap=realloc -Wl,--wrap=free test_extended_refusals.c libhedrugal.a && ./a.out [STEP]
  *
@@ -278,6 +278,29 @@ static void refuse_while_sending(bool is_paste) {
   } while (met);
   EXPECT(number > 1);
   printf("%s: %ld refusals\n", is_paste ? "paste" : "mouse report", number - 1);
+}
+
+/* An event that needs the sequence table, with each request refused in turn: nothing is written, and the call may be made again. */
+static void refuse_while_writing(void) {
+  static const hed_extended_event event = { .kind = HED_KIND_OSC };
+  static const hed_reading reading = { HED_PROTOCOL_KITTY, false, 0 };
+  static const uint8_t text[] = "11;and some more text";
+  unsigned met;
+  long number = 0;
+  do {
+    uint8_t room[64] = { '.' };
+    size_t sent_len = 99;
+    refuse(++number);
+    uint32_t answer = hed_encode_event(&event, text, sizeof text - 1, &reading, room, sizeof room, &sent_len);
+    met = refused;
+    refuse(0);
+    EXPECT(answer == (met ? HED_ENCODED_REFUSED_MEMORY : HED_ENCODED_TEXT));
+    EXPECT(!met || (sent_len == 0 && room[0] == '.'));
+    EXPECT(!met || hed_encode_event(&event, text, sizeof text - 1, &reading, room, sizeof room, &sent_len) == HED_ENCODED_TEXT);
+    EXPECT(sent_len == sizeof text - 1 + 4 && room[0] == '\033');
+  } while (met);
+  EXPECT(number > 1);
+  printf("event: %ld refusals\n", number - 1);
 }
 
 /* The names of two chords, with each request refused in turn: nothing is written, and the call may be made again. Nothing else of names needs
@@ -608,6 +631,7 @@ int main(int argc, char **argv) {
   refuse_while_encoding();
   refuse_while_sending(true);
   refuse_while_sending(false);
+  refuse_while_writing();
   refuse_while_printing();
   refuse_bindings();
   refuse_replies();

@@ -131,6 +131,10 @@ __all__ = [
     "Waiting",
     "WindowSizeReply",
     "encode",
+    "encode_colour_scheme",
+    "encode_cursor_position",
+    "encode_device_attributes",
+    "encode_event",
     "encode_paste",
     "key_report",
     "reply",
@@ -608,6 +612,7 @@ _ENCODED_BAD_NUMBER = 3
 _ENCODED_TOO_LONG = 4
 _ENCODED_BAD_TEXT = 5
 _ENCODED_TOO_FAR = 6
+_ENCODED_NO_TEXT = 7
 # numbers.txt: end
 # numbers.txt: found private
 _FOUND_NONE = 0
@@ -1835,4 +1840,10 @@ from .sending import (  # noqa: E402
     MouseReport,
     MouseTracking,
     encode_paste,
+)
+from .written import (  # noqa: E402
+    encode_colour_scheme,
+    encode_cursor_position,
+    encode_device_attributes,
+    encode_event,
 )

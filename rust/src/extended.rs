@@ -31,6 +31,7 @@ mod names;
 mod parser;
 mod press;
 mod replies;
+mod written;
 
 pub use crate::input::flags::KittyModifiers;
 pub use bindings::{BindError, BindErrorKind, Bindings, Iter};
@@ -45,3 +46,6 @@ pub use names::{KeyNameError, KeyNameErrorKind};
 pub use parser::{ExtendedParser, ExtendedWaiting, Protocol, Reading};
 pub use press::{typed_text, KeyPress};
 pub use replies::{Colour, ColourName, ColourScheme, DeviceAttributes, ModeState, Reply};
+pub use written::{
+    encode_colour_scheme, encode_cursor_position, encode_device_attributes, EncodeEventError,
+};

@@ -15,7 +15,7 @@ pub(crate) mod flags;
 mod keys;
 mod parser;
 mod policy;
-mod sending;
+pub(crate) mod sending;
 mod timer;
 
 pub use encode::{EncodeError, KeyCodeEncodeModes, KeyboardEncoding, CSI, SS3};

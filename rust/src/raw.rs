@@ -48,12 +48,14 @@ pub const ENCODED_REFUSED_KEY: u32 = 1;
 pub const ENCODED_REFUSED_MEMORY: u32 = 2;
 /// A number names nothing.
 pub const ENCODED_BAD_NUMBER: u32 = 3;
-/// The key's sequence would have more than 256 bytes. Only a key report with a long text has such a one.
+/// The bytes would be more than a sequence or a string may have.
 pub const ENCODED_TOO_LONG: u32 = 4;
-/// The text of the key report isn't UTF-8.
+/// The text of a key report or of a paste isn't UTF-8.
 pub const ENCODED_BAD_TEXT: u32 = 5;
 /// The place of the mouse report is above 223, which its encoding can't tell.
 pub const ENCODED_TOO_FAR: u32 = 6;
+/// No bytes are read as the event.
+pub const ENCODED_NO_TEXT: u32 = 7;
 // numbers.txt: end
 
 // numbers.txt: found const
@@ -784,6 +786,36 @@ extern "C" {
         report: *const MouseReport,
         tracking: u32,
         encoding: u32,
+        out: *mut u8,
+        len: usize,
+        sent_len: *mut usize,
+    ) -> u32;
+    pub fn hed_encode_event(
+        event: *const ExtendedEvent,
+        text: *const u8,
+        text_len: usize,
+        reading: *const Reading,
+        out: *mut u8,
+        len: usize,
+        sent_len: *mut usize,
+    ) -> u32;
+    pub fn hed_encode_cursor_position(
+        row: u16,
+        column: u16,
+        private: bool,
+        out: *mut u8,
+        len: usize,
+        sent_len: *mut usize,
+    ) -> u32;
+    pub fn hed_encode_colour_scheme(
+        dark: bool,
+        out: *mut u8,
+        len: usize,
+        sent_len: *mut usize,
+    ) -> u32;
+    pub fn hed_encode_device_attributes(
+        numbers: *const u16,
+        count: usize,
         out: *mut u8,
         len: usize,
         sent_len: *mut usize,

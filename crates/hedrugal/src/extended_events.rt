@@ -17,17 +17,17 @@ use termwiz_input_extended::types::{
 };
 
 // The kinds of events that only this parser has.
-const KIND_REPORT: u8 = 4;
+pub(crate) const KIND_REPORT: u8 = 4;
 
-const KIND_FOCUS_GAINED: u8 = 5;
+pub(crate) const KIND_FOCUS_GAINED: u8 = 5;
 
-const KIND_FOCUS_LOST: u8 = 6;
+pub(crate) const KIND_FOCUS_LOST: u8 = 6;
 
-const KIND_CURSOR_POSITION: u8 = 7;
+pub(crate) const KIND_CURSOR_POSITION: u8 = 7;
 
-const KIND_RESIZE: u8 = 8;
+pub(crate) const KIND_RESIZE: u8 = 8;
 
-const KIND_KEYBOARD_FLAGS: u8 = 9;
+pub(crate) const KIND_KEYBOARD_FLAGS: u8 = 9;
 
 pub(crate) const KIND_CSI: u8 = 10;
 
@@ -35,20 +35,20 @@ pub(crate) const KIND_OSC: u8 = 11;
 
 pub(crate) const KIND_DCS: u8 = 12;
 
-const KIND_APC: u8 = 13;
+pub(crate) const KIND_APC: u8 = 13;
 
-const KIND_STRING_PART: u8 = 15;
+pub(crate) const KIND_STRING_PART: u8 = 15;
 
-const KIND_STRING_CUT: u8 = 16;
+pub(crate) const KIND_STRING_CUT: u8 = 16;
 
-const KIND_SIDE_BUTTON: u8 = 17;
+pub(crate) const KIND_SIDE_BUTTON: u8 = 17;
 
 // What happened to a side button.
-const SIDE_BUTTON_PRESS: u8 = 1;
+pub(crate) const SIDE_BUTTON_PRESS: u8 = 1;
 
-const SIDE_BUTTON_RELEASE: u8 = 2;
+pub(crate) const SIDE_BUTTON_RELEASE: u8 = 2;
 
-const SIDE_BUTTON_DRAG: u8 = 3;
+pub(crate) const SIDE_BUTTON_DRAG: u8 = 3;
 
 // What happened to a key.
 pub(crate) const KEY_EVENT_KIND_PRESS: u8 = 1;

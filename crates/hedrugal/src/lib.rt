@@ -22,6 +22,7 @@ mod chord_bindings;
 mod chords;
 mod copying;
 mod entry_calls;
+mod event_calls;
 mod events;
 mod extended_and_text;
 mod extended_calls;
@@ -90,7 +91,7 @@ const WAITING_PASTE: u32 = 4;
 
 const WAITING_STRING: u32 = 5;
 
-// The answers of `hed_encode`, `hed_encode_kitty`, `hed_encode_paste` and `hed_encode_mouse`.
+// The answers of the calls whose names begin with `hed_encode`.
 const ENCODED_TEXT: u32 = 0;
 
 const ENCODED_REFUSED_KEY: u32 = 1;
@@ -104,6 +105,8 @@ const ENCODED_TOO_LONG: u32 = 4;
 const ENCODED_BAD_TEXT: u32 = 5;
 
 const ENCODED_TOO_FAR: u32 = 6;
+
+const ENCODED_NO_TEXT: u32 = 7;
 
 /// Makes a parser, and frees the one that was there. If memory is refused, the answer is false and nothing changes.
 #[unsafe(no_mangle)]

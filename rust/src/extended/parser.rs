@@ -106,6 +106,15 @@ impl Reading {
             questions: 0,
         }
     }
+
+    // The reading as the library has it.
+    pub(super) fn raw(self) -> raw::Reading {
+        raw::Reading {
+            protocol: self.protocol.number(),
+            x10_mouse: self.x10_mouse,
+            questions: self.questions,
+        }
+    }
 }
 
 /// What stays buffered, as [`ExtendedParser::waiting`] returns it. A [`Policy`] says how long each
@@ -290,11 +299,7 @@ impl ExtendedParser {
     /// assert_eq!(parser.protocol(), Protocol::Kitty);
     /// ```
     pub fn set_reading(&mut self, reading: Reading) {
-        let reading = raw::Reading {
-            protocol: reading.protocol.number(),
-            x10_mouse: reading.x10_mouse,
-            questions: reading.questions,
-        };
+        let reading = reading.raw();
         // SAFETY: the pointer leads to a parser, and `reading` is another value.
         let is_set = unsafe { raw::hed_extended_set_reading(self.parser.raw(), &reading) };
         assert!(is_set, "{FAULT}");

@@ -300,7 +300,9 @@ const ROOM: usize = 256;
 
 // What a call of the library that sends bytes answers, and the bytes. It is made again if the room
 // was too short.
-fn sent(call: impl Fn(&mut [u8], &mut usize) -> u32) -> Result<(u32, Vec<u8>), AllocError> {
+pub(crate) fn sent(
+    call: impl Fn(&mut [u8], &mut usize) -> u32,
+) -> Result<(u32, Vec<u8>), AllocError> {
     let mut room = [0; ROOM];
     let mut len = 0;
     let answer = call(&mut room, &mut len);

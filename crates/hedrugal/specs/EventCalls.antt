@@ -1,0 +1,72 @@
+-- Which event the numbers and the bytes of one stand for, and what it is written as; and what a terminal replies.
+use Rattle.std.specs.Prelude.{◌≡◌, ⊥, ℕ, Bool, List, length, Some}
+use Rattle.std.specs.Str.{IsUtf8}
+use Rattle.termwiz_keys.specs.declared.types.InputEvent.TheVariants as input
+use Rattle.termwiz_extended_events.specs.declared.types.ExtendedEvent.{ExtendedEvent}
+use Rattle.termwiz_extended_events.specs.declared.types.ExtendedEvent.TheVariants.{Input, Key, FocusGained, FocusLost, CursorPosition, Resize, KeyboardFlags, SideButton, Csi, Osc, Dcs, Apc, StringPart, StringCut}
+use Rattle.termwiz_extended_events.specs.declared.types.Reading.{Reading}
+use Rattle.termwiz_bindings.specs.Numbers.{StandFor}
+use Rattle.termwiz_senders.specs.EventTexts.{IsEventText, IsRefused, IsTooLong}
+use Rattle.hedrugal.specs.declared.extended_events.CExtendedEvent.{CExtendedEvent}
+use Rattle.hedrugal.specs.declared.reading_calls.CReading.{CReading}
+use Rattle.hedrugal.specs.Calls.{copied}
+use Rattle.hedrugal.specs.ExtendedEvents.{kind_number, side_button_number, string_kind_number}
+use Rattle.hedrugal.specs.KittyCalls.{StandForReport}
+use Rattle.hedrugal.specs.Presses.{AreModifiers}
+use Rattle.hedrugal.specs.ReadingCalls as readings
+
+-- the numbers and the bytes are those of this event, as far as its kind has a use for them
+abbrev pub Tells : CExtendedEvent → List ℕ → ExtendedEvent → Type 0
+Tells n bytes (Input (input.Key k)) = StandFor n.input.key n.input.detail k.key × AreModifiers k.modifiers n.input.modifiers
+Tells n bytes (Input (input.Mouse m)) = (m.x ≡ n.input.x) × (m.y ≡ n.input.y) × (m.mouse_buttons.0 ≡ n.input.buttons)
+    × AreModifiers m.modifiers n.input.modifiers
+Tells n bytes (Input (input.Paste text)) = text ≡ bytes
+Tells n bytes (Input event) = ⊥
+Tells n bytes (Key report) = StandForReport n.report report × (report.text ≡ bytes)
+Tells n bytes FocusGained = Unit {0}
+Tells n bytes FocusLost = Unit {0}
+Tells n bytes (CursorPosition row column) = (row ≡ n.row) × (column ≡ n.column)
+Tells n bytes (Resize rows columns height width) =
+    (rows ≡ n.rows) × (columns ≡ n.columns) × (height ≡ n.height) × (width ≡ n.width)
+Tells n bytes (KeyboardFlags flags) = flags ≡ n.flags
+Tells n bytes (SideButton e) = (side_button_number e.kind ≡ n.flags) × (e.number ≡ n.input.detail) × (e.x ≡ n.input.x) × (e.y ≡ n.input.y)
+    × AreModifiers e.modifiers n.input.modifiers
+Tells n bytes (Csi t) = t ≡ bytes
+Tells n bytes (Osc t) = t ≡ bytes
+Tells n bytes (Dcs t) = t ≡ bytes
+Tells n bytes (Apc t) = t ≡ bytes
+Tells n bytes (StringPart kind t) = (string_kind_number kind ≡ n.flags) × (t ≡ bytes)
+Tells n bytes (StringCut kind t) = (string_kind_number kind ≡ n.flags) × (t ≡ bytes)
+
+-- the numbers and the bytes stand for this event
+abbrev pub StandForEvent : CExtendedEvent → List ℕ → ExtendedEvent → Type 0
+StandForEvent n bytes event = (n.kind ≡ kind_number event) × Tells n bytes event
+
+-- what is asked for: an event and a reading
+pub record IsAskedFor (n : CExtendedEvent) (bytes : List ℕ) (by : CReading) (event : ExtendedEvent) (reading : Reading) : Type 0 where
+  pub event_is : StandForEvent n bytes event
+  pub reading_is : readings.StandFor by reading
+
+-- the event is written so: `out` has as much of the bytes as it has room for, and `len` is how many they are
+abbrev pub WroteEvent : CExtendedEvent → List ℕ → CReading → List ℕ → List ℕ → ℕ → Type 0
+WroteEvent n bytes by before after len =
+    (event : ExtendedEvent) × (reading : Reading) × (sent : List ℕ) × IsAskedFor n bytes by event reading
+    × IsEventText reading event sent × (len ≡ length sent) × (after ≡ copied sent before)
+
+-- no bytes are read as the event
+abbrev pub HasNoText : CExtendedEvent → List ℕ → CReading → Type 0
+HasNoText n bytes by = (event : ExtendedEvent) × (reading : Reading) × IsAskedFor n bytes by event reading
+    × IsRefused reading event
+
+-- the event would be longer than a sequence or a string may be
+abbrev pub HasLongText : CExtendedEvent → List ℕ → CReading → Type 0
+HasLongText n bytes by = (event : ExtendedEvent) × (reading : Reading) × IsAskedFor n bytes by event reading × IsTooLong event
+    × IsRefused reading event
+
+-- a number stands for nothing
+abbrev pub IsBadEvent : CExtendedEvent → List ℕ → CReading → Type 0
+IsBadEvent n bytes by = (event : ExtendedEvent) (reading : Reading) → ¬ IsAskedFor n bytes by event reading
+
+-- `out` has as much of these bytes as it has room for, and `len` is how many they are
+abbrev pub Wrote : List ℕ → List ℕ → List ℕ → ℕ → Type 0
+Wrote sent before after len = (len ≡ length sent) × (after ≡ copied sent before)

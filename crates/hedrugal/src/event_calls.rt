@@ -1,0 +1,317 @@
+//! The calls that write events, and what a terminal replies.
+ghost use Rattle.std.specs.Prelude.{◌≡◌, ◌≢◌, ◌≤◌, ◌<◌, ◌⊎◌, List, [], IfOk, IfSome, IfNone, Some, Err, length, string_bytes};
+ghost use Rattle.std.specs.Str.{IsUtf8};
+ghost use Rattle.termwiz_keys.specs.declared.types.InputEvent.TheVariants as input;
+ghost use Rattle.termwiz_keys.specs.declared.types.KeyEvent.{KeyEvent as Key};
+ghost use Rattle.termwiz_keys.specs.declared.types.MouseEvent.{MouseEvent as Mouse};
+ghost use Rattle.termwiz_extended_events.specs.declared.types.ExtendedEvent.{ExtendedEvent as Event};
+ghost use Rattle.termwiz_extended_events.specs.declared.types.ExtendedEvent.TheVariants.{Input, SideButton};
+ghost use Rattle.termwiz_extended_events.specs.declared.types.SideButtonEvent.{SideButtonEvent as Side};
+ghost use Rattle.termwiz_extended_events.specs.declared.types.SideButtonKind.{SideButtonKind as SideKind};
+ghost use Rattle.termwiz_extended_events.specs.declared.types.StringKind.{StringKind as Kind};
+ghost use Rattle.termwiz_senders.specs.EventTexts.{attributes_text, position_text, scheme_text};
+ghost use Rattle.hedrugal.specs.EventCalls.{HasLongText, HasNoText, IsBadEvent, StandForEvent, Tells, Wrote, WroteEvent};
+ghost use Rattle.hedrugal.specs.ExtendedEvents.{side_button_number, string_kind_number};
+ghost use Rattle.hedrugal.specs.declared.event_calls.BadEvent.TheVariants as bad;
+
+use crate::copying::copy_prefix;
+use crate::events::{KIND_KEY, KIND_MOUSE, KIND_PASTE};
+use crate::extended_calls::protocol_at;
+use crate::extended_events::{
+    CExtendedEvent, KIND_APC, KIND_CSI, KIND_CURSOR_POSITION, KIND_DCS, KIND_FOCUS_GAINED,
+    KIND_FOCUS_LOST, KIND_KEYBOARD_FLAGS, KIND_OSC, KIND_REPORT, KIND_RESIZE, KIND_SIDE_BUTTON,
+    KIND_STRING_CUT, KIND_STRING_PART, SIDE_BUTTON_DRAG, SIDE_BUTTON_PRESS, SIDE_BUTTON_RELEASE,
+};
+use crate::key_reports::report_of;
+use crate::modes::modifiers_of;
+use crate::reading_calls::CReading;
+use crate::{
+    ENCODED_BAD_NUMBER, ENCODED_BAD_TEXT, ENCODED_NO_TEXT, ENCODED_REFUSED_MEMORY, ENCODED_TEXT,
+    ENCODED_TOO_LONG,
+};
+use bitflags::Flags;
+use std::alloc::{AllocError, Global};
+use std::str;
+use termwiz_bindings::numbers::key_of;
+use termwiz_input::types::{InputEvent, KeyEvent, MouseButtons, MouseEvent, PastedText};
+use termwiz_input_extended::types::{
+    ExtendedEvent, KeyText, Reading, SequenceBytes, SideButtonEvent, SideButtonKind, StringKind,
+};
+use termwiz_senders::event::{
+    EncodeEventError, encode_colour_scheme, encode_cursor_position, encode_device_attributes,
+    encode_event,
+};
+
+// Why numbers and bytes stand for no event.
+#[derive(Clone, Copy)]
+pub(crate) enum BadEvent {
+    // A number stands for nothing.
+    Number,
+    // The bytes of a text aren't UTF-8.
+    Text,
+    // Memory was refused.
+    Memory,
+}
+
+impl From<AllocError> for BadEvent {
+    ghost from_gives = { λ _ e. e ≡ bad.Memory };
+
+    fn from(_e: AllocError) -> BadEvent {
+        BadEvent::Memory
+    }
+}
+
+// The kind of a string, by its number.
+fn string_kind_of(number: u8) -> Option<StringKind>
+    ensures some { IfSome result (λ kind. string_kind_number kind ≡ number) }
+    ensures only { (kind : Kind) → string_kind_number kind ≡ number → result ≡ Some kind }
+{
+    match number {
+        KIND_OSC => Some(StringKind::Osc),
+        KIND_DCS => Some(StringKind::Dcs),
+        KIND_APC => Some(StringKind::Apc),
+        _ => None,
+    }
+}
+
+// What happened to a side button, by its number.
+fn side_button_kind_of(number: u8) -> Option<SideButtonKind>
+    ensures some { IfSome result (λ kind. side_button_number kind ≡ number) }
+    ensures only { (kind : SideKind) → side_button_number kind ≡ number → result ≡ Some kind }
+{
+    match number {
+        SIDE_BUTTON_PRESS => Some(SideButtonKind::Press),
+        SIDE_BUTTON_RELEASE => Some(SideButtonKind::Release),
+        SIDE_BUTTON_DRAG => Some(SideButtonKind::Drag),
+        _ => None,
+    }
+}
+
+// A key of the port.
+fn key_in(numbers: &CExtendedEvent) -> Option<KeyEvent>
+    ensures some { IfSome result (λ key. Tells numbers.now [] (Input (input.Key key))) }
+    ensures none { IfNone result ((key : Key) → ¬ Tells numbers.now [] (Input (input.Key key))) }
+{
+    Some(KeyEvent {
+        key: key_of(numbers.input.key, numbers.input.detail)?,
+        modifiers: modifiers_of(numbers.input.modifiers)?,
+    })
+}
+
+// A mouse event of the port.
+fn mouse_in(numbers: &CExtendedEvent) -> Option<MouseEvent>
+    ensures some { IfSome result (λ event. Tells numbers.now [] (Input (input.Mouse event))) }
+    ensures none { IfNone result ((event : Mouse) → ¬ Tells numbers.now [] (Input (input.Mouse event))) }
+{
+    Some(MouseEvent {
+        x: numbers.input.x,
+        y: numbers.input.y,
+        mouse_buttons: MouseButtons::from_bits_retain(numbers.input.buttons),
+        modifiers: modifiers_of(numbers.input.modifiers)?,
+    })
+}
+
+// A side button.
+fn side_button_in(numbers: &CExtendedEvent) -> Option<SideButtonEvent>
+    ensures some { IfSome result (λ event. Tells numbers.now [] (SideButton event)) }
+    ensures none { IfNone result ((event : Side) → ¬ Tells numbers.now [] (SideButton event)) }
+{
+    Some(SideButtonEvent {
+        number: u8::try_from(numbers.input.detail).ok()?,
+        kind: side_button_kind_of(numbers.flags)?,
+        x: numbers.input.x,
+        y: numbers.input.y,
+        modifiers: modifiers_of(numbers.input.modifiers)?,
+    })
+}
+
+// Bytes as a text.
+fn text_in(alloc: Global, bytes: &[u8]) -> Result<String, BadEvent>
+    ensures text { IfOk result (λ text. string_bytes text ≡ bytes.now) }
+    ensures bad_text { result ≡ Err bad.Text → ¬ IsUtf8 bytes.now }
+    ensures number { result ≡ Err bad.Number → ⊥ }
+{
+    let Ok(text) = str::from_utf8(bytes) else {
+        return Err(BadEvent::Text);
+    };
+    Ok(String::from_str(alloc, text)?)
+}
+
+// A copy of bytes.
+fn bytes_in(alloc: Global, bytes: &[u8]) -> Result<SequenceBytes, AllocError>
+    ensures { IfOk result (λ copy. copy ≡ bytes.now) }
+{
+    Ok(SequenceBytes::new(bytes.to_vec(alloc)?))
+}
+
+// The event that numbers and bytes stand for.
+#[tactic(auto, unfolding(crate::specs::ExtendedEvents::kind_number))]
+fn event_in(alloc: Global, numbers: &CExtendedEvent, bytes: &[u8]) -> Result<ExtendedEvent, BadEvent>
+    ensures event { IfOk result (λ event. StandForEvent numbers.now bytes.now event) }
+    ensures bad_number { result ≡ Err bad.Number → (event : Event) → ¬ StandForEvent numbers.now bytes.now event }
+    ensures bad_text { result ≡ Err bad.Text → ¬ IsUtf8 bytes.now }
+{
+    Ok(match numbers.kind {
+        KIND_KEY => {
+            ExtendedEvent::Input(InputEvent::Key(key_in(numbers).ok_or(BadEvent::Number)?))
+        }
+        KIND_MOUSE => {
+            ExtendedEvent::Input(InputEvent::Mouse(mouse_in(numbers).ok_or(BadEvent::Number)?))
+        }
+        KIND_PASTE => {
+            ExtendedEvent::Input(InputEvent::Paste(PastedText::new(text_in(alloc, bytes)?)))
+        }
+        KIND_REPORT => {
+            let mut report = report_of(alloc, &numbers.report).ok_or(BadEvent::Number)?;
+            report.text = KeyText::new(text_in(alloc, bytes)?);
+            ExtendedEvent::Key(report)
+        }
+        KIND_FOCUS_GAINED => ExtendedEvent::FocusGained,
+        KIND_FOCUS_LOST => ExtendedEvent::FocusLost,
+        KIND_CURSOR_POSITION => ExtendedEvent::CursorPosition {
+            row: numbers.row,
+            column: numbers.column,
+        },
+        KIND_RESIZE => ExtendedEvent::Resize {
+            rows: numbers.rows,
+            columns: numbers.columns,
+            height: numbers.height,
+            width: numbers.width,
+        },
+        KIND_KEYBOARD_FLAGS => ExtendedEvent::KeyboardFlags(numbers.flags),
+        KIND_SIDE_BUTTON => {
+            ExtendedEvent::SideButton(side_button_in(numbers).ok_or(BadEvent::Number)?)
+        }
+        KIND_CSI => ExtendedEvent::Csi(bytes_in(alloc, bytes)?),
+        KIND_OSC => ExtendedEvent::Osc(bytes_in(alloc, bytes)?),
+        KIND_DCS => ExtendedEvent::Dcs(bytes_in(alloc, bytes)?),
+        KIND_APC => ExtendedEvent::Apc(bytes_in(alloc, bytes)?),
+        KIND_STRING_PART => ExtendedEvent::StringPart {
+            kind: string_kind_of(numbers.flags).ok_or(BadEvent::Number)?,
+            bytes: bytes_in(alloc, bytes)?,
+        },
+        KIND_STRING_CUT => ExtendedEvent::StringCut {
+            kind: string_kind_of(numbers.flags).ok_or(BadEvent::Number)?,
+            bytes: bytes_in(alloc, bytes)?,
+        },
+        _ => return Err(BadEvent::Number),
+    })
+}
+
+/// Writes the bytes that an extended parser of a reading reads as an event. The answer is 0 if `out` has as much of the bytes as it has room
+/// for, and `sent_len` is how many they are. It is 2 if memory is refused, 3 if a number stands for nothing, 4 if the event is too long, 5 if
+/// a text isn't UTF-8, and 7 if no bytes are read as the event; then `sent_len` is 0.
+#[unsafe(no_mangle)]
+pub extern "C" fn hed_encode_event(
+    alloc: Global,
+    event: &CExtendedEvent,
+    text: &[u8],
+    reading: &CReading,
+    out: &mut [u8],
+    sent_len: &mut usize,
+) -> u32
+    ensures answers { result ≤ 7 }
+    ensures text { result ≡ ENCODED_TEXT → WroteEvent event.now text.now reading.now out.old out.new sent_len.new }
+    ensures no_text { result ≡ ENCODED_NO_TEXT → HasNoText event.now text.now reading.now }
+    ensures too_long { result ≡ ENCODED_TOO_LONG → HasLongText event.now text.now reading.now }
+    ensures bad_number { result ≡ ENCODED_BAD_NUMBER → IsBadEvent event.now text.now reading.now }
+    ensures bad_text { result ≡ ENCODED_BAD_TEXT → ¬ IsUtf8 text.now }
+    ensures none { result ≢ ENCODED_TEXT → sent_len.new ≡ 0 }
+    ensures same { result ≢ ENCODED_TEXT → out.new ≡ out.old }
+{
+    *sent_len = 0;
+    let Some(protocol) = protocol_at(reading.protocol) else {
+        return ENCODED_BAD_NUMBER;
+    };
+    let reading = Reading {
+        protocol,
+        x10_mouse: reading.x10_mouse,
+        questions: reading.questions,
+    };
+    let event = match event_in(alloc, event, text) {
+        Ok(event) => event,
+        Err(BadEvent::Number) => return ENCODED_BAD_NUMBER,
+        Err(BadEvent::Text) => return ENCODED_BAD_TEXT,
+        Err(BadEvent::Memory) => return ENCODED_REFUSED_MEMORY,
+    };
+    match encode_event(alloc, &event, reading) {
+        Ok(sent) => {
+            *sent_len = copy_prefix(&sent, out);
+            ENCODED_TEXT
+        }
+        Err(EncodeEventError::NoText) => ENCODED_NO_TEXT,
+        Err(EncodeEventError::TooLong) => ENCODED_TOO_LONG,
+        Err(EncodeEventError::Memory) => ENCODED_REFUSED_MEMORY,
+    }
+}
+
+/// Writes what a terminal replies to a question for the position of its cursor. The answer is 0 if `out` has as much of the bytes as it has
+/// room for, and `sent_len` is how many they are. It is 2 if memory is refused; then `sent_len` is 0.
+#[unsafe(no_mangle)]
+pub extern "C" fn hed_encode_cursor_position(
+    alloc: Global,
+    row: u16,
+    column: u16,
+    private: bool,
+    out: &mut [u8],
+    sent_len: &mut usize,
+) -> u32
+    ensures answers { (result ≡ ENCODED_TEXT) ⊎ (result ≡ ENCODED_REFUSED_MEMORY) }
+    ensures text { result ≡ ENCODED_TEXT → Wrote (position_text row column private) out.old out.new sent_len.new }
+    ensures none { result ≢ ENCODED_TEXT → sent_len.new ≡ 0 }
+    ensures same { result ≢ ENCODED_TEXT → out.new ≡ out.old }
+{
+    *sent_len = 0;
+    let Ok(sent) = encode_cursor_position(alloc, row, column, private) else {
+        return ENCODED_REFUSED_MEMORY;
+    };
+    *sent_len = copy_prefix(&sent, out);
+    ENCODED_TEXT
+}
+
+/// Writes what a terminal sends of its colours, dark or light. The answers are those of `hed_encode_cursor_position`.
+#[unsafe(no_mangle)]
+pub extern "C" fn hed_encode_colour_scheme(
+    alloc: Global,
+    dark: bool,
+    out: &mut [u8],
+    sent_len: &mut usize,
+) -> u32
+    ensures answers { (result ≡ ENCODED_TEXT) ⊎ (result ≡ ENCODED_REFUSED_MEMORY) }
+    ensures text { result ≡ ENCODED_TEXT → Wrote (scheme_text dark) out.old out.new sent_len.new }
+    ensures none { result ≢ ENCODED_TEXT → sent_len.new ≡ 0 }
+    ensures same { result ≢ ENCODED_TEXT → out.new ≡ out.old }
+{
+    *sent_len = 0;
+    let Ok(sent) = encode_colour_scheme(alloc, dark) else {
+        return ENCODED_REFUSED_MEMORY;
+    };
+    *sent_len = copy_prefix(&sent, out);
+    ENCODED_TEXT
+}
+
+/// Writes what a terminal replies to the question for its attributes. The answer is 0 if `out` has as much of the bytes as it has room for,
+/// and `sent_len` is how many they are. It is 2 if memory is refused, and 4 if they would be more than 256; then `sent_len` is 0.
+#[unsafe(no_mangle)]
+pub extern "C" fn hed_encode_device_attributes(
+    alloc: Global,
+    numbers: &[u16],
+    out: &mut [u8],
+    sent_len: &mut usize,
+) -> u32
+    ensures answers { (result ≡ ENCODED_TEXT) ⊎ ((result ≡ ENCODED_REFUSED_MEMORY) ⊎ (result ≡ ENCODED_TOO_LONG)) }
+    ensures text { result ≡ ENCODED_TEXT → Wrote (attributes_text numbers.now) out.old out.new sent_len.new }
+    ensures too_long { result ≡ ENCODED_TOO_LONG → 256 < length (attributes_text numbers.now) }
+    ensures none { result ≢ ENCODED_TEXT → sent_len.new ≡ 0 }
+    ensures same { result ≢ ENCODED_TEXT → out.new ≡ out.old }
+{
+    *sent_len = 0;
+    match encode_device_attributes(alloc, numbers) {
+        Ok(sent) => {
+            *sent_len = copy_prefix(&sent, out);
+            ENCODED_TEXT
+        }
+        Err(EncodeEventError::TooLong) => ENCODED_TOO_LONG,
+        Err(_) => ENCODED_REFUSED_MEMORY,
+    }
+}

@@ -1,0 +1,272 @@
+r"""Events to the bytes that a parser reads as them, and what a terminal replies.
+
+    >>> from hedrugal import KeyEvent, Modifiers, NamedKey
+    >>> encode_event(KeyEvent(NamedKey.UP_ARROW, Modifiers.CTRL))
+    b'\x1b[1;5A'
+    >>> encode_event(Csi(b"?62;22c"))
+    b'\x1b[?62;22c'
+    >>> encode_event(FocusGained())
+    b'\x1b[I'
+
+A program imports these names from the package hedrugal."""
+from __future__ import annotations
+
+import ctypes
+from typing import Any, Callable, Dict, List, Sequence, Tuple, Union
+
+from . import (
+    _BYTES,
+    _COUNT,
+    _ENCODED_BAD_TEXT,
+    _ENCODED_NO_TEXT,
+    _ENCODED_REFUSED_MEMORY,
+    _ENCODED_TEXT,
+    _ENCODED_TOO_LONG,
+    _KIND_APC,
+    _KIND_CSI,
+    _KIND_CURSOR_POSITION,
+    _KIND_DCS,
+    _KIND_FOCUS_GAINED,
+    _KIND_FOCUS_LOST,
+    _KIND_KEY,
+    _KIND_KEYBOARD_FLAGS,
+    _KIND_MOUSE,
+    _KIND_OSC,
+    _KIND_PASTE,
+    _KIND_REPORT,
+    _KIND_RESIZE,
+    _KIND_SIDE_BUTTON,
+    _KIND_STRING_CUT,
+    _KIND_STRING_PART,
+    EncodeError,
+    KeyEvent,
+    Modifiers,
+    MouseButtons,
+    MouseEvent,
+    Paste,
+    _borrowed,
+    _declare,
+    _fault,
+    _library,
+    _number_and_detail,
+    _refused,
+    _sent,
+    _whole,
+)
+from .extended import (
+    _EVENT,
+    _READING,
+    Apc,
+    Csi,
+    CursorPosition,
+    Dcs,
+    ExtendedEvent,
+    FocusGained,
+    FocusLost,
+    KeyboardFlags,
+    KeyReport,
+    Osc,
+    Reading,
+    Resize,
+    SideButton,
+    SideButtonKind,
+    StringCut,
+    StringKind,
+    StringPart,
+    _raw_reading,
+    _raw_report,
+    _RawExtendedEvent,
+)
+from .replies import ColourScheme
+
+
+def encode_event(event: ExtendedEvent, reading: Reading = Reading()) -> bytes:
+    """Returns bytes that an ExtendedParser with this reading reads as the event, whatever the
+    terminal sent. A multiplexer passes replies on by it, and a test writes what it feeds to a
+    parser.
+
+    With no more to come the bytes are that event alone, and nothing stays buffered. That is so with
+    more to come too, but for a KeyEvent, whose text may begin a sequence. A KeyEvent is written as
+    a row of the sequence table or as its character, and a KeyReport in the form of Kitty's
+    protocol, with what happened to the key always told. Keys as a terminal sends them are those of
+    encode and of KeyReport.encode.
+
+    Raises EncodeError, which is a ValueError, if no bytes are read as the event: a StringPart, a
+    StringCut, a paste that has ESC [201~ in it, and an event that no parser makes. It is also
+    raised for a sequence of more than 256 bytes, and for a string of 65535 before its end. Raises
+    MemoryError if memory is refused."""
+    raw = _raw_event(event)
+    text, text_len = _borrowed(_bytes_of(event))
+    by = _raw_reading(reading)
+
+    def call(out: Any, size: int, length: ctypes.c_size_t) -> int:
+        return int(_library.hed_encode_event(raw, text, text_len, by, out, size, length))
+
+    return _bytes_sent(call, type(event).__name__)
+
+
+def encode_cursor_position(row: int, column: int, private: bool = False) -> bytes:
+    """Returns what a terminal replies to a question for the position of its cursor. private says
+    that the question was ESC [?6n, and not ESC [6n. The first row and the first column are 1.
+
+    Not private, a reply for row 1 and the columns 1 to 16 has the bytes of F3 with modifiers. A
+    program reads it as the position if it expects one.
+
+        >>> encode_cursor_position(24, 80)
+        b'\\x1b[24;80R'
+
+    Raises MemoryError if memory is refused."""
+    place = (_whole(row, 0, 65535), _whole(column, 0, 65535))
+
+    def call(out: Any, size: int, length: ctypes.c_size_t) -> int:
+        return int(_library.hed_encode_cursor_position(*place, private, out, size, length))
+
+    return _bytes_sent(call, "a position")
+
+
+def encode_colour_scheme(scheme: ColourScheme) -> bytes:
+    """Returns what a terminal sends when its colours change, and replies to ESC [?996n.
+
+        >>> encode_colour_scheme(ColourScheme.DARK)
+        b'\\x1b[?997;1n'
+
+    Raises MemoryError if memory is refused."""
+    if not isinstance(scheme, ColourScheme):
+        raise TypeError(f"a ColourScheme is required, not {type(scheme).__name__}")
+
+    def call(out: Any, size: int, length: ctypes.c_size_t) -> int:
+        is_dark = scheme is ColourScheme.DARK
+        return int(_library.hed_encode_colour_scheme(is_dark, out, size, length))
+
+    return _bytes_sent(call, "a colour scheme")
+
+
+def encode_device_attributes(numbers: Sequence[int]) -> bytes:
+    """Returns what a terminal replies to the question for its attributes, ESC [c. The first number
+    is its class, such as 62.
+
+        >>> encode_device_attributes([62, 22])
+        b'\\x1b[?62;22c'
+
+    Raises EncodeError, which is a ValueError, for a reply of more than 256 bytes. Raises
+    MemoryError if memory is refused."""
+    count = len(numbers)
+    words = (ctypes.c_uint16 * count)(*(_whole(number, 0, 65535) for number in numbers))
+
+    def call(out: Any, size: int, length: ctypes.c_size_t) -> int:
+        return int(_library.hed_encode_device_attributes(words, count, out, size, length))
+
+    return _bytes_sent(call, "a reply")
+
+
+def _bytes_sent(call: Callable[[Any, int, ctypes.c_size_t], int], name: str) -> bytes:
+    """The bytes that a call of the library writes for what has this name."""
+    answer, sent = _sent(call)
+    if answer == _ENCODED_TEXT:
+        return sent
+    if answer == _ENCODED_NO_TEXT:
+        raise EncodeError(f"no bytes are read as this {name}")
+    if answer == _ENCODED_TOO_LONG:
+        raise EncodeError(f"{name} is too long")
+    if answer == _ENCODED_BAD_TEXT:
+        raise EncodeError("a surrogate names nothing")
+    if answer == _ENCODED_REFUSED_MEMORY:
+        raise _refused()
+    _fault()
+
+
+def _bytes_of(event: ExtendedEvent) -> bytes:
+    """The bytes that an event brings."""
+    if isinstance(event, (Paste, KeyReport)):
+        return event.text.encode("utf-8", "surrogatepass")
+    if isinstance(event, (Csi, Osc, Dcs, Apc, StringPart, StringCut)):
+        return event.data
+    return b""
+
+
+# The kinds of events that have no numbers of their own.
+_PLAIN_KINDS = {
+    Paste: _KIND_PASTE,
+    FocusGained: _KIND_FOCUS_GAINED,
+    FocusLost: _KIND_FOCUS_LOST,
+    Csi: _KIND_CSI,
+    Osc: _KIND_OSC,
+    Dcs: _KIND_DCS,
+    Apc: _KIND_APC,
+}
+
+
+def _raw_event(event: ExtendedEvent) -> _RawExtendedEvent:
+    """The numbers of an event. Its bytes are passed beside it."""
+    raw = _RawExtendedEvent()
+    if isinstance(event, KeyEvent):
+        raw.kind = _KIND_KEY
+        raw.input.key, raw.input.detail = _number_and_detail(event.key)
+        raw.input.modifiers = _bits(event.modifiers)
+    elif isinstance(event, MouseEvent):
+        raw.kind = _KIND_MOUSE
+        if not isinstance(event.buttons, MouseButtons):
+            raise TypeError("a MouseEvent has MouseButtons")
+        raw.input.buttons = event.buttons.value
+        _set_place(raw, event)
+    elif isinstance(event, KeyReport):
+        raw.kind = _KIND_REPORT
+        raw.report = _raw_report(event)
+    elif isinstance(event, CursorPosition):
+        raw.kind = _KIND_CURSOR_POSITION
+        raw.row, raw.column = (_whole(n, 0, 65535) for n in (event.row, event.column))
+    elif isinstance(event, Resize):
+        raw.kind = _KIND_RESIZE
+        sizes = (event.rows, event.columns, event.height, event.width)
+        raw.rows, raw.columns, raw.height, raw.width = (_whole(n, 0, 65535) for n in sizes)
+    elif isinstance(event, KeyboardFlags):
+        raw.kind = _KIND_KEYBOARD_FLAGS
+        raw.flags = _whole(event.flags.value | event.unnamed, 0, 255)
+    elif isinstance(event, SideButton):
+        raw.kind = _KIND_SIDE_BUTTON
+        if not isinstance(event.kind, SideButtonKind):
+            raise TypeError("a SideButton has a SideButtonKind")
+        raw.flags, raw.input.detail = event.kind.value, _whole(event.number, 0, 255)
+        _set_place(raw, event)
+    elif isinstance(event, (StringPart, StringCut)):
+        raw.kind = _KIND_STRING_PART if isinstance(event, StringPart) else _KIND_STRING_CUT
+        if not isinstance(event.kind, StringKind):
+            raise TypeError(f"a {type(event).__name__} has a StringKind")
+        raw.flags = event.kind.value
+    elif type(event) in _PLAIN_KINDS:
+        raw.kind = _PLAIN_KINDS[type(event)]
+    else:
+        raise TypeError(f"an event is required, not {type(event).__name__}")
+    return raw
+
+
+def _bits(modifiers: Modifiers) -> int:
+    if not isinstance(modifiers, Modifiers):
+        raise TypeError(f"Modifiers are required, not {type(modifiers).__name__}")
+    return int(modifiers.value)
+
+
+def _set_place(raw: _RawExtendedEvent, event: Union[MouseEvent, SideButton]) -> None:
+    raw.input.x, raw.input.y = (_whole(place, 0, 65535) for place in (event.x, event.y))
+    raw.input.modifiers = _bits(event.modifiers)
+
+
+_CALLS: Dict[str, Tuple[Any, List[Any]]] = {
+    "hed_encode_event": (
+        ctypes.c_uint32,
+        [_EVENT, _BYTES, ctypes.c_size_t, _READING, _BYTES, ctypes.c_size_t, _COUNT],
+    ),
+    "hed_encode_cursor_position": (
+        ctypes.c_uint32,
+        [ctypes.c_uint16, ctypes.c_uint16, ctypes.c_bool, _BYTES, ctypes.c_size_t, _COUNT],
+    ),
+    "hed_encode_colour_scheme": (
+        ctypes.c_uint32,
+        [ctypes.c_bool, _BYTES, ctypes.c_size_t, _COUNT],
+    ),
+    "hed_encode_device_attributes": (
+        ctypes.c_uint32,
+        [ctypes.POINTER(ctypes.c_uint16), ctypes.c_size_t, _BYTES, ctypes.c_size_t, _COUNT],
+    ),
+}
+_declare(_library, _CALLS)
