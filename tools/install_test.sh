@@ -26,11 +26,13 @@ check_files() {
 bin/hedrugal-keys 755
 bin/keyshow 755
 include/hedrugal.h 644
+include/hedrugal_terminal.h 644
 lib/libhedrugal.a 644
 lib/libhedrugal.so -> libhedrugal.so.$version
 lib/libhedrugal.so.$major -> libhedrugal.so.$version
 lib/libhedrugal.so.$version 755
 lib/pkgconfig/hedrugal.pc 644
+share/hedrugal/hedrugal_terminal.c 644
 share/man/man1/hedrugal-keys.1 644
 share/man/man1/keyshow.1 644
 share/man/man3/hedrugal.3 644
