@@ -1,5 +1,5 @@
 -- Events that are written to an array one after another, with their bytes.
-use Rattle.std.proofs.Common.{◌≡◌, ◌∙◌, ℕ, zero, suc, ◌+◌, ◌-◌, ◌<◌, ◌≤◌, Bool, List, [], ◌∷◌, ◌++◌, length, take, drop, map, Option, Some, None, unwrap_or, inl, inr, refl, sym, ap, subst, arith}
+use Rattle.std.proofs.Common.{◌≡◌, ◌∙◌, ℕ, ◌+◌, ◌-◌, ◌<◌, ◌≤◌, Bool, List, [], ◌∷◌, ◌++◌, length, take, drop, map, Option, Some, None, unwrap_or, inl, inr, refl, sym, ap, subst, arith}
 use Rattle.std.specs.List.{slice_set}
 use Rattle.std.proofs.lemmas.List.{append-nil, append_assoc, drop_all, drop_at, length-append, length-drop, take-append-drop, take_all, take_at}
 use borrow.Rule.Slice.PartMut.{mid_of, put_mid}
@@ -17,22 +17,23 @@ use Rattle.hedrugal.specs.ExtendedCalls.{text_after}
 use Rattle.hedrugal.specs.ExtendedEvents.{bytes_of, c_extended_event, own_bytes}
 
 -- a copy of no bytes changes nothing
-pub nothing_copied : (bytes room : List ℕ) → length bytes ≤ 0 → room ≡ copied bytes room
+nothing_copied : (bytes room : List ℕ) → length bytes ≤ 0 → room ≡ copied bytes room
 nothing_copied [] room none = sym (ap (λ (front : List ℕ). front ++ room) (take_all (length room) [] (omega arith)))
 nothing_copied (byte ∷ bytes) room none = let no : ⊥ = omega arith in absurd no
 
+-- the same of bytes that may be there
 bytes_are_kept : (own : Option (List ℕ)) (before now : List ℕ) → now ≡ unwrap_or own before → 0 < length (unwrap_or own [])
     → now ≡ unwrap_or own []
 bytes_are_kept (Some bytes) before now is some = is
 bytes_are_kept None before now is some = let no : ⊥ = omega arith in absurd no
 
 -- what is kept after an event that brings bytes are these
-pub own_bytes_kept : (event : ExtendedEvent) (before now : List ℕ) → now ≡ text_after event before → 0 < length (bytes_of event)
+own_bytes_kept : (event : ExtendedEvent) (before now : List ℕ) → now ≡ text_after event before → 0 < length (bytes_of event)
     → now ≡ bytes_of event
 own_bytes_kept event before now is some = bytes_are_kept (own_bytes event) before now is some
 
 -- an event in numbers tells how many bytes it brings
-pub told_len : (event : ExtendedEvent) → (c_extended_event event).text_len ≡ length (bytes_of event)
+told_len : (event : ExtendedEvent) → (c_extended_event event).text_len ≡ length (bytes_of event)
 unfolding c_extended_event
 told_len (Input event) = refl
 told_len (Key report) = refl
@@ -49,6 +50,7 @@ told_len (Apc bytes) = refl
 told_len (StringPart kind bytes) = refl
 told_len (StringCut kind bytes) = refl
 
+-- the same of numbers that are the event's
 shown_len : (event : ExtendedEvent) (shown : CExtendedEvent) → shown ≡ c_extended_event event → shown.text_len ≡ length (bytes_of event)
 shown_len event shown is = ap (λ (e : CExtendedEvent). e.text_len) is ∙ told_len event
 
@@ -140,6 +142,7 @@ few_bytes events count =
     ap (λ (es : List ExtendedEvent). joined_bytes es) (sym (take-append-drop count events)) ∙ joined_both (take count events) (drop count events) in
     omega (arith, ap length all, length-append {A = ℕ})
 
+-- what is written whole is written
 whole_are_written : (events : List ExtendedEvent) (count used : ℕ) (array array' : List CExtendedEvent) (room room' : List ℕ)
     → AreWhole events count used array array' room room' → AreWritten events array array' room room'
 whole_are_written events count used array array' room room' whole = record {
@@ -154,6 +157,7 @@ joined_more : (events : List ExtendedEvent) (event : ExtendedEvent) → joined_b
 joined_more events event =
     joined_both events (event ∷ []) ∙ ap (λ (bytes : List ℕ). joined_bytes events ++ bytes) (append-nil {A = ℕ} (bytes_of event))
 
+-- a copy behind other bytes, in a list that has a room behind them
 bytes_behind : (front bytes room : List ℕ) (now : List ℕ) (used k : ℕ) → used ≡ length front → length front ≤ length room
     → now ≡ front ++ drop (length front) room → length now ≤ used + k
     → put_mid used k now (copied bytes (mid_of used k now)) ≡ copied (front ++ bytes) room
@@ -178,6 +182,7 @@ one_more_written events count used array array' room room' event shown part whol
       rw (count_now, take_at events (event ∷ []) (length events) refl) whole.fits;
 }
 
+-- there is one event more
 one_more_counted : (events : List ExtendedEvent) (event : ExtendedEvent) (count : ℕ) → count ≡ length events → count + 1 ≡ length (events ++ event ∷ [])
 one_more_counted events event count is = omega (arith, is, length-append events (event ∷ []))
 
@@ -194,6 +199,7 @@ more_bytes events event used shown measured is =
     let len : shown.text_len ≡ length (bytes_of event) = ap (λ (e : CExtendedEvent). e.text_len) is ∙ told_len event in
     omega (arith, ap length (joined_more events event), length-append (joined_bytes events) (bytes_of event), len, measured)
 
+-- the bytes that have no room are more than there is room for
 many_bytes : (events : List ExtendedEvent) (count used : ℕ) (array array' : List CExtendedEvent) (room room' : List ℕ)
     (event : ExtendedEvent) (shown : CExtendedEvent) → AreWhole events count used array array' room room' → shown ≡ c_extended_event event
     → length room' - used < shown.text_len → length room < length (joined_bytes (events ++ event ∷ []))
@@ -229,13 +235,6 @@ module _ (before : ExtendedAndText) (more : Bool) (array : List CExtendedEvent) 
   abbrev pub WroteWhole : ℕ → ℕ → List CExtendedEvent → List ℕ → ExtendedAndText → Type 0
   WroteWhole count used array' room' here =
       (events : List ExtendedEvent) × TookAll before more events here × AreWhole events count used array array' room room'
-
-  pub nothing_written : WroteWhole 0 0 array room before
-  nothing_written = (
-    [],
-    record { steps = refl; reading = refl; text = refl },
-    record { counted = refl; measured = refl; inside = omega arith; fits = omega arith; shown = refl; bytes = refl },
-  )
 
   module _ (count used : ℕ) (array' : List CExtendedEvent) (room' : List ℕ) (here : ExtendedAndText) (wrote : WroteWhole count used array' room' here) where
     -- it stops there

@@ -16,6 +16,7 @@ use crate::{NEXT_EVENT, NEXT_NO_MEMORY, NEXT_NO_PARSER, NEXT_NONE};
 use std::alloc::AllocError;
 
 // How many events were written, and the answer to the last that was asked for.
+#[derive(Drop)]
 struct Written {
     count: usize,
     answer: u32,

@@ -1,4 +1,3 @@
-use Rattle.std.proofs.Common.{◌≡◌, ◌≤◌, ◌<◌, ◌∙◌, sym, ap, length, arith}
 use Rattle.hedrugal.proofs.WrittenEvents.{no_bytes_copied, own_bytes_copied}
 use Rattle.hedrugal.proofs.event_arrays.next_with_bytes.Goals as goal
 

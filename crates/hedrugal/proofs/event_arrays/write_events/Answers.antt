@@ -1,5 +1,5 @@
 use Rattle.std.proofs.Common.{arith}
-use Rattle.hedrugal.proofs.WrittenEvents.{last_wrote, nothing_written, one_more_wrote, stopped, stopped_there}
+use Rattle.hedrugal.proofs.WrittenEvents.{last_wrote, one_more_wrote, stopped, stopped_there}
 use Rattle.hedrugal.proofs.event_arrays.write_events.Goals as goal
 
 pub returns-then-shown-left-clause-written : goal.returns-then-shown-left-clause-written
