@@ -54,7 +54,7 @@ def test_keys(start, word):
     it = start(*word.split())
     for character in "wé":
         it.press(character)
-    it.play([START + b"ab" + END, "paste of 2 bytes\r\n", b"\033[A", "key 19", b""])
+    it.play([START + b"ab" + END, "paste of 2 bytes\r\n", b"\033[A", "key 31, 0\r\n", b""])
     it.quit()
 
 
@@ -114,7 +114,7 @@ def test_signal_in_the_middle_of_a_sequence(start):
     it = start()
     it.play([b"\033[1;5"])
     it.resize(100, 40)
-    it.play(["resized, 100 x 40\r\n", b"A", "key 19"])
+    it.play(["resized, 100 x 40\r\n", b"A", "key 31, 0\r\n"])
     it.quit()
 
 
@@ -155,7 +155,7 @@ def test_child_that_changes_the_settings(start):
 def test_descriptor_that_does_not_block(start):
     """Reads go on, and at the end it blocks again."""
     it = start()
-    it.play([b"d", key("d"), b"w", key("w"), b"\033[1;5", b"A", "key 19"])
+    it.play([b"d", key("d"), b"w", key("w"), b"\033[1;5", b"A", "key 31, 0\r\n"])
     it.quit()
 
 
