@@ -176,12 +176,13 @@ install: libdir all ## puts the library, the programs and their manual pages bel
 	@for call in $(CALLS); do ln -sfn hedrugal.3 "$(root)/share/man/man3/$$call.3"; done
 	@echo 'make: wrote $(words $(installed)) files below $(or $(root),/)'
 
-# The folders of the system stay, but in a DESTDIR.
+# The folders of the system stay, but in a DESTDIR. share/hedrugal is none of them.
 uninstall: libdir ## removes these files, and their folders that are left empty, but for those of /, /usr and /usr/local
 	@removed=0; for file in $(installed); do \
 	  if [ -e "$(root)/$$file" ] || [ -L "$(root)/$$file" ]; then rm "$(root)/$$file"; removed=$$((removed + 1)); \
 	  else echo "make: there was no $(root)/$$file" >&2; fi; \
 	done; \
+	rmdir '$(root)/share/hedrugal' 2> /dev/null || true; \
 	if [[ '$(DESTDIR)' || ! '$(prefix)' =~ ^/(usr(/local)?)?$$ ]] && cd "$(if $(DESTDIR),$(destdir),$$(dirname '$(root)'))" 2> /dev/null; then \
 	  for folder in $$(dirname $(installed) | sort -u); do \
 	    rmdir -p "$$(realpath -ms --relative-to="$$PWD" "$(root)/$$folder")" 2> /dev/null || true; \
