@@ -1,12 +1,13 @@
 /* A program that tests/test_terminal_c.py runs on a pseudo-terminal: it does with its terminal what the keys say, and prints what came.
  *
- *     cc test_terminal.c hedrugal_terminal.c libhedrugal.a && ./a.out [--poll | --tty | --ignore | --handle | --long]
+ *     cc -Wl,--wrap=malloc -Wl,--wrap=realloc -Wl,--wrap=free test_terminal.c hedrugal_terminal.c libhedrugal.a && ./a.out [--poll | --tty | --ignore | --handle | --long]
  *
  * With --poll it polls the terminal and the signals by itself. With --tty both of its descriptors are of /dev/tty. With --ignore it ignores
- * SIGTERM, and with --handle it has handlers of its own for SIGUSR1 and SIGUSR2: they interrupt what waits. With --long
+ * SIGTERM and SIGHUP, and with --handle it has handlers of its own for SIGUSR1 and SIGUSR2: they interrupt what waits. With --long
  * the text that switches modes on is too long. */
 #define _POSIX_C_SOURCE 200809L
 #include "hedrugal_terminal.h"
+#include "refuse.h"
 #include <errno.h>
 #include <fcntl.h>
 #include <poll.h>
@@ -86,6 +87,7 @@ static bool obey(uint32_t key) {
     case 'c': return run_child("stty sane", false);
     case 'd': fcntl(0, F_SETFL, fcntl(0, F_GETFL) | O_NONBLOCK); return true;
     case 'f': fork_child(); return true;
+    case 'm': refuse(1); return true;
     case 'l': return run_child("stty -a | grep -o -e '-icanon' -e icanon; read -r line; echo \"line $line\"", true);
     case 'p': write_to_nobody(); return true;
     case 's': raise(SIGSEGV); return true;
@@ -108,7 +110,7 @@ static bool handle_what_came(enum hed_terminal_event came, const hed_extended_ev
     case HED_TERMINAL_RESIZED: print_size("resized"); return true;
     case HED_TERMINAL_RESUMED: print_size("resumed"); return true;
     case HED_TERMINAL_NOTHING: puts("nothing"); return true;
-    case HED_TERMINAL_FAILED: printf("failed: %s\n", terminal.failure); return false;
+    case HED_TERMINAL_FAILED: printf("failed: %s\n", terminal.failure); return refused > 0; /* the call is made again */
     default: puts(came == HED_TERMINAL_ENDED ? "ended" : "ending"); return false;
   }
 }
@@ -139,7 +141,7 @@ int main(int argc, char **argv) {
   char text[HED_TERMINAL_TEXT_MOST + 2] = HED_TERMINAL_SCREEN_ON HED_TERMINAL_PASTE_ON;
   const char *word = argc > 1 ? argv[1] : "";
   int input = strcmp(word, "--tty") == 0 ? open("/dev/tty", O_RDWR) : 0;
-  if (strcmp(word, "--ignore") == 0) signal(SIGTERM, SIG_IGN);
+  if (strcmp(word, "--ignore") == 0) signal(SIGTERM, SIG_IGN), signal(SIGHUP, SIG_IGN);
   if (strcmp(word, "--handle") == 0) handle(SIGUSR1), handle(SIGUSR2);
   if (strcmp(word, "--long") == 0) memset(text, ' ', sizeof text - 1);
   if (!hed_extended_init(&parser, HED_PROTOCOL_LEGACY)) return 1;

@@ -31,9 +31,9 @@ class Program(Terminal):
 
 @pytest.fixture(scope="session")
 def program(compiled):
-    return compiled(
-        "test_terminal", "c99", TOP / "c/test_terminal.c", TOP / "c/hedrugal_terminal.c"
-    )
+    sources = [TOP / "c/test_terminal.c", TOP / "c/hedrugal_terminal.c"]
+    refusing = [f"-Wl,--wrap={call}" for call in ("malloc", "realloc", "free")]
+    return compiled("test_terminal", "c99", *refusing, *sources)
 
 
 @pytest.fixture
@@ -168,10 +168,19 @@ def test_settings_that_another_program_changed(start):
     it.check_end(0)
 
 
-def test_terminal_that_is_gone(start):
+def test_memory_that_is_refused(start):
+    """The failure is told, and the next call has the event."""
     it = start()
+    it.play([b"m", key("m"), START + b"ab" + END, "failed: out of memory\r\n", "paste of 2 bytes"])
+    it.quit()
+
+
+@pytest.mark.parametrize("word, statuses", [("", {0, -signal.SIGHUP}), ("--ignore", {0})])
+def test_terminal_that_is_gone(start, word, statuses):
+    """The input ends, and SIGHUP may come before the program sees that."""
+    it = start(*word.split())
     it.hang_up()
-    it.wait_for_end()
+    assert it.wait_for_end() in statuses
 
 
 def test_end_of_the_input(start):
