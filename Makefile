@@ -27,7 +27,7 @@ SONAME := libhedrugal.so.$(firstword $(subst ., ,$(VERSION)))
 # A library and a program that were built before are taken where they are, and rt isn't needed.
 lib := $(or $(LIBRARY),out/lib)
 keyshow := $(or $(KEYSHOW),out/bin/keyshow)
-library_files := $(addprefix $(lib)/,libhedrugal.a libhedrugal.so.$(VERSION) hedrugal.h hedrugal.pc)
+library_files := $(addprefix $(lib)/,libhedrugal.a libhedrugal.so.$(VERSION) hedrugal.h hedrugal.pc hedrugal_terminal.h hedrugal_terminal.c)
 
 .PHONY: all library clean help libdir install uninstall check lint format gate gate-parts
 all: library $(keyshow) out/bin/hedrugal-keys ## builds the library and the programs, in out/lib and out/bin; what needs a proof is proved
@@ -121,7 +121,7 @@ out/lib/libhedrugal.so.$(VERSION): out/build/hedrugal.o c/hedrugal.map | out/lib
 	$(CC) -shared -Wl,-soname,$(SONAME) -Wl,--version-script=c/hedrugal.map -Wl,-z,now,-z,relro,-z,noexecstack -o $@ $<
 	ln -f $@ out/lib/$(SONAME) && ln -f $@ out/lib/libhedrugal.so
 
-out/lib/hedrugal.h out/lib/hedrugal.pc: out/lib/%: c/% | out/lib
+out/lib/hedrugal.h out/lib/hedrugal.pc out/lib/hedrugal_terminal.h out/lib/hedrugal_terminal.c: out/lib/%: c/% | out/lib
 	cp $< $@
 else
 $(library_files):
@@ -141,14 +141,15 @@ out/build/lib%.a: tools/growth/%.rt.txt $(proved_libraries) | out/build
 out/bin/keyshow: crates/keyshow/out/keyshow | out/bin
 	cp $< $@
 
-out/bin/hedrugal-keys: $(wildcard keys/*.[ch] c/hedrugal_terminal.[ch]) $(lib)/libhedrugal.a | out/bin
+out/bin/hedrugal-keys: $(wildcard keys/*.[ch] c/hedrugal_terminal.[ch] c/name_errors.h) $(lib)/libhedrugal.a | out/bin
 	$(CC) -std=c11 $(CPPFLAGS) $(CFLAGS) -fPIE -I$(lib) -Ic keys/*.c c/hedrugal_terminal.c $(lib)/libhedrugal.a $(LDFLAGS) -pie -o $@
 
 # Install. Relative folders are those of the folder in which make runs.
 destdir = $(shell realpath -ms -- '$(DESTDIR)/')
 prefix = $(shell realpath -ms -- '$(PREFIX)')
 root = $(patsubst %/,%,$(if $(DESTDIR),$(destdir)))$(patsubst %/,%,$(prefix))
-installed = include/hedrugal.h $(addprefix $(LIBDIR)/,libhedrugal.a libhedrugal.so.$(VERSION) $(SONAME) libhedrugal.so pkgconfig/hedrugal.pc) \
+installed = include/hedrugal.h include/hedrugal_terminal.h share/hedrugal/hedrugal_terminal.c \
+	$(addprefix $(LIBDIR)/,libhedrugal.a libhedrugal.so.$(VERSION) $(SONAME) libhedrugal.so pkgconfig/hedrugal.pc) \
 	bin/keyshow bin/hedrugal-keys share/man/man1/keyshow.1 share/man/man1/hedrugal-keys.1 \
 	share/man/man3/hedrugal.3 $(patsubst %,share/man/man3/%.3,$(CALLS))
 # hedrugal.pc names no folder but by where it lies itself, so the prefix may be moved as a whole.
@@ -159,12 +160,14 @@ libdir:
 	{ echo "make: LIBDIR wants a folder's name below the prefix, and not '$(LIBDIR)'" >&2; exit 1; }
 
 install: libdir all ## puts the library, the programs and their manual pages below DESTDIR and PREFIX
-	install -d '$(root)'/{include,$(LIBDIR)/pkgconfig,bin,share/man/man1,share/man/man3}
-	install -m 644 $(lib)/hedrugal.h '$(root)/include/'
+	install -d '$(root)'/{include,$(LIBDIR)/pkgconfig,bin,share/hedrugal,share/man/man1,share/man/man3}
+	install -m 644 $(lib)/hedrugal.h $(lib)/hedrugal_terminal.h '$(root)/include/'
+	install -m 644 $(lib)/hedrugal_terminal.c '$(root)/share/hedrugal/'
 	install -m 644 $(lib)/libhedrugal.a '$(root)/$(LIBDIR)/'
 	install -m 755 $(lib)/libhedrugal.so.$(VERSION) '$(root)/$(LIBDIR)/'
 	for name in $(SONAME) libhedrugal.so; do ln -sfn libhedrugal.so.$(VERSION) "$(root)/$(LIBDIR)/$$name"; done
 	sed -e '/^#/d' -e 's|^prefix=.*|prefix=$${pcfiledir}/$(up)|' -e 's|^includedir=.*|&/include|' -e 's|^libdir=.*|&/$(LIBDIR)|' \
+		-e 's|^terminal=.*/|terminal=$${prefix}/share/hedrugal/|' \
 		c/hedrugal.pc | install -m 644 /dev/stdin '$(root)/$(LIBDIR)/pkgconfig/hedrugal.pc'
 	install -m 755 $(keyshow) '$(root)/bin/keyshow'
 	install -m 755 out/bin/hedrugal-keys '$(root)/bin/'
@@ -173,12 +176,13 @@ install: libdir all ## puts the library, the programs and their manual pages bel
 	@for call in $(CALLS); do ln -sfn hedrugal.3 "$(root)/share/man/man3/$$call.3"; done
 	@echo 'make: wrote $(words $(installed)) files below $(or $(root),/)'
 
-# The folders of the system stay, but in a DESTDIR.
+# The folders of the system stay, but in a DESTDIR. share/hedrugal is none of them.
 uninstall: libdir ## removes these files, and their folders that are left empty, but for those of /, /usr and /usr/local
 	@removed=0; for file in $(installed); do \
 	  if [ -e "$(root)/$$file" ] || [ -L "$(root)/$$file" ]; then rm "$(root)/$$file"; removed=$$((removed + 1)); \
 	  else echo "make: there was no $(root)/$$file" >&2; fi; \
 	done; \
+	rmdir '$(root)/share/hedrugal' 2> /dev/null || true; \
 	if [[ '$(DESTDIR)' || ! '$(prefix)' =~ ^/(usr(/local)?)?$$ ]] && cd "$(if $(DESTDIR),$(destdir),$$(dirname '$(root)'))" 2> /dev/null; then \
 	  for folder in $$(dirname $(installed) | sort -u); do \
 	    rmdir -p "$$(realpath -ms --relative-to="$$PWD" "$(root)/$$folder")" 2> /dev/null || true; \

@@ -34,9 +34,9 @@ dist-tree: dist-source
 	$(MAKE) --silent install DESTDIR=$(tree) PREFIX=/ LIBDIR=lib $(call logged,install)
 	strip -D --strip-debug --remove-section=.comment $(tree)/lib/libhedrugal.a
 	strip --strip-unneeded --remove-section=.comment --remove-section=.note $(tree)/lib/libhedrugal.so.$(VERSION) $(tree)/bin/*
-	mkdir $(tree)/c $(tree)/python
-	cd $(source) && cp $$(cat debian/libhedrugal-dev.examples) $(tree)/c/ && cp -r python/hedrugal $(tree)/python/ && \
-		cp -r rust LICENSE THIRD-PARTY python/hedrugal.spdx.json $(tree)/
+	mkdir $(tree)/c $(tree)/docs $(tree)/python
+	cd $(source) && cp $$(cat debian/libhedrugal-dev.examples) $(tree)/c/ && cp $$(cat debian/libhedrugal-dev.docs) $(tree)/docs/ && \
+		cp -r python/hedrugal $(tree)/python/ && cp -r rust LICENSE THIRD-PARTY python/hedrugal.spdx.json $(tree)/
 	ln -s ../../lib/libhedrugal.so $(tree)/python/hedrugal/
 	sed 's/@VERSION@/$(VERSION)/' tools/package/README > $(tree)/README
 
@@ -54,7 +54,7 @@ dist-wheel: dist-tree
 dist-debs: dist-tree
 	echo 'make: makes the Debian packages'
 	mkdir $(source)/built
-	cp $(tree)/lib/libhedrugal.* $(tree)/include/hedrugal.h c/hedrugal.pc $(tree)/bin/keyshow $(source)/built/
+	cp $(tree)/lib/libhedrugal.* $(tree)/include/hedrugal*.h c/hedrugal_terminal.c c/hedrugal.pc $(tree)/bin/keyshow $(source)/built/
 	cd $(source) && env -u MAKEFLAGS -u MFLAGS -u MAKELEVEL LIBRARY=built KEYSHOW=built/keyshow dpkg-buildpackage \
 		--build=binary --no-sign $(call logged,debs)
 	mv $(dist_work)/*.deb $(dist_work)/made/

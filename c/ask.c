@@ -1,16 +1,13 @@
 /* Asks the terminal where its cursor is, for its colours and for the flags of Kitty's keyboard protocol, and prints its replies.
  *
- *     cc ask.c hedrugal_terminal.c $(pkg-config --cflags --libs hedrugal) -o ask && ./ask
+ *     cc ask.c $(pkg-config --variable=terminal hedrugal) $(pkg-config --cflags --libs hedrugal) -o ask && ./ask
  *
  * The last question is what the terminal is (DA1), which nearly every terminal answers. Replies come in the order of the questions, so a reply
  * that hasn't come before that one won't come. Without any the program gives up after a second. Keys that are typed meanwhile are read as
  * keys, and no byte of a reply is taken for one. The terminal's settings are restored, also by a signal that ends the program: if nobody
  * reads its output, a second after it. */
-#define _POSIX_C_SOURCE 200809L
-#include "hedrugal.h"
 #include "hedrugal_terminal.h"
 #include <stdio.h>
-#include <unistd.h>
 
 enum { TIMEOUT_MS = 1000, LONGEST_REPLY = 256 };
 
@@ -46,47 +43,15 @@ static bool print_event(const hed_extended *parser, const hed_extended_event *ev
   return event->kind == HED_KIND_CSI && is_last_reply(parser, event->text_len);
 }
 
-/* Prints the events that are there. Returns whether the last reply is among them. */
-static bool print_events(hed_extended *parser, bool more) {
-  hed_extended_event event;
-  bool is_over = false;
-  while (hed_extended_next(parser, more, &event) == HED_NEXT_EVENT) is_over |= print_event(parser, &event);
-  return is_over;
-}
-
-/* How long to wait for bytes: until the program gives up, or until what is buffered has waited as long as it may. */
-static int wait_ms(hed_extended *parser, uint64_t now, uint64_t end) {
-  int32_t left = hed_extended_timeout(parser, now);
-  return left >= 0 && (uint64_t)left < end - now ? left : (int)(end - now);
-}
-
-/* Prints what was buffered for so long, such as the Escape key. Returns false if memory is refused. */
-static bool print_expired(hed_extended *parser) {
-  hed_extended_event event;
-  uint32_t next;
-  while ((next = hed_extended_expire(parser, hed_terminal_now(), &event)) == HED_NEXT_EVENT) print_event(parser, &event);
-  return next == HED_NEXT_NONE;
-}
-
-/* Reads what is there. No text that is pasted meanwhile is kept. Returns false at the end of the input, or if memory is refused. */
-static bool read_bytes(hed_extended *parser, bool *is_over) {
-  uint8_t bytes[4096];
-  size_t skipped;
-  ssize_t len = read(0, bytes, sizeof bytes);
-  if (len <= 0 || !hed_extended_feed(parser, bytes, (size_t)len)) return false;
-  *is_over = print_events(parser, true);
-  hed_extended_skip_paste(parser, &skipped);
-  return true;
-}
-
 /* Reads replies up to the last one. Returns false after the timeout, at the end of the input, or if a signal or want of memory ends it. */
 static bool read_replies(hed_terminal *terminal, hed_extended *parser) {
+  hed_extended_event event;
+  uint64_t now = hed_terminal_now(), end = now + TIMEOUT_MS;
   bool is_over = false, goes_on = true;
-  for (uint64_t now = hed_terminal_now(), end = now + TIMEOUT_MS; goes_on && !is_over && now < end; now = hed_terminal_now()) {
-    switch (hed_terminal_wait(terminal, wait_ms(parser, now, end))) {
-      case HED_TERMINAL_INPUT: goes_on = read_bytes(parser, &is_over); break;
-      case HED_TERMINAL_NOTHING: goes_on = print_expired(parser); break;
-      case HED_TERMINAL_RESUMED: hed_extended_reset(parser); break;
+  for (; goes_on && !is_over && now < end; now = hed_terminal_now()) {
+    switch (hed_terminal_next(terminal, parser, (int)(end - now), &event)) {
+      case HED_TERMINAL_EVENT: is_over = print_event(parser, &event); break;
+      case HED_TERMINAL_ENDED:
       case HED_TERMINAL_ENDING:
       case HED_TERMINAL_FAILED: goes_on = false; break;
       default: break;
@@ -95,13 +60,18 @@ static bool read_replies(hed_terminal *terminal, hed_extended *parser) {
   return is_over;
 }
 
+/* Prints what is buffered: an Escape key, or a reply that was cut off. */
+static void print_rest(hed_extended *parser) {
+  hed_extended_event event;
+  while (hed_extended_next(parser, false, &event) == HED_NEXT_EVENT) print_event(parser, &event);
+}
+
 /* A reply for the position in the first row looks like F3 with modifiers, so the parser is told that one is to come. */
 static bool ask(hed_terminal *terminal, hed_extended *parser) {
   hed_extended_expect_position(parser);
   fputs(questions, stdout);
-  if (fflush(stdout) != 0) return false;
   if (read_replies(terminal, parser)) return true;
-  print_events(parser, false); /* an Escape key, or a reply that was cut off */
+  print_rest(parser);
   puts("no reply to the last question");
   return false;
 }
@@ -113,7 +83,7 @@ int main(void) {
     fputs("ask: out of memory\n", stderr);
     return 1;
   }
-  if (!hed_terminal_open(&terminal, 1, "", "")) {
+  if (!hed_terminal_open(&terminal, 0, 1, "", "")) {
     fprintf(stderr, "ask: %s\n", terminal.failure);
     hed_extended_free(&parser);
     return 2;

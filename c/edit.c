@@ -1,7 +1,7 @@
 /* A small editor of one text, whose commands have chords that it reads from a file, such as docs/edit.keys. It shows how a program reads
  * keys by bindings: presses of events, chords with a limit in time, and names of keys in messages and a menu.
  *
- *     cc edit.c hedrugal_terminal.c $(pkg-config --cflags --libs hedrugal) -o edit && ./edit edit.keys
+ *     cc edit.c $(pkg-config --variable=terminal hedrugal) $(pkg-config --cflags --libs hedrugal) -o edit && ./edit edit.keys
  *
  * Each line of the file is a command and the name of a chord, as in `save ctrl+x ctrl+s`; or it is blank, or a comment that begins with
  * `#`. The screen is a log: the text after each change of it or of its cursor, which is shown as `|`, and the chords that may follow. A
@@ -10,19 +10,19 @@
  * The program asks for modifyOtherKeys of xterm and for Kitty's keyboard protocol. It reads by the latter once the terminal has told its
  * flags. */
 #define _POSIX_C_SOURCE 200809L
-#include "hedrugal.h"
 #include "hedrugal_terminal.h"
+#include "name_errors.h"
 #include <errno.h>
 #include <stdio.h>
 #include <stdlib.h>
 #include <string.h>
-#include <unistd.h>
 
-enum { CHORD_MS = 1000, PASTE_LIMIT = 1 << 20 };
+enum { CHORD_MS = 1000 };
 /* No name of a chord is longer, and no text of a key report, since its sequence isn't. */
 enum { NAME_ROOM = 64 * HED_CHORD_MOST, REPORT_ROOM = 256 };
 
-static const char enter[] = "\033[?2004h\033[>4;2m\033[>5u\033[?u", leave[] = "\033[<u\033[>4m\033[?2004l";
+static const char enter[] = HED_TERMINAL_PASTE_ON "\033[>4;2m" HED_TERMINAL_KITTY_ON(5) "\033[?u";
+static const char leave[] = HED_TERMINAL_KITTY_OFF "\033[>4m" HED_TERMINAL_PASTE_OFF;
 
 enum command { SAVE, QUIT, TOP, BOTTOM, ERASE, NEWLINE, COMMAND_COUNT };
 
@@ -60,21 +60,6 @@ typedef struct keys_file {
 
 static const char blanks[] = " \t";
 
-static const char *const wrong_names[] = {
-  [HED_NAMED_CONTROL_CHARACTER] = "a control character is in the text",
-  [HED_NAMED_MODIFIER_TWICE] = "a modifier is there twice",
-  [HED_NAMED_UNKNOWN_MODIFIER] = "no modifier has this name",
-  [HED_NAMED_MISSING_KEY] = "no key is behind the modifiers",
-  [HED_NAMED_BAD_NUMBER] = "no key has this number",
-  [HED_NAMED_UNKNOWN_NAME] = "no key has this name",
-  [HED_NAMED_AMBIGUOUS] = "DEL is either backspace or delete",
-  [HED_NAMED_NOT_A_KEY] = "the key makes no press by itself",
-  [HED_NAMED_SHIFTED_CHARACTER] = "shift with a character that isn't a letter: write what it types",
-  [HED_NAMED_TOO_LONG] = "a chord has at most 32 keys",
-  [HED_NAMED_EMPTY] = "no chord",
-  [HED_NAMED_BAD_TEXT] = "the text isn't UTF-8",
-};
-
 /* Tells what is wrong in a line, behind so many bytes of it. */
 static void tell_wrong(keys_file *file, size_t at, const char *what) {
   fprintf(stderr, "edit: %s:%zu:%zu: %s\n", file->name, file->line, at + 1, what);
@@ -94,7 +79,7 @@ static bool bind_chord(edit *it, keys_file *file, const char *line, size_t from,
   size_t count, at;
   uint32_t named = hed_key_read((const uint8_t *)line + from, len - from, keys, HED_CHORD_MOST, &count, &at);
   if (named == HED_NAMED_KEYS) return hed_bindings_bind(&it->bindings, keys, count, command) == HED_BOUND_VALUE;
-  tell_wrong(file, from + at, wrong_names[named]);
+  tell_wrong(file, from + at, name_errors[named]);
   return true;
 }
 
@@ -103,7 +88,7 @@ static bool read_line(edit *it, keys_file *file, const char *line, size_t len) {
   if (start == len || line[start] == '#') return true;
   size_t command = find_command(line + start, end - start);
   if (command < COMMAND_COUNT && chord < len) return bind_chord(it, file, line, chord, len, command);
-  if (command < COMMAND_COUNT) tell_wrong(file, end, wrong_names[HED_NAMED_EMPTY]);
+  if (command < COMMAND_COUNT) tell_wrong(file, end, name_errors[HED_NAMED_EMPTY]);
   else tell_wrong(file, start, "no such command");
   return true;
 }
@@ -340,65 +325,19 @@ static bool handle_event(edit *it, const hed_extended_event *event) {
   }
 }
 
-/* Bytes and pauses. */
-
-static bool handle_events(edit *it, bool more) {
-  hed_extended_event event;
-  uint32_t next;
-  while ((next = hed_extended_next(&it->parser, more, &event)) == HED_NEXT_EVENT)
-    if (!handle_event(it, &event)) return false;
-  return next == HED_NEXT_NONE || fail(it, "out of memory");
-}
-
-/* A paste above the limit is handled in parts. */
-static bool take_paste(edit *it) {
-  hed_extended_event event;
-  uint32_t taken = hed_extended_take_paste(&it->parser, PASTE_LIMIT, &event);
-  if (taken == HED_NEXT_EVENT) return handle_event(it, &event);
-  return taken == HED_NEXT_NONE || fail(it, "out of memory");
-}
-
-static bool handle_bytes(edit *it, const uint8_t *bytes, size_t count) {
-  if (!hed_extended_feed(&it->parser, bytes, count)) return fail(it, "out of memory");
-  return handle_events(it, true) && take_paste(it);
-}
-
-/* Nothing more can come: what is buffered is flushed, and what is pending is given up. */
-static bool handle_end(edit *it) {
-  if (handle_events(it, false)) take_outcomes(it, false, false);
-  return false;
-}
-
-static bool handle_input(edit *it) {
-  uint8_t bytes[4096];
-  ssize_t count = read(0, bytes, sizeof bytes);
-  if (count < 0) return fail(it, "the terminal can't be read");
-  return count > 0 ? handle_bytes(it, bytes, (size_t)count) : handle_end(it);
-}
-
-/* Handles what was buffered for as long as it may be, and gives up a chord of which the rest didn't come in time. */
+/* Gives up a chord of which the rest didn't come in time. */
 static bool handle_pause(edit *it) {
-  hed_extended_event event;
-  uint32_t next;
-  while ((next = hed_extended_expire(&it->parser, hed_terminal_now(), &event)) == HED_NEXT_EVENT)
-    if (!handle_event(it, &event)) return false;
-  if (next != HED_NEXT_NONE) return fail(it, "out of memory");
   return hed_timer_timeout(&it->timer, hed_terminal_now()) != 0 || take_outcomes(it, false, false);
 }
 
-/* How long to wait for bytes: as long as the parser may, or the chord, whichever is shorter. */
-static int wait_ms(edit *it) {
-  uint64_t now = hed_terminal_now();
-  int32_t parser = hed_extended_timeout(&it->parser, now), chord = hed_timer_timeout(&it->timer, now);
-  return chord < 0 || (parser >= 0 && parser < chord) ? parser : chord;
-}
-
 static bool step(edit *it) {
-  switch (hed_terminal_wait(&it->terminal, wait_ms(it))) {
+  hed_extended_event event;
+  switch (hed_terminal_next(&it->terminal, &it->parser, hed_timer_timeout(&it->timer, hed_terminal_now()), &event)) {
+    case HED_TERMINAL_EVENT: return handle_event(it, &event);
     case HED_TERMINAL_NOTHING: return handle_pause(it);
-    case HED_TERMINAL_INPUT: return handle_input(it);
-    case HED_TERMINAL_RESUMED: hed_extended_reset(&it->parser); return true;
+    case HED_TERMINAL_RESUMED:
     case HED_TERMINAL_RESIZED: return true;
+    case HED_TERMINAL_ENDED: take_outcomes(it, false, false); return false;
     case HED_TERMINAL_FAILED: return fail(it, it->terminal.failure);
     default: return false;
   }
@@ -417,14 +356,12 @@ static void print_end(const edit *it) {
 }
 
 static void run(edit *it) {
-  if (!hed_terminal_open(&it->terminal, 1, enter, leave)) {
+  if (!hed_terminal_open(&it->terminal, 0, 1, enter, leave)) {
     fail(it, it->terminal.failure);
     return;
   }
   print_end(it);
-  while (fflush(stdout) == 0 && step(it)) {
-  }
-  if (ferror(stdout)) fail(it, "the terminal can't be written");
+  while (step(it)) continue;
   hed_terminal_close(&it->terminal);
 }
 

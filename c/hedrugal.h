@@ -772,6 +772,21 @@ bool hed_extended_feed(hed_extended *parser, const uint8_t *bytes, size_t len);
  * string is at the front. Then nothing changed. */
 uint32_t hed_extended_next(hed_extended *parser, bool more, hed_extended_event *event);
 
+/* Makes calls of hed_extended_next one after another, and writes their events to events, at most room of them, and their number to *count.
+ * The bytes that they bring go to text one after another: those of an event begin where those of the event before it end, and are its
+ * text_len bytes. After an event whose bytes don't all fit into the text_room bytes of text no further one is taken. So only the bytes of the
+ * last event can be cut off, and hed_extended_text then copies them whole. With text_room 0 the last event alone may bring bytes. What lies
+ * behind the events and the bytes is unchanged.
+ *
+ * Afterwards the parser is what it is after these calls. All of the events are read by one reading. A program that changes the reading by an
+ * event, as with hed_extended_set_reading after a HED_KIND_KEYBOARD_FLAGS, takes them one by one until then.
+ *
+ * Returns what the last of the calls returned. HED_NEXT_EVENT says that there is no more room, so there may be further events; with room 0 it
+ * is this too. HED_NEXT_NONE says that there are none. With HED_NEXT_NO_MEMORY the event after those that were written is still at the front,
+ * and the call may be made again. *count is 0 with HED_NEXT_NO_PARSER. */
+uint32_t hed_extended_next_events(hed_extended *parser, bool more, hed_extended_event *events, size_t room, uint8_t *text, size_t text_room,
+                                  size_t *count);
+
 /* Copies the bytes of the last event that brought some to out, at most len of them. A HED_KIND_PASTE or HED_KIND_PASTE_PART brings its
  * text. A HED_KIND_REPORT brings the text that the key types, if the terminal reported it. A HED_KIND_CSI, _OSC, _DCS or _APC brings its
  * bytes after ESC and the byte that introduces it, without the end of a string. So does a HED_KIND_STRING_PART or _STRING_CUT. The texts

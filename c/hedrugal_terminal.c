@@ -5,21 +5,112 @@
 #include <poll.h>
 #include <signal.h>
 #include <stdio.h>
+#include <stdlib.h>
 #include <string.h>
 #include <sys/ioctl.h>
+#include <termios.h>
 #include <time.h>
 #include <unistd.h>
+
+/* The terminal that is open. It stands here, since exit and signals restore it too. */
+static struct guard {
+  int input, output, input_flags, output_flags;
+  struct termios saved, raw;
+  char enter[HED_TERMINAL_TEXT_MOST + 1], leave[HED_TERMINAL_TEXT_MOST + 1];
+  pid_t owner;
+  bool is_open;
+  volatile sig_atomic_t is_raw;
+  volatile sig_atomic_t is_switched; /* whether leave is still to be written */
+} guard;
 
 /* The signals that arrived. The handler also writes to a pipe, which is polled: so no signal is missed between a look at these and poll. */
 static volatile sig_atomic_t ending, stopping, continued, resized;
 static int wake[2];
-static const hed_terminal *volatile entered; /* the one that is in raw mode */
-static volatile sig_atomic_t is_switched; /* whether its leave is still to be written */
 
 static bool fail(hed_terminal *it, const char *failure) {
   it->failure = failure;
   return false;
 }
+
+static enum hed_terminal_event failed(hed_terminal *it, const char *failure) {
+  it->failure = failure;
+  return HED_TERMINAL_FAILED;
+}
+
+static bool is_own(void) {
+  return guard.is_open && guard.owner == getpid();
+}
+
+/* Writing to the terminal. */
+
+static bool wait_for_room(void) {
+  struct pollfd room = { .fd = guard.output, .events = POLLOUT };
+  return poll(&room, 1, -1) >= 0 || errno == EINTR;
+}
+
+/* Returns false if the terminal is gone, or without waiting if it takes no more. */
+static bool write_text(const char *text, bool waits) {
+  size_t left = strlen(text);
+  while (left > 0) {
+    ssize_t written = write(guard.output, text, left);
+    bool is_full = written < 0 && (errno == EAGAIN || errno == EWOULDBLOCK);
+    if (is_full && !(waits && wait_for_room())) return false;
+    if (written < 0 && !is_full && errno != EINTR) return false;
+    if (written < 0) continue;
+    text += written;
+    left -= (size_t)written;
+  }
+  return true;
+}
+
+/* Not twice, also where a handler below interrupts it: modes may nest. */
+static void write_leave(bool waits) {
+  if (!guard.is_switched) return;
+  guard.is_switched = false;
+  write_text(guard.leave, waits);
+}
+
+static bool set(int when, const struct termios *settings) {
+  while (tcsetattr(guard.input, when, settings) != 0)
+    if (errno != EINTR) return false;
+  return true;
+}
+
+/* Another program may have its input or output from the same descriptions, and be surprised if they don't block any more. */
+static void restore_flags(void) {
+  fcntl(guard.input, F_SETFL, guard.input_flags);
+  fcntl(guard.output, F_SETFL, guard.output_flags);
+}
+
+/* What can't be written at once is left out. */
+static void leave_at_once(void) {
+  if (!guard.is_raw || guard.owner != getpid()) return;
+  fcntl(guard.output, F_SETFL, guard.output_flags | O_NONBLOCK);
+  write_leave(false);
+  restore_flags();
+  tcflush(guard.input, TCIFLUSH);
+  tcsetattr(guard.input, TCSANOW, &guard.saved);
+}
+
+static void leave(void) {
+  if (!guard.is_raw) return;
+  fflush(stdout);
+  write_leave(true);
+  set(TCSAFLUSH, &guard.saved);
+  restore_flags();
+  guard.is_raw = false;
+}
+
+/* If it was never left, as around SIGSTOP, modes that nest are left first. */
+static bool enter(hed_terminal *it) {
+  if (!set(TCSADRAIN, &guard.raw)) return fail(it, "raw mode can't be set");
+  guard.is_raw = true;
+  write_leave(true);
+  guard.is_switched = true; /* from the first byte on, since a handler may interrupt the write */
+  return write_text(guard.enter, true) || fail(it, "the terminal can't be written");
+}
+
+/* Signals. */
 
 static void note_signal(int number) {
   int saved = errno;
@@ -35,7 +126,41 @@ static void note_signal(int number) {
   errno = saved;
 }
 
-static bool handle_signal(int number, void (*handler)(int)) {
+/* The program still runs a second after a signal that ends it: a write blocks, and goes on after signals. */
+static void end_late(int number) {
+  (void)number;
+  if (!ending) return;
+  leave_at_once();
+  hed_terminal_end();
+}
+
+static void end_at_once(int number) {
+  leave_at_once();
+  signal(number, SIG_DFL);
+  raise(number);
+}
+
+/* What is handled, and how it was before. */
+static struct handled {
+  int number;
+  void (*handler)(int);
+  bool is_handled;
+  struct sigaction before;
+} handled[] = {
+  { .number = SIGALRM, .handler = end_late },    { .number = SIGHUP, .handler = note_signal },
+  { .number = SIGINT, .handler = note_signal },  { .number = SIGQUIT, .handler = note_signal },
+  { .number = SIGTERM, .handler = note_signal }, { .number = SIGTSTP, .handler = note_signal },
+  { .number = SIGCONT, .handler = note_signal }, { .number = SIGWINCH, .handler = note_signal },
+  { .number = SIGABRT, .handler = end_at_once }, { .number = SIGBUS, .handler = end_at_once },
+  { .number = SIGFPE, .handler = end_at_once },  { .number = SIGILL, .handler = end_at_once },
+  { .number = SIGPIPE, .handler = end_at_once }, { .number = SIGSEGV, .handler = end_at_once },
+  { .number = SIGSYS, .handler = end_at_once },  { .number = SIGUSR1, .handler = end_at_once },
+  { .number = SIGUSR2, .handler = end_at_once }, { .number = SIGXCPU, .handler = end_at_once },
+};
+
+enum { HANDLED = sizeof handled / sizeof *handled };
+
+static bool set_handler(int number, void (*handler)(int)) {
   struct sigaction action;
   memset(&action, 0, sizeof action);
   action.sa_handler = handler;
@@ -43,118 +168,149 @@ static bool handle_signal(int number, void (*handler)(int)) {
   return sigaction(number, &action, NULL) == 0;
 }
 
-void hed_terminal_end(void) {
-  if (!ending) return;
-  handle_signal(ending, SIG_DFL);
-  raise(ending);
+/* A program's own handler stays for what would end it otherwise. */
+static bool is_to_be_handled(const struct handled *it) {
+  bool has_handler = it->before.sa_flags & SA_SIGINFO || it->before.sa_handler != SIG_DFL;
+  bool is_ignored = !(it->before.sa_flags & SA_SIGINFO) && it->before.sa_handler == SIG_IGN;
+  return it->handler == end_at_once ? !has_handler : !is_ignored;
 }
 
-static void write_text(const hed_terminal *it, const char *text) {
-  size_t left = strlen(text);
-  while (left > 0) {
-    ssize_t written = write(it->output, text, left);
-    if (written <= 0) return; /* the terminal is gone, which the next read tells as well */
-    text += written;
-    left -= (size_t)written;
+static bool handle_signals(void) {
+  for (struct handled *it = handled; it < handled + HANDLED; it++) {
+    if (it->is_handled) continue;
+    if (sigaction(it->number, NULL, &it->before) != 0) return false;
+    if (!is_to_be_handled(it)) continue;
+    if (!set_handler(it->number, it->handler)) return false;
+    it->is_handled = true;
+  }
+  return true;
+}
+
+/* The second after a signal that ends the program still counts. */
+static void release_signals(void) {
+  for (struct handled *it = handled; it < handled + HANDLED; it++) {
+    if (!it->is_handled || (it->handler == end_late && ending)) continue;
+    sigaction(it->number, &it->before, NULL);
+    it->is_handled = false;
   }
 }
 
-/* Not twice, also where the handler below interrupts it: modes may nest. */
-static void write_leave(const hed_terminal *it) {
-  if (!is_switched) return;
-  is_switched = false;
-  write_text(it, it->leave);
-}
-
-/* What can't be written at once is left out. */
-static void leave_at_once(const hed_terminal *it) {
-  int flags = fcntl(it->output, F_GETFL);
-  fcntl(it->output, F_SETFL, flags | O_NONBLOCK);
-  write_leave(it);
-  fcntl(it->output, F_SETFL, flags);
-  tcflush(0, TCIFLUSH);
-  tcsetattr(0, TCSANOW, &it->saved);
-}
-
-/* The program still runs a second after a signal that ends it: a write blocks, and goes on after signals. */
-static void end_at_once(int number) {
-  (void)number;
-  if (entered) leave_at_once(entered);
-  hed_terminal_end();
+void hed_terminal_end(void) {
+  if (!ending) return;
+  signal(ending, SIG_DFL);
+  raise(ending);
 }
 
 /* It stays open, for the next terminal. */
 static bool open_wake(void) {
   if (wake[1] > 0) return true;
-  return pipe(wake) == 0 && fcntl(wake[0], F_SETFL, O_NONBLOCK) == 0 && fcntl(wake[1], F_SETFL, O_NONBLOCK) == 0;
+  if (pipe(wake) != 0) return false;
+  for (int i = 0; i < 2; i++)
+    if (fcntl(wake[i], F_SETFL, O_NONBLOCK) != 0 || fcntl(wake[i], F_SETFD, FD_CLOEXEC) != 0) return false;
+  return true;
 }
 
-static bool note_signals(hed_terminal *it) {
-  static const int numbers[] = { SIGHUP, SIGINT, SIGQUIT, SIGTERM, SIGTSTP, SIGCONT, SIGWINCH };
-  if (!open_wake()) return fail(it, "a pipe can't be opened");
-  it->wake = wake[0];
-  for (size_t i = 0; i < sizeof numbers / sizeof *numbers; i++)
-    if (!handle_signal(numbers[i], note_signal)) return fail(it, "a signal can't be handled");
-  return handle_signal(SIGALRM, end_at_once) || fail(it, "a signal can't be handled");
+static void drain_wake(void) {
+  char bytes[64];
+  while (read(wake[0], bytes, sizeof bytes) > 0) continue;
+}
+
+/* Opening and closing. */
+
+static void restore_at_exit(void) {
+  if (is_own()) leave();
+}
+
+/* Once for all terminals: what exit does stays. */
+static bool note_exit(void) {
+  static bool is_noted;
+  if (!is_noted) is_noted = atexit(restore_at_exit) == 0;
+  return is_noted;
 }
 
 static bool find_terminal(hed_terminal *it) {
-  if (!isatty(it->output) || tcgetattr(0, &it->saved) != 0) return fail(it, "standard input and output have to be a terminal");
-  it->raw = it->saved;
-  it->raw.c_iflag &= ~(tcflag_t)(BRKINT | ICRNL | IGNCR | INLCR | INPCK | ISTRIP | IXON);
-  it->raw.c_lflag &= ~(tcflag_t)(ECHO | ICANON | IEXTEN | ISIG);
-  it->raw.c_cc[VMIN] = 1;
-  it->raw.c_cc[VTIME] = 0;
+  if (!isatty(it->output) || tcgetattr(it->input, &guard.saved) != 0) return fail(it, "standard input and output have to be a terminal");
+  guard.raw = guard.saved;
+  guard.raw.c_iflag &= ~(tcflag_t)(BRKINT | ICRNL | IGNCR | INLCR | INPCK | ISTRIP | IXON);
+  guard.raw.c_lflag &= ~(tcflag_t)(ECHO | ICANON | IEXTEN | ISIG);
+  guard.raw.c_cc[VMIN] = 1;
+  guard.raw.c_cc[VTIME] = 0;
+  guard.input = it->input;
+  guard.output = it->output;
+  guard.input_flags = fcntl(it->input, F_GETFL);
+  guard.output_flags = fcntl(it->output, F_GETFL);
   return true;
 }
 
-/* If it was never left, as around SIGSTOP, modes that nest are left first. */
-static bool enter_terminal(hed_terminal *it) {
-  if (tcsetattr(0, TCSADRAIN, &it->raw) != 0) return fail(it, "raw mode can't be set");
-  entered = it;
-  write_leave(it);
-  is_switched = true; /* from the first byte on, since the handler above may interrupt the write */
-  write_text(it, it->enter);
+static bool keep_texts(hed_terminal *it, const char *enter, const char *leave) {
+  if (strlen(enter) > HED_TERMINAL_TEXT_MOST || strlen(leave) > HED_TERMINAL_TEXT_MOST) return fail(it, "a text is too long");
+  strcpy(guard.enter, enter);
+  strcpy(guard.leave, leave);
   return true;
 }
 
-bool hed_terminal_open(hed_terminal *terminal, int output, const char *enter, const char *leave) {
+/* If this fails, the terminal is as it was. */
+static bool begin(hed_terminal *it) {
+  if (!open_wake() || !note_exit()) return fail(it, "a pipe can't be opened");
+  it->wake = wake[0];
+  guard.owner = getpid();
+  guard.is_open = true;
+  if (hed_terminal_take_back(it)) return true;
+  guard.is_open = false;
+  return false;
+}
+
+bool hed_terminal_open(hed_terminal *terminal, int input, int output, const char *enter, const char *leave) {
   memset(terminal, 0, sizeof *terminal);
+  terminal->input = input;
   terminal->output = output;
-  terminal->enter = enter;
-  terminal->leave = leave;
-  return find_terminal(terminal) && note_signals(terminal) && enter_terminal(terminal);
+  if (guard.is_open) return fail(terminal, "a terminal is open already");
+  stopping = continued = resized = 0;
+  return find_terminal(terminal) && keep_texts(terminal, enter, leave) && begin(terminal);
 }
 
 void hed_terminal_close(hed_terminal *terminal) {
-  if (!entered) return;
-  fflush(stdout);
-  write_leave(terminal);
-  tcsetattr(0, TCSAFLUSH, &terminal->saved);
-  entered = NULL;
+  hed_terminal_lend(terminal);
+  if (is_own()) guard.is_open = false;
 }
 
+void hed_terminal_lend(hed_terminal *terminal) {
+  (void)terminal;
+  if (!is_own()) return;
+  leave();
+  release_signals();
+}
+
+bool hed_terminal_take_back(hed_terminal *terminal) {
+  if (!is_own()) return fail(terminal, "no terminal is open");
+  terminal->unfed = 0;
+  if (!handle_signals()) fail(terminal, "a signal can't be handled");
+  else if (enter(terminal)) return true;
+  hed_terminal_lend(terminal);
+  return false;
+}
+
+/* Waiting. */
+
 /* Stops as a program does that handles no SIGTSTP. Returns once it is continued, or at once if no shell could continue it. */
-static void stop(hed_terminal *it) {
-  hed_terminal_close(it);
-  handle_signal(SIGTSTP, SIG_DFL);
+static void stop(void) {
+  leave();
+  signal(SIGTSTP, SIG_DFL);
   raise(SIGTSTP);
   stopping = 0;
-  handle_signal(SIGTSTP, note_signal);
+  set_handler(SIGTSTP, note_signal);
   continued = 1;
 }
 
 static enum hed_terminal_event resume(hed_terminal *it) {
   continued = resized = 0;
-  return enter_terminal(it) ? HED_TERMINAL_RESUMED : HED_TERMINAL_FAILED;
+  return enter(it) ? HED_TERMINAL_RESUMED : HED_TERMINAL_FAILED;
 }
 
 /* A signal that ends the program comes before raw mode: a program that set it in the background would be stopped once more. */
 enum hed_terminal_event hed_terminal_heed(hed_terminal *terminal) {
-  char bytes[64];
-  while (read(terminal->wake, bytes, sizeof bytes) > 0) {
-  }
-  if (stopping && !ending) stop(terminal);
+  drain_wake();
+  if (stopping && !ending) stop();
   if (ending) return HED_TERMINAL_ENDING;
   if (continued) return resume(terminal);
   if (!resized) return HED_TERMINAL_NOTHING;
@@ -163,18 +319,72 @@ enum hed_terminal_event hed_terminal_heed(hed_terminal *terminal) {
 }
 
 enum hed_terminal_event hed_terminal_wait(hed_terminal *terminal, int milliseconds) {
-  struct pollfd ready[2] = { { .fd = 0, .events = POLLIN }, { .fd = terminal->wake, .events = POLLIN } };
+  struct pollfd ready[2] = { { .fd = terminal->input, .events = POLLIN }, { .fd = terminal->wake, .events = POLLIN } };
+  if (ending) return HED_TERMINAL_ENDING;
   int count = poll(ready, 2, milliseconds);
   if (count == 0) return HED_TERMINAL_NOTHING;
-  if (count > 0 && !ready[1].revents) return HED_TERMINAL_INPUT;
-  if (count > 0 || errno == EINTR) return hed_terminal_heed(terminal);
-  fail(terminal, "the terminal can't be polled");
-  return HED_TERMINAL_FAILED;
+  if (count < 0 && errno != EINTR) return failed(terminal, "the terminal can't be polled");
+  return count > 0 && !ready[1].revents ? HED_TERMINAL_INPUT : hed_terminal_heed(terminal);
 }
 
-bool hed_terminal_size(unsigned *columns, unsigned *rows) {
+bool hed_terminal_read(hed_terminal *terminal, uint8_t *bytes, size_t room, size_t *count) {
+  ssize_t len = read(terminal->input, bytes, room);
+  *count = len > 0 ? (size_t)len : 0;
+  if (len > 0 || (len < 0 && (errno == EINTR || errno == EAGAIN || errno == EWOULDBLOCK))) return true;
+  return fail(terminal, len < 0 ? "the terminal can't be read" : NULL);
+}
+
+/* Reading events. */
+
+/* Takes an event of what was read. What memory is refused for stays to be fed. */
+static uint32_t take(hed_terminal *it, hed_extended *parser, hed_extended_event *event) {
+  if (it->unfed > 0 && !hed_extended_feed(parser, it->bytes, it->unfed)) return parser->live ? HED_NEXT_NO_MEMORY : HED_NEXT_NO_PARSER;
+  it->unfed = 0;
+  uint32_t answer = hed_extended_next(parser, !it->has_ended, event);
+  if (answer != HED_NEXT_NONE) return answer;
+  return it->has_ended ? hed_extended_end_paste(parser, event) : hed_extended_take_paste(parser, HED_TERMINAL_PASTE_MOST, event);
+}
+
+static enum hed_terminal_event told(hed_terminal *it, uint32_t answer) {
+  if (answer == HED_NEXT_EVENT) return HED_TERMINAL_EVENT;
+  return failed(it, answer == HED_NEXT_NO_MEMORY ? "out of memory" : "there is no parser");
+}
+
+/* Reads bytes, which are fed next. Returns false if that fails. */
+static bool read_more(hed_terminal *it) {
+  if (hed_terminal_read(it, it->bytes, sizeof it->bytes, &it->unfed)) return true;
+  it->has_ended = !it->failure;
+  return it->has_ended;
+}
+
+/* How long to wait: no longer than the parser's limits say, nor than what is left of these milliseconds. */
+static int wait_ms(hed_extended *parser, uint64_t start, int milliseconds) {
+  uint64_t now = hed_terminal_now();
+  int parser_ms = hed_extended_timeout(parser, now);
+  if (milliseconds < 0) return parser_ms;
+  int left = now - start < (uint64_t)milliseconds ? milliseconds - (int)(now - start) : 0;
+  return parser_ms < 0 || left < parser_ms ? left : parser_ms;
+}
+
+enum hed_terminal_event hed_terminal_next(hed_terminal *terminal, hed_extended *parser, int milliseconds, hed_extended_event *event) {
+  uint64_t start = hed_terminal_now();
+  enum hed_terminal_event came = HED_TERMINAL_INPUT;
+  uint32_t answer = take(terminal, parser, event);
+  while (answer == HED_NEXT_NONE && came == HED_TERMINAL_INPUT) {
+    if (terminal->has_ended) return HED_TERMINAL_ENDED;
+    if (fflush(stdout) != 0) return failed(terminal, "the output can't be written");
+    came = hed_terminal_wait(terminal, wait_ms(parser, start, milliseconds));
+    if (came == HED_TERMINAL_INPUT && !read_more(terminal)) return HED_TERMINAL_FAILED;
+    if (came == HED_TERMINAL_INPUT) answer = take(terminal, parser, event);
+    if (came == HED_TERMINAL_NOTHING) answer = hed_extended_expire(parser, hed_terminal_now(), event);
+    if (came == HED_TERMINAL_RESUMED) hed_extended_reset(parser);
+  }
+  return answer == HED_NEXT_NONE ? came : told(terminal, answer);
+}
+
+bool hed_terminal_size(int output, unsigned *columns, unsigned *rows) {
   struct winsize size;
-  if (ioctl(1, TIOCGWINSZ, &size) != 0) return false;
+  if (ioctl(output, TIOCGWINSZ, &size) != 0) return false;
   *columns = size.ws_col;
   *rows = size.ws_row;
   return true;

@@ -1,80 +1,135 @@
-/* Raw mode for a program that reads keys, and the signals that such a program needs. Two files to copy, in C99 and POSIX alone: the library
- * itself reads no terminal. c/live.c, c/edit.c, c/ask.c and hedrugal-keys use it.
+/* The terminal of a program that reads keys: raw mode, the signals that such a program needs, and a loop that reads events. A header and a file
+ * of C99 and POSIX beside the library, which itself reads no terminal. A program compiles the file with its own:
  *
+ *     cc program.c $(pkg-config --variable=terminal hedrugal) $(pkg-config --cflags --libs hedrugal)
+ *
+ *     hed_extended parser = HED_EXTENDED_NONE;
+ *     hed_extended_event event;
  *     hed_terminal terminal;
- *     if (!hed_terminal_open(&terminal, 1, "\033[?2004h", "\033[?2004l")) ...        // terminal.failure says why
- *     for (bool goes_on = true; goes_on && fflush(stdout) == 0;)
- *       switch (hed_terminal_wait(&terminal, hed_parser_timeout(&parser, hed_terminal_now()))) {
- *         case HED_TERMINAL_INPUT: ...                                              // read and feed; 0 bytes are the end of the input
- *         case HED_TERMINAL_NOTHING: ...                                            // hed_parser_expire
- *         case HED_TERMINAL_RESUMED: hed_parser_reset(&parser);                     // and the size may be new
- *         case HED_TERMINAL_RESIZED: ...                                            // hed_terminal_size
- *         case HED_TERMINAL_ENDING: case HED_TERMINAL_FAILED: goes_on = false;
+ *     if (!hed_extended_init(&parser, HED_PROTOCOL_LEGACY)) ...
+ *     if (!hed_terminal_open(&terminal, 0, 1, HED_TERMINAL_PASTE_ON, HED_TERMINAL_PASTE_OFF)) ...     // terminal.failure says why
+ *     for (bool goes_on = true; goes_on;)
+ *       switch (hed_terminal_next(&terminal, &parser, -1, &event)) {
+ *         case HED_TERMINAL_EVENT: ...                                                                // event, and hed_extended_text
+ *         case HED_TERMINAL_RESIZED: case HED_TERMINAL_RESUMED: ...                                   // hed_terminal_size, and draw all anew
+ *         case HED_TERMINAL_NOTHING: break;
+ *         default: goes_on = false;
  *       }
  *     hed_terminal_close(&terminal);
- *     hed_terminal_end();                                                           // by the signal, if one came
+ *     hed_extended_free(&parser);
+ *     hed_terminal_end();                                                                             // by the signal, if one came
  *
- * The terminal is that of the standard input. It is restored by hed_terminal_close, which the program reaches at its own end and after
- * SIGHUP, SIGINT, SIGQUIT and SIGTERM. It may still run a second after such a signal, as in a write that blocks since nobody reads what it
- * writes. Then the terminal is restored but for what can't be written at once, and the signal ends it. While SIGTSTP stops it a shell has the
- * terminal as it was. After SIGCONT it is in raw mode again, also if SIGSTOP had stopped the program.
+ * The settings of the terminal and its modes are restored
  *
- * A process has one open terminal, and one thread calls. These signals and SIGALRM are then handled here: the program sets no handlers of
- * its own for them, and no alarm. Its calls of the system go on after them (SA_RESTART), but for a poll of its own. */
+ *   - by hed_terminal_close, which the program reaches at its own end and after SIGHUP, SIGINT, SIGQUIT and SIGTERM. It may still run a second
+ *     after such a signal, as in a write that blocks since nobody reads what it writes. Then the signal ends it;
+ *   - by exit, and by a return from main, if the program doesn't reach that;
+ *   - by another signal that ends it, such as SIGABRT, SIGSEGV and SIGPIPE;
+ *   - while SIGTSTP stops it, and while hed_terminal_lend lends the terminal to another program.
+ *
+ * In the third case, and a second after a signal, what can't be written at once is left out. Nothing can be done about SIGKILL. After SIGCONT
+ * the terminal is in raw mode again, also if SIGSTOP had stopped the program.
+ *
+ * A process has one open terminal, and one thread calls. From hed_terminal_open to hed_terminal_close, but while the terminal is lent, these
+ * signals, SIGCONT, SIGWINCH and SIGALRM are handled here. Those that the program ignores stay ignored, and of those of the third case the ones
+ * that it handles itself stay its own. It calls no alarm. Its calls of the system go on after these signals (SA_RESTART), but for a poll of its
+ * own. The texts that switch modes are written whole, also if the descriptor doesn't block (O_NONBLOCK); the program's stdout then loses what
+ * the terminal doesn't take at once. Whether a descriptor blocks is restored with the settings. In a forked child these calls do nothing. */
 #ifndef HEDRUGAL_TERMINAL_H
 #define HEDRUGAL_TERMINAL_H
 
-#include <stdbool.h>
-#include <stdint.h>
-#include <termios.h>
+#include "hedrugal.h"
 
 #ifdef __cplusplus
 extern "C" {
 #endif
 
+/* What switches modes on and off. A program joins those that it wants, the last one first in what switches them off. */
+#define HED_TERMINAL_PASTE_ON "\033[?2004h" /* a paste is told from keys (bracketed paste) */
+#define HED_TERMINAL_PASTE_OFF "\033[?2004l"
+#define HED_TERMINAL_MOUSE_ON "\033[?1003h\033[?1006h" /* mouse reports, also of moves */
+#define HED_TERMINAL_MOUSE_OFF "\033[?1006l\033[?1003l"
+#define HED_TERMINAL_FOCUS_ON "\033[?1004h" /* focus gained and lost */
+#define HED_TERMINAL_FOCUS_OFF "\033[?1004l"
+#define HED_TERMINAL_SCREEN_ON "\033[?1049h" /* a screen of the program's own (the alternate screen) */
+#define HED_TERMINAL_SCREEN_OFF "\033[?1049l"
+#define HED_TERMINAL_KITTY_ON(flags) \
+  "\033[>" #flags "u" /* Kitty's keyboard protocol, as HED_TERMINAL_KITTY_ON(5): a sum of HED_KITTY_FLAG_.. */
+#define HED_TERMINAL_KITTY_OFF "\033[<u"
+
+/* The most bytes of a text that switches modes, and of the text of a paste that is buffered before its end. */
+enum { HED_TERMINAL_TEXT_MOST = 511, HED_TERMINAL_PASTE_MOST = 1 << 20 };
+
 typedef struct hed_terminal {
   const char *failure; /* why the last call failed, in words; errno is the system's number for it */
   int wake; /* readable once a signal came: for a loop of the program's own */
-  int output; /* the rest is this file's */
-  const char *enter, *leave;
-  struct termios saved, raw;
+  int input, output; /* the rest is for these calls */
+  bool has_ended;
+  size_t unfed;
+  uint8_t bytes[4096];
 } hed_terminal;
 
-/* What hed_terminal_wait and hed_terminal_heed return. */
+/* What hed_terminal_next, hed_terminal_wait and hed_terminal_heed return. With the last three the program ends. */
 enum hed_terminal_event {
   HED_TERMINAL_NOTHING, /* Nothing came in time. Another signal may end the wait earlier, so the program asks what is due. */
-  HED_TERMINAL_INPUT, /* Bytes can be read, or the input has ended. */
+  HED_TERMINAL_INPUT, /* Bytes can be read, or the input has ended. hed_terminal_next reads them itself. */
+  HED_TERMINAL_EVENT, /* An event was written. */
   HED_TERMINAL_RESIZED, /* The terminal has a new size. */
   HED_TERMINAL_RESUMED, /* Another program had the terminal: what was buffered before no longer counts, and the size may be new. */
+  HED_TERMINAL_ENDED, /* The input has ended, as when the terminal was closed, and all of its events were told. */
   HED_TERMINAL_ENDING, /* A signal ends the program: it closes the terminal, and calls hed_terminal_end. */
   HED_TERMINAL_FAILED /* The program can't go on, and terminal->failure says why. */
 };
 
-/* Handles the signals, sets raw mode, and writes enter: a text that switches modes on, such as bracketed paste. leave switches them off in
- * the opposite order. Both are written to the descriptor output: 1, or that of /dev/tty if the standard output may be a file or a pipe. They
- * are kept and not copied, and may be empty. *terminal stays where it is until it is closed. What was typed ahead is kept. ^C, ^Z and ^\ are
- * keys like any other (ISIG is off), and Enter is CR (ICRNL is off). A line that is written still ends with LF (OPOST is as it was).
+/* Sets raw mode, handles the signals, and writes enter: a text that switches modes on, such as HED_TERMINAL_PASTE_ON. leave switches them off in
+ * the opposite order. Both are copied, and may be empty. input and output are descriptors of one terminal: 0 and 1, or twice that of /dev/tty if
+ * these may be files or pipes. They stay open until the terminal is closed. What was typed ahead is kept. ^C, ^Z and ^\ are keys like any other
+ * (ISIG is off), and Enter is CR (ICRNL is off). A line that is written still ends with LF (OPOST is as it was).
  *
- * Returns false if the standard input or that output is no terminal, or a call of the system fails. Then the terminal is unchanged. */
-bool hed_terminal_open(hed_terminal *terminal, int output, const char *enter, const char *leave);
+ * Returns false if one of them is no terminal, a terminal is open already, a text has more than HED_TERMINAL_TEXT_MOST bytes, or a call of the
+ * system fails. Then the terminal is unchanged. */
+bool hed_terminal_open(hed_terminal *terminal, int input, int output, const char *enter, const char *leave);
 
-/* Writes leave and restores the settings, unless another program has the terminal. What the terminal sent meanwhile is discarded, so that no
- * mouse report reaches the shell. What stdout holds is written first. */
+/* Writes what stdout holds, and leave, and restores the settings, unless another program has the terminal. What the terminal sent meanwhile is
+ * discarded, so that no mouse report reaches the shell. Signals are handled as before. If no terminal is open, does nothing. */
 void hed_terminal_close(hed_terminal *terminal);
-
-/* Waits until bytes can be read, a signal comes, or so many milliseconds have passed; negative: for ever. SIGTSTP stops the program in this
- * call. Signals go first. What stdout holds isn't written: the caller does that before. */
-enum hed_terminal_event hed_terminal_wait(hed_terminal *terminal, int milliseconds);
-
-/* Handles the signals that came: for a program that has other descriptors too, and polls 0 and terminal->wake itself. It calls this once
- * terminal->wake is readable. Returns what hed_terminal_wait would, HED_TERMINAL_NOTHING if no signal is left to be handled. */
-enum hed_terminal_event hed_terminal_heed(hed_terminal *terminal);
 
 /* Ends the program by the signal that ends it, as a program that handles none, so that its parent sees why. Returns if none came. */
 void hed_terminal_end(void);
 
-/* Writes the size in characters of the standard output's terminal. Returns false if it isn't known: then nothing is written. */
-bool hed_terminal_size(unsigned *columns, unsigned *rows);
+/* Waits for the next event, and writes it to *event. Reads the terminal, keeps the limits in time of the parser, takes a paste of more than
+ * HED_TERMINAL_PASTE_MOST bytes in parts, and flushes the parser at the end of the input. What stdout holds is written first. The parser is one
+ * that nothing else feeds. With HED_TERMINAL_RESUMED it was reset.
+ *
+ * Returns HED_TERMINAL_EVENT, or what came before an event did: HED_TERMINAL_NOTHING after so many milliseconds, negative: never. With
+ * HED_TERMINAL_FAILED no byte is lost, so that the call may be made again if memory was refused. */
+enum hed_terminal_event hed_terminal_next(hed_terminal *terminal, hed_extended *parser, int milliseconds, hed_extended_event *event);
+
+/* Waits until bytes can be read, a signal comes, or so many milliseconds have passed; negative: for ever. For a program that reads by itself.
+ * SIGTSTP stops the program in this call. Signals go first. What stdout holds isn't written: the caller does that before. */
+enum hed_terminal_event hed_terminal_wait(hed_terminal *terminal, int milliseconds);
+
+/* Reads what the terminal sent, at most room bytes, and writes their number to *count: 0 if there is nothing after all.
+ *
+ * Returns false at the end of the input, or if it can't be read, as when the terminal is gone: terminal->failure is then NULL, or says why. */
+bool hed_terminal_read(hed_terminal *terminal, uint8_t *bytes, size_t room, size_t *count);
+
+/* Handles the signals that came: for a program that has other descriptors too, and polls input and terminal->wake itself. It calls this once
+ * terminal->wake is readable, or hed_terminal_next with 0 milliseconds until that returns HED_TERMINAL_NOTHING. Returns what hed_terminal_wait
+ * would, HED_TERMINAL_NOTHING if no signal is left to be handled. */
+enum hed_terminal_event hed_terminal_heed(hed_terminal *terminal);
+
+/* Lends the terminal to another program that this one runs and waits for, such as an editor: writes what stdout holds, and restores settings and
+ * modes. Does nothing if it is lent. */
+void hed_terminal_lend(hed_terminal *terminal);
+
+/* Sets raw mode and the modes again, whatever that program left, also if it wasn't lent to it. What was buffered before no longer counts: the
+ * program calls hed_extended_reset. Returns false if that fails, as when the terminal is gone. */
+bool hed_terminal_take_back(hed_terminal *terminal);
+
+/* Writes the size in characters of the terminal that this descriptor is of, such as 1. Returns false if it isn't known: then nothing is
+ * written. */
+bool hed_terminal_size(int output, unsigned *columns, unsigned *rows);
 
 /* Returns the time in milliseconds, by a clock that nobody sets: as the calls of a parser with limits in time are given it. */
 uint64_t hed_terminal_now(void);

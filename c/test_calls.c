@@ -1573,7 +1573,10 @@ static void tells_the_version(void) {
 
 int main(int argc, char **argv) {
   hed_parser parser = HED_PARSER_NONE, timed = HED_PARSER_NONE;
-  if (argc != 2) return 2;
+  if (argc != 2) {
+    fputs("usage: test_calls c/numbers.txt\n", stderr);
+    return 2;
+  }
   answers_before_init_and_after_free();
   makes_anew();
   moves();

@@ -416,6 +416,8 @@ static void none_answers(hed_extended *parser) {
   memset(&before, 0x55, sizeof before);
   EXPECT(!hed_extended_feed(parser, &byte, 1));
   EXPECT(hed_extended_next(parser, true, &event) == HED_NEXT_NO_PARSER);
+  EXPECT(hed_extended_next_events(parser, true, &event, 1, &byte, 1, &count) == HED_NEXT_NO_PARSER && count == 0 && byte == 'x');
+  count = 7;
   EXPECT(hed_extended_flush_escape(parser, &event) == HED_NEXT_NO_PARSER);
   EXPECT(hed_extended_end_paste(parser, &event) == HED_NEXT_NO_PARSER);
   EXPECT(hed_extended_expire(parser, 7, &event) == HED_NEXT_NO_PARSER);
@@ -688,6 +690,110 @@ static void ends_what_was_fed(uint32_t protocol) {
   EXPECT(hed_extended_end_paste(&parser, &event) == HED_NEXT_EVENT && event.kind == HED_KIND_PASTE && event.text_len == 3);
   EXPECT(hed_extended_waiting_len(&parser) == 0 && hed_extended_text(&parser, room, 4) == 3 && memcmp(room, "xyz.", 4) == 0);
   hed_extended_free(&parser);
+}
+
+/* Room for events and their bytes, with marks behind them. */
+struct array {
+  hed_extended_event events[12];
+  uint8_t text[40];
+  size_t room, text_room;
+};
+
+static bool is_marked(const void *bytes, size_t len) {
+  const uint8_t *at = bytes;
+  while (len > 0 && *at == 0x55) at++, len--;
+  return len == 0;
+}
+
+/* What the parser buffers and keeps is that of the other one. */
+static void expect_same_parser(const hed_extended *parser, const hed_extended *other) {
+  uint8_t text[300], same[300];
+  size_t len = hed_extended_text(parser, text, sizeof text);
+  hed_reading one, two;
+  EXPECT(hed_extended_text(other, same, sizeof same) == len && len <= sizeof text && memcmp(text, same, len) == 0);
+  EXPECT(hed_extended_waiting_len(parser) == hed_extended_waiting_len(other)
+         && hed_extended_waiting(parser) == hed_extended_waiting(other));
+  EXPECT(hed_extended_reading(parser, &one) && hed_extended_reading(other, &two) && one.questions == two.questions);
+}
+
+/* The next event by itself is the same. Its bytes stand at their place, or as many of them as there is room for. */
+static void expect_same_event(hed_extended *by_itself, bool more, const struct array *it, size_t place, size_t at) {
+  uint8_t text[300];
+  hed_extended_event event;
+  EXPECT(hed_extended_next(by_itself, more, &event) == HED_NEXT_EVENT && same_event(&event, &it->events[place]));
+  EXPECT(event.text_len == it->events[place].text_len && at <= it->text_room);
+  size_t len = event.text_len > 0 ? hed_extended_text(by_itself, text, sizeof text) : 0;
+  EXPECT(len == event.text_len && len <= sizeof text);
+  EXPECT(memcmp(it->text + at, text, len < it->text_room - at ? len : it->text_room - at) == 0);
+}
+
+/* Takes events into an array, and the same one by one from another parser. Returns what the call returned. */
+static uint32_t take_array(hed_extended *parser, hed_extended *by_itself, bool more, struct array *it) {
+  size_t count = 77, at = 0;
+  memset(it->events, 0x55, sizeof it->events);
+  memset(it->text, 0x55, sizeof it->text);
+  uint32_t answer =
+      hed_extended_next_events(parser, more, it->events, it->room, it->text_room > 0 ? it->text : NULL, it->text_room, &count);
+  EXPECT(count <= it->room && is_marked(it->events + count, sizeof it->events - count * sizeof *it->events));
+  for (size_t i = 0; i < count; at += it->events[i++].text_len) expect_same_event(by_itself, more, it, i, at);
+  size_t written = at < it->text_room ? at : it->text_room;
+  EXPECT(is_marked(it->text + written, sizeof it->text - written));
+  EXPECT(answer == HED_NEXT_NONE || (answer == HED_NEXT_EVENT && (count == it->room || at > it->text_room)));
+  expect_same_parser(parser, by_itself);
+  return answer;
+}
+
+/* Takes all events, and then there are none by themselves. */
+static void take_arrays(hed_extended *parser, hed_extended *by_itself, bool more, struct array *it) {
+  hed_extended_event event;
+  while (take_array(parser, by_itself, more, it) == HED_NEXT_EVENT) continue;
+  EXPECT(hed_extended_next(by_itself, more, &event) == HED_NEXT_NONE);
+}
+
+static const char mixed[] =
+    "qw\033[A\033[97;;97u\303\251\033[200~pasted\033[201~x\033[1;5R\033]0;a title\007\033[I\033[98;;98:99u\033[200~\033[201~"
+    "\033[200~a paste of more bytes than any room of these tests\033[201~\033[?62;22c\033[2;2R\033P>|x\033";
+
+/* A stream that is cut in two gives the same in arrays and event by event. */
+static void takes_arrays_of(hed_extended *parser, hed_extended *by_itself, size_t cut, size_t room, size_t text_room) {
+  struct array it = { .room = room, .text_room = text_room };
+  const uint8_t *text = (const uint8_t *)mixed;
+  size_t len = sizeof mixed - 1;
+  hed_extended_expect_position(parser);
+  hed_extended_expect_position(by_itself);
+  EXPECT(hed_extended_feed(parser, text, cut) && hed_extended_feed(by_itself, text, cut));
+  take_arrays(parser, by_itself, true, &it);
+  EXPECT(hed_extended_feed(parser, text + cut, len - cut) && hed_extended_feed(by_itself, text + cut, len - cut));
+  take_arrays(parser, by_itself, true, &it);
+  take_arrays(parser, by_itself, false, &it);
+  EXPECT(hed_extended_waiting_len(parser) == 0);
+}
+
+static void takes_arrays(hed_extended *parser, uint32_t protocol) {
+  static const size_t rooms[] = { 1, 2, 5, 12 }, text_rooms[] = { 0, 1, 6, 7, 8, 40 };
+  hed_extended by_itself = HED_EXTENDED_NONE;
+  EXPECT(hed_extended_init_sharing(&by_itself, protocol, parser));
+  hed_extended_drop_text(parser);
+  for (size_t cut = 0; cut < sizeof mixed; cut++)
+    for (size_t i = 0; i < sizeof rooms / sizeof *rooms; i++)
+      for (size_t j = 0; j < sizeof text_rooms / sizeof *text_rooms; j++) takes_arrays_of(parser, &by_itself, cut, rooms[i], text_rooms[j]);
+  hed_extended_free(&by_itself);
+}
+
+/* Without room nothing is taken. The time is told as by single events. */
+static void takes_arrays_without_room(hed_extended *parser) {
+  uint8_t byte = '.';
+  size_t count = 77;
+  hed_extended_event events[3];
+  EXPECT(FEED(parser, "a\033[200~b\033[201~\033"));
+  EXPECT(hed_extended_next_events(parser, true, NULL, 0, &byte, 1, &count) == HED_NEXT_EVENT && count == 0 && byte == '.');
+  EXPECT(hed_extended_waiting_len(parser) == 15);
+  EXPECT(hed_extended_next_events(parser, true, events, 3, NULL, 0, &count) == HED_NEXT_EVENT && count == 2 && events[1].text_len == 1);
+  EXPECT(hed_extended_text(parser, &byte, 1) == 1 && byte == 'b');
+  EXPECT(hed_extended_next_events(parser, true, events, 3, &byte, 1, &count) == HED_NEXT_NONE && count == 0);
+  EXPECT(hed_extended_timeout(parser, 1000) == 50 && hed_extended_timeout(parser, 1020) == 30);
+  EXPECT(hed_extended_next_events(parser, false, events, 3, &byte, 1, &count) == HED_NEXT_NONE && count == 1);
+  EXPECT(events[0].input.key == HED_KEY_ESCAPE && hed_extended_timeout(parser, 1030) == -1);
 }
 
 /* A paste of more than 1 MB comes whole, whether events are asked for before its end or not. Nothing is written past it. */
@@ -1827,6 +1933,8 @@ int main(void) {
     shrinks(&parser);
     ends_pastes(&parser);
     takes_pastes(&parser);
+    takes_arrays(&parser, protocol);
+    takes_arrays_without_room(&parser);
     reads_a_long_paste(&parser, false);
     reads_a_long_paste(&parser, true);
     reads_a_string_in_pieces(&parser);

@@ -23,7 +23,7 @@ static void see(const void *bytes, size_t len) {
 }
 
 /* The fields one by one, since what lies between them has no meaning. */
-static void see_event(hed_extended *parser, const hed_extended_event *event) {
+static void see_fields(const hed_extended_event *event) {
   uint32_t fields[] = { event->kind,
                         event->flags,
                         event->row,
@@ -40,10 +40,14 @@ static void see_event(hed_extended *parser, const hed_extended_event *event) {
                         event->input.modifiers,
                         event->input.x,
                         (uint32_t)event->text_len };
-  uint8_t text[512];
   see(fields, sizeof fields);
-  size_t len = hed_extended_text(parser, text, sizeof text);
-  EXPECT(len <= sizeof text);
+}
+
+/* The bytes that the last event brought. */
+static void see_text(const hed_extended *parser, size_t len) {
+  uint8_t text[512];
+  if (len == 0) return;
+  EXPECT(hed_extended_text(parser, text, sizeof text) == len && len <= sizeof text);
   see(text, len);
 }
 
@@ -67,7 +71,8 @@ static void take(hed_extended *parser, bool more) {
     memcpy(before, &event, sizeof event);
     uint32_t next = hed_extended_next(parser, more, &event);
     if (next == HED_NEXT_EVENT) {
-      see_event(parser, &event);
+      see_fields(&event);
+      see_text(parser, event.text_len);
       continue;
     }
     EXPECT(memcmp(&event, before, sizeof event) == 0 && hed_extended_waiting_len(parser) == waiting);
@@ -75,6 +80,30 @@ static void take(hed_extended *parser, bool more) {
     EXPECT(next == HED_NEXT_NO_MEMORY);
     told++;
   }
+}
+
+/* Sees events of an array with their bytes, of which those of the last may be cut off. */
+static void see_array(const hed_extended *parser, const hed_extended_event *events, size_t count, const uint8_t *text, size_t room) {
+  size_t at = 0;
+  for (size_t i = 0; i < count; at += events[i++].text_len) {
+    see_fields(&events[i]);
+    if (at + events[i].text_len <= room) see(text + at, events[i].text_len);
+    else see_text(parser, events[i].text_len);
+  }
+}
+
+/* Takes all events in arrays, again if one is refused. Those before it are there. */
+static void take_arrays(hed_extended *parser, bool more) {
+  uint32_t answer;
+  do {
+    hed_extended_event events[3];
+    uint8_t text[20];
+    size_t count;
+    answer = hed_extended_next_events(parser, more, events, 3, text, sizeof text, &count);
+    see_array(parser, events, count, text, sizeof text);
+    if (answer == HED_NEXT_NO_MEMORY) told++;
+    else EXPECT(answer == HED_NEXT_NONE || answer == HED_NEXT_EVENT);
+  } while (answer != HED_NEXT_NONE);
 }
 
 static void set_x10_mouse(hed_extended *parser) {
@@ -87,8 +116,11 @@ static const char stream[] =
     "\033[97:65:99;2:1;65u\033]11;rgb:1e1e/1e1e/1e1e\033\\x\033P>|kitty\033\\\033_Gi=31;OK\033\\\033[I\033[200~\033[201~"
     "\033]4;1;rgb:\033\033P>|foo\033[O\033[<129;12;3m\033[M\240!!\033\033[23^\033";
 
+/* Takes all events of what is buffered. */
+typedef void take_all(hed_extended *parser, bool more);
+
 /* Reads the stream in pieces, with one request after init refused. X10 mouse reports are read, and a position is expected. */
-static void read_stream(size_t piece, long number) {
+static void read_stream(take_all take_them, size_t piece, long number) {
   size_t len = sizeof stream - 1;
   hed_extended parser = HED_EXTENDED_NONE;
   refuse(0);
@@ -100,9 +132,9 @@ static void read_stream(size_t piece, long number) {
   for (size_t at = 0; at < len; at += piece) {
     size_t count = len - at < piece ? len - at : piece;
     feed(&parser, (const uint8_t *)stream + at, count);
-    take(&parser, true);
+    take_them(&parser, true);
   }
-  take(&parser, false);
+  take_them(&parser, false);
   to_refusal = 0;
   EXPECT(told == refused);
   hed_reading reading;
@@ -112,14 +144,14 @@ static void read_stream(size_t piece, long number) {
 }
 
 /* The stream in pieces, with each request refused in turn. */
-static void refuse_while_reading(size_t piece) {
+static void refuse_while_reading(take_all refused_take, size_t piece) {
   static uint8_t whole[sizeof seen];
   long number = 0;
-  read_stream(piece, 0);
+  read_stream(take, piece, 0);
   size_t whole_len = seen_len;
   memcpy(whole, seen, seen_len);
   do {
-    read_stream(piece, ++number);
+    read_stream(refused_take, piece, ++number);
     EXPECT(seen_len == whole_len && memcmp(seen, whole, seen_len) == 0);
   } while (refused);
   EXPECT(number > 1);
@@ -623,7 +655,10 @@ static void refuse_replies(void) {
 int main(int argc, char **argv) {
   long step = argc > 1 ? atol(argv[1]) : 1;
   if (step < 1) return 2;
-  for (size_t piece = 1; piece < 2 * sizeof stream; piece = piece * 3 + 1) refuse_while_reading(piece);
+  for (size_t piece = 1; piece < 2 * sizeof stream; piece = piece * 3 + 1) {
+    refuse_while_reading(take, piece);
+    refuse_while_reading(take_arrays, piece);
+  }
   refuse_while_ending(false);
   refuse_while_ending(true);
   refuse_parts();

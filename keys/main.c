@@ -181,7 +181,7 @@ static bool handle_bytes(keys *it, const uint8_t *bytes, size_t length) {
 static bool handle_input(keys *it) {
   uint8_t bytes[READ_SIZE];
   ssize_t count = read(it->input, bytes, sizeof bytes);
-  if (count < 0) return errno == EINTR || fail(it, "the input can't be read", errno);
+  if (count < 0) return errno == EINTR || (it->is_live && errno == EAGAIN) || fail(it, "the input can't be read", errno);
   return count > 0 && handle_bytes(it, bytes, (size_t)count);
 }
 
@@ -210,7 +210,7 @@ static bool handle_end(keys *it) {
 
 static void take_size(keys *it) {
   unsigned columns = 0, rows = 0;
-  hed_terminal_size(&columns, &rows);
+  hed_terminal_size(1, &columns, &rows);
   screen_resize(&it->screen, columns, rows);
 }
 
@@ -279,7 +279,7 @@ static bool start_live(keys *it) {
   int output = isatty(1) ? 1 : open("/dev/tty", O_WRONLY | O_NOCTTY);
   if (output < 0) return fail(it, "the terminal can't be written", errno);
   join_modes(it);
-  if (!hed_terminal_open(&it->terminal, output, it->enter.bytes, it->leave.bytes)) return fail(it, it->terminal.failure, errno);
+  if (!hed_terminal_open(&it->terminal, 0, output, it->enter.bytes, it->leave.bytes)) return fail(it, it->terminal.failure, errno);
   dprintf(output, "hedrugal-keys: press keys; ^D twice ends it.\n");
   return true;
 }

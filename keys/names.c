@@ -1,4 +1,5 @@
 #include "names.h"
+#include "name_errors.h"
 
 const flag modifier_flags[] = {
   /* numbers.txt: termwiz_mod table */
@@ -107,21 +108,7 @@ bool print_chord(char *out, size_t size, const hed_key_press *keys, size_t count
 }
 
 const char *key_error(uint32_t named) {
-  static const char *const words[] = {
-    [HED_NAMED_CONTROL_CHARACTER] = "a control character is in the name",
-    [HED_NAMED_MODIFIER_TWICE] = "a modifier is there twice",
-    [HED_NAMED_UNKNOWN_MODIFIER] = "no modifier has this name",
-    [HED_NAMED_MISSING_KEY] = "no key is behind the modifiers",
-    [HED_NAMED_BAD_NUMBER] = "no key has this number",
-    [HED_NAMED_UNKNOWN_NAME] = "no key has this name",
-    [HED_NAMED_AMBIGUOUS] = "DEL is either backspace or delete",
-    [HED_NAMED_NOT_A_KEY] = "the key makes no press by itself",
-    [HED_NAMED_SHIFTED_CHARACTER] = "shift with a character that isn't a letter: write what it types",
-    [HED_NAMED_TOO_LONG] = "a chord has at most 32 keys",
-    [HED_NAMED_EMPTY] = "no chord",
-    [HED_NAMED_BAD_TEXT] = "the name isn't UTF-8",
-  };
-  return words[named];
+  return name_errors[named];
 }
 
 void add_flags(text *out, const flag *flags, unsigned set) {

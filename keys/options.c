@@ -5,7 +5,8 @@ const char options_help[] =
     "usage: hedrugal-keys [SWITCH..] [FILE]\n"
     "\n"
     "Shows what a terminal sends, read by read and byte by byte, and the keys, mouse reports and pastes that the bytes mean.\n"
-    "Two ^D keys in a row end it. With FILE or a pipe it shows that input, and flushes at its end what waits.\n"
+    "Two ^D keys in a row end it. With FILE or a pipe it shows that input, and flushes at its end what waits. FILE - is the\n"
+    "standard input, as without a FILE.\n"
     "\n"
     "  --application-cursor-keys   the terminal sends arrows, Home and End as ESC O in place of ESC [\n"
     "  --modify-other-keys=1|2     it sends characters with modifiers as sequences, all of them at level 2\n"
@@ -18,8 +19,9 @@ const char options_help[] =
     "  --bindings=FILE             shows what the keys do by the bindings of a file, and which keys may follow;\n"
     "                              a line of it is a command and the keys of a chord: save ctrl+x ctrl+s\n"
     "  --hex                       bytes in hexadecimal\n"
-    "  --json                      an object on a line for each event\n"
-    "  --help, --version           print this, or the version, and end\n"
+    "  --json                      an object on a line for each event; not with --hex\n"
+    "  -h, --help, --version       print this, or the version, and end\n"
+    "  --                          ends the switches: what follows is FILE\n"
     "\n"
     "A line has the read's number, then groups: bytes -> event = press. Bytes of earlier reads are in parentheses.\n"
     "Bytes that wait are dimmed, and the reason follows. SP is a space, ^A to ^_ and ^? are control characters,\n"
@@ -36,9 +38,11 @@ static bool read_mode(options *it, const char *word) {
   return false;
 }
 
+/* The name - is the standard input. */
 static bool read_file(options *it, const char *word) {
-  if (it->file) text_add(&it->refused, "wants one file, and '%s' is another; --help says more", word);
-  it->file = word;
+  if (it->has_file) text_add(&it->refused, "wants one file, and '%s' is another; --help says more", word);
+  it->has_file = true;
+  it->file = strcmp(word, "-") == 0 ? NULL : word;
   return it->refused.length == 0;
 }
 
@@ -60,17 +64,23 @@ static bool read_reading(options *it, const char *word) {
 
 static bool read_word(options *it, const char *word) {
   static const char bindings[] = "--bindings=";
-  if (*word != '-') return read_file(it, word);
+  if (*word != '-' || strcmp(word, "-") == 0) return read_file(it, word);
   if (strncmp(word, bindings, strlen(bindings)) == 0) return read_bindings(it, word + strlen(bindings));
   if (read_reading(it, word)) return true;
   bool *is_asked = NULL;
   if (strcmp(word, "--hex") == 0) is_asked = &it->is_hex;
   if (strcmp(word, "--json") == 0) is_asked = &it->is_json;
-  if (strcmp(word, "--help") == 0) is_asked = &it->wants_help;
+  if (strcmp(word, "-h") == 0 || strcmp(word, "--help") == 0) is_asked = &it->wants_help;
   if (strcmp(word, "--version") == 0) is_asked = &it->wants_version;
   if (!is_asked) return read_mode(it, word);
   *is_asked = true;
   return true;
+}
+
+/* The bytes of JSON are hexadecimal in any case. */
+static bool check_form(options *it) {
+  if (it->is_hex && it->is_json) text_add(&it->refused, "takes one of --hex and --json; --help says more");
+  return it->refused.length == 0;
 }
 
 /* A file or a pipe has no modes. */
@@ -81,10 +91,17 @@ static bool check_modes(options *it, bool has_terminal) {
   return it->refused.length == 0;
 }
 
+static bool read_switch(options *it, const char *word, bool has_switches) {
+  return has_switches ? read_word(it, word) : read_file(it, word);
+}
+
 bool options_read(options *it, int count, char **words, bool has_terminal) {
+  bool has_switches = true;
   for (int i = 1; i < count; i++) {
-    bool wants_next = strcmp(words[i], "--bindings") == 0;
-    if (wants_next ? !read_bindings(it, words[++i]) : !read_word(it, words[i])) return false;
+    bool wants_next = has_switches && strcmp(words[i], "--bindings") == 0;
+    bool is_end = has_switches && strcmp(words[i], "--") == 0;
+    if (is_end) has_switches = false;
+    else if (wants_next ? !read_bindings(it, words[++i]) : !read_switch(it, words[i], has_switches)) return false;
   }
-  return it->wants_help || it->wants_version || check_modes(it, has_terminal);
+  return it->wants_help || it->wants_version || (check_form(it) && check_modes(it, has_terminal));
 }

@@ -11,7 +11,8 @@ typedef struct options {
   bool wants_help, wants_version;
   reading reading;
   bool modes[MODE_COUNT];
-  const char *file; /* NULL if none is named */
+  bool has_file;
+  const char *file; /* NULL if none is named, or the standard input is */
   const char *bindings; /* the file of bindings, NULL if none is named */
   text refused; /* what is wrong with the words, if they are refused */
 } options;

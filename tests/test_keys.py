@@ -817,6 +817,9 @@ REFUSED = {
     "an unknown reading": unknown("--extended=vt52"),
     "an unknown level": unknown("--modify-other-keys=3"),
     "two files": ("a b", 2, f"wants one file, and 'b' is another; {MORE}"),
+    "a file and the input": ("a -", 2, f"wants one file, and '-' is another; {MORE}"),
+    "two forms": ("--hex --json", 2, f"takes one of --hex and --json; {MORE}"),
+    "no such file behind --": ("-- --hex", 1, "--hex: No such file or directory"),
     "a mode without a terminal": ("--mouse", 2, NO_TERMINAL),
     "no file of bindings": ("--bindings", 2, f"--bindings wants a file behind it; {MORE}"),
     "two files of bindings": (
@@ -847,13 +850,19 @@ def test_refused(words, status, says):
     assert run(*words.split(" "), typed=b"a") == (status, "", f"hedrugal-keys: {says}\n")
 
 
+@pytest.mark.parametrize("words", [["-"], ["--", "-"], ["--"]], ids=" ".join)
+def test_input_by_name(words):
+    assert run(*words, typed=b"a") == run(typed=b"a")
+
+
 def test_version():
     number = re.search(r'HED_VERSION "(.*)"', (TOP / "c/hedrugal.h").read_text())[1]
     assert run("--version") == (0, f"hedrugal-keys {number}\n", "")
 
 
-def test_help():
-    status, out, errors = run("--help")
+@pytest.mark.parametrize("word", ["-h", "--help"])
+def test_help(word):
+    status, out, errors = run(word)
     assert (status, errors) == (0, "")
     for word in [*MODES, "--extended", "--bindings", "--hex", "--json", "--version"]:
         name, _, level = word.partition("=")

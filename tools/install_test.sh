@@ -14,7 +14,7 @@ want_keyshow
 page=docs/man/hedrugal.3
 stage=$work/stage/usr/local
 # Beside the source the header of these sources would be found first.
-cp c/events.c "$work/"
+cp c/events.c c/live.c "$work/"
 
 # make over what was built, with further words.
 over_built() { # words..
@@ -26,11 +26,13 @@ check_files() {
 bin/hedrugal-keys 755
 bin/keyshow 755
 include/hedrugal.h 644
+include/hedrugal_terminal.h 644
 lib/libhedrugal.a 644
 lib/libhedrugal.so -> libhedrugal.so.$version
 lib/libhedrugal.so.$major -> libhedrugal.so.$version
 lib/libhedrugal.so.$version 755
 lib/pkgconfig/hedrugal.pc 644
+share/hedrugal/hedrugal_terminal.c 644
 share/man/man1/hedrugal-keys.1 644
 share/man/man1/keyshow.1 644
 share/man/man3/hedrugal.3 644
@@ -76,6 +78,12 @@ check_shared() { # prefix libdir
 
 check_static() { # prefix libdir
     build "$work/events.c" "$@" -Wl,-Bstatic && ! needed "$work/events" | grep hedrugal && runs && ! readelf -lW "$work/events" | grep RWE
+}
+
+# A program on a terminal is compiled with the file that pkg-config names.
+check_terminal() { # prefix libdir
+    build "$work/live.c" "$@" "$(asked "$@" --variable=terminal)" && ! LD_LIBRARY_PATH=$1/$2 "$work/events" < /dev/null 2> "$work/words" &&
+        grep -xF 'live: standard input and output have to be a terminal' "$work/words"
 }
 
 # Whether a program prints for these bytes what its manual page shows.
@@ -202,6 +210,7 @@ check 'exports of the shared library' check_exports "$stage/lib/libhedrugal.so"
 check 'hardening of the shared library' check_hardening
 check 'program with the shared library' check_shared "$stage" lib
 check 'program with the archive' check_static "$stage" lib
+check 'program on a terminal' check_terminal "$stage" lib
 check 'keyshow, as its manual page shows it' check_program keyshow '\033[1;5Az\033'
 check 'hedrugal-keys, as its manual page shows it' check_keys
 for option in -m32 -mx32 -U__linux__; do check "header with $option" check_refused $option; done

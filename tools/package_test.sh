@@ -75,11 +75,13 @@ expected_files() { # package
             printf 'usr/bin/%s 755\n' hedrugal-keys keyshow
             printf 'usr/share/man/man1/%s.1.gz 644\n' hedrugal-keys keyshow ;;
         libhedrugal-dev)
-            echo 'usr/include/hedrugal.h 644'
+            printf 'usr/include/%s 644\n' hedrugal.h hedrugal_terminal.h
+            echo 'usr/share/hedrugal/hedrugal_terminal.c 644'
             echo "$libdir/libhedrugal.a 644"
             echo "$libdir/libhedrugal.so -> libhedrugal.so.$version"
             echo "$libdir/pkgconfig/hedrugal.pc 644"
-            printf "usr/share/doc/$1/examples/%s 644\n" {ask,edit,events,live}.c edit.keys hedrugal_terminal.{c,h}
+            printf "usr/share/doc/$1/%s.md.gz 644\n" BINDINGS EXTENDED GRAMMAR SENDERS c
+            printf "usr/share/doc/$1/examples/%s 644\n" {ask,edit,events,live}.c edit.keys name_errors.h
             echo 'usr/share/man/man3/hedrugal.3.gz 644'
             library_calls | sed 's|.*|usr/share/man/man3/&.3.gz -> hedrugal.3.gz|' ;;
         libhedrugal0)

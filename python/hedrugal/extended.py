@@ -950,6 +950,10 @@ _CALLS: Dict[str, Tuple[Any, List[Any]]] = {
     "hed_extended_free": (None, [_PARSER]),
     "hed_extended_feed": (ctypes.c_bool, [_PARSER, _BYTES, ctypes.c_size_t]),
     "hed_extended_next": (ctypes.c_uint32, [_PARSER, ctypes.c_bool, _EVENT]),
+    "hed_extended_next_events": (
+        ctypes.c_uint32,
+        [_PARSER, ctypes.c_bool, _EVENT, ctypes.c_size_t, _BYTES, ctypes.c_size_t, _COUNT],
+    ),
     "hed_extended_text": (ctypes.c_size_t, [_PARSER, _BYTES, ctypes.c_size_t]),
     "hed_extended_drop_text": (None, [_PARSER]),
     "hed_extended_shrink_to": (None, [_PARSER, ctypes.c_size_t]),

@@ -743,6 +743,15 @@ extern "C" {
     pub fn hed_extended_free(parser: *mut Extended);
     pub fn hed_extended_feed(parser: *mut Extended, bytes: *const u8, len: usize) -> bool;
     pub fn hed_extended_next(parser: *mut Extended, more: bool, event: *mut ExtendedEvent) -> u32;
+    pub fn hed_extended_next_events(
+        parser: *mut Extended,
+        more: bool,
+        events: *mut ExtendedEvent,
+        room: usize,
+        text: *mut u8,
+        text_room: usize,
+        count: *mut usize,
+    ) -> u32;
     pub fn hed_extended_text(parser: *mut Extended, out: *mut u8, len: usize) -> usize;
     pub fn hed_extended_drop_text(parser: *mut Extended);
     pub fn hed_extended_shrink_to(parser: *mut Extended, min_capacity: usize);

@@ -13,7 +13,8 @@ It is checked that
 
 Markers:
 
-<!-- run: c [input 'TEXT' | typed 'TEXT' ..] -->     a program in C, linked with the library
+<!-- run: c [input 'TEXT' | typed 'TEXT' ..] -->     a program in C, linked with the library, and
+                                    with hedrugal_terminal.c, libuv or libevent if it includes them
 <!-- run: rust [input 'TEXT' | typed 'TEXT' ..] -->  a program over the package in rust/
 <!-- run: rattle FILE -->           the file, without its contracts, `ghost use` lines and comments
 <!-- run: sh -->                    commands, run at the top of the repository; DIR is the library's
@@ -57,6 +58,12 @@ TOP = Path(__file__).resolve().parents[2]
 DOCUMENTS = ["README.md", "CONTRIBUTING.md", "CHANGELOG.md", "docs/*.md", "crates/*/README.md"]
 SUFFIXES = "md rt rs c h sh txt antt edit toml py awk".split()
 SECONDS = 1800
+# What a listing in C includes besides the library's header, and the words for the compiler.
+BESIDE = {
+    '"hedrugal_terminal.h"': ["-Ic", "c/hedrugal_terminal.c"],
+    "<uv.h>": ["-luv"],
+    "<event2/event.h>": ["-levent"],
+}
 # The kinds of listings, and the programs that each needs.
 TOOLS = {"c": "cc", "rust": "cc cargo", "rattle": "", "sh": "cc rt", "lines": "", "keyshow": "rt"}
 KINDS = ["links", *TOOLS]
@@ -284,7 +291,8 @@ class Runner:
         Path(source).write_text(listing.text)
         strict = ["-std=c99", "-Wall", "-Wextra", "-pedantic", "-Werror"]
         library = [f"-I{self.library}", f"{self.library}/libhedrugal.a"]
-        run(["cc", *strict, source, *library, "-o", program])
+        beside = [words for name, words in BESIDE.items() if f"#include {name}\n" in listing.text]
+        run(["cc", *strict, source, *itertools.chain(*beside), *library, "-o", program])
         return run_with_input([program], listing)
 
     def rust(self, listing):

@@ -1,4 +1,5 @@
-/* The events of the extended parser don't depend on how a stream is cut, and its keys can be encoded and read back.
+/* The events of the extended parser don't depend on how a stream is cut, nor on whether they are taken one by one or in arrays, and its keys
+ * can be encoded and read back.
  *
  * reading.h says how streams are read. The bit 0x40 of an input's first byte asks for Kitty's reading of the rows. With the bit 0x80 X10
  * mouse reports are read too, and as many replies for the cursor's position are expected as the two low bits say. If the byte is 0x80 + n,
@@ -120,6 +121,7 @@ static size_t reset_and_read_on(tested *it) {
 
 #define RESET reset_and_read_on
 #define BEGIN begin_reading
+#define NEXT_EVENTS hed_extended_next_events
 #define CALL(name) hed_extended_##name
 #define SHARE(sharing, other) hed_extended_init_sharing(sharing, protocol, other)
 #define COPY_TEXT hed_extended_text

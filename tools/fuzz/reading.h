@@ -33,10 +33,14 @@ static void keep_text(reading *it, size_t len) {
   it->texts_len += len;
 }
 
-static void keep_event(reading *it, const event *next) {
+static void keep_fields(reading *it, const event *next) {
   CHECK(next);
   HOLDS(it->count < STREAM_MAX);
   it->events[it->count++] = *next;
+}
+
+static void keep_event(reading *it, const event *next) {
+  keep_fields(it, next);
   if (next->kind == HED_KIND_PASTE || next->TEXT_LEN > 0) keep_text(it, next->TEXT_LEN);
 }
 
@@ -48,8 +52,47 @@ static bool keep_answer(reading *it, uint32_t answer) {
   return answer == HED_NEXT_EVENT;
 }
 
-/* Takes all events that there are. */
+#ifdef NEXT_EVENTS
+/* Keeps events of an array, with their bytes. Those of the last event may be cut off. */
+static void keep_array(reading *it, const event *events, size_t count, const room *texts, size_t capacity) {
+  size_t at = 0;
+  for (size_t i = 0; i < count; at += events[i++].TEXT_LEN) {
+    bool is_whole = at + events[i].TEXT_LEN <= capacity;
+    HOLDS(is_whole || i + 1 == count);
+    if (!is_whole) {
+      keep_event(it, &events[i]);
+      continue;
+    }
+    keep_fields(it, &events[i]);
+    memcpy(it->texts + it->texts_len, texts->at + at, events[i].TEXT_LEN);
+    it->texts_len += events[i].TEXT_LEN;
+  }
+  HOLDS(is_untouched(texts, at < capacity ? at : capacity));
+}
+
+/* Takes all events that there are, into arrays with room for few of them and for few bytes. */
+static void take_arrays(reading *it, bool more) {
+  static room texts;
+  uint32_t answer;
+  do {
+    size_t room = 1 + it->count % 4, capacity = it->count % 7, count = room + 1;
+    event *events = room_of(&taken, room * sizeof(event));
+    room_of(&texts, capacity);
+    answer = NEXT_EVENTS(parser, more, events, room, pointer_to(&texts), capacity, &count);
+    HOLDS((answer == HED_NEXT_EVENT || answer == HED_NEXT_NONE) && count <= room && is_untouched(&taken, count * sizeof(event)));
+    keep_array(it, events, count, &texts, capacity);
+  } while (answer == HED_NEXT_EVENT);
+}
+#endif
+
+/* Takes all events that there are. Those of a stream that is cut come in arrays, where the parser has a call for these. */
 static void take_all(reading *it, bool more) {
+#ifdef NEXT_EVENTS
+  if (it == &cut) {
+    take_arrays(it, more);
+    return;
+  }
+#endif
   while (keep_answer(it, CALL(next)(parser, more, room_of(&taken, sizeof(event))))) continue;
 }
 

@@ -7,3 +7,4 @@ pub mod PressNumbers
 pub mod OwnedPointerValues
 pub mod TimerNumbers
 pub mod Walks
+pub mod WrittenEvents

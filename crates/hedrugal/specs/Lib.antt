@@ -2,6 +2,7 @@ pub mod BindingCalls
 pub mod Calls
 pub mod Chords
 pub mod EntryCalls
+pub mod EventArrays
 pub mod EventCalls
 pub mod Events
 pub mod ExtendedCalls

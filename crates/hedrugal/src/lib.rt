@@ -22,6 +22,7 @@ mod chord_bindings;
 mod chords;
 mod copying;
 mod entry_calls;
+mod event_arrays;
 mod event_calls;
 mod events;
 mod extended_and_text;

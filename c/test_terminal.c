@@ -1,0 +1,158 @@
+/* A program that tests/test_terminal_c.py runs on a pseudo-terminal: it does with its terminal what the keys say, and prints what came.
+ *
+ *     cc -Wl,--wrap=malloc -Wl,--wrap=realloc -Wl,--wrap=free test_terminal.c hedrugal_terminal.c libhedrugal.a && ./a.out [--poll | --tty | --ignore | --handle | --long]
+ *
+ * With --poll it polls the terminal and the signals by itself. With --tty both of its descriptors are of /dev/tty. With --ignore it ignores
+ * SIGTERM and SIGHUP, and with --handle it has handlers of its own for SIGUSR1 and SIGUSR2: they interrupt what waits. With --long
+ * the text that switches modes on is too long. */
+#define _POSIX_C_SOURCE 200809L
+#include "hedrugal_terminal.h"
+#include "refuse.h"
+#include <errno.h>
+#include <fcntl.h>
+#include <poll.h>
+#include <signal.h>
+#include <stdio.h>
+#include <stdlib.h>
+#include <string.h>
+#include <sys/wait.h>
+#include <unistd.h>
+
+static const char off[] = HED_TERMINAL_PASTE_OFF HED_TERMINAL_SCREEN_OFF;
+
+static hed_extended parser = HED_EXTENDED_NONE;
+static hed_terminal terminal;
+
+static void note(int number) {
+  (void)number;
+}
+
+/* A handler that interrupts calls of the system. */
+static void handle(int number) {
+  struct sigaction action;
+  memset(&action, 0, sizeof action);
+  action.sa_handler = note;
+  sigaction(number, &action, NULL);
+}
+
+static void open_again(void) {
+  hed_terminal second;
+  bool is_open = hed_terminal_open(&second, 0, 1, "", "");
+  printf("open: %s\n", is_open ? "yes" : second.failure);
+}
+
+static void write_to_nobody(void) {
+  int ends[2];
+  if (pipe(ends) != 0) return;
+  close(ends[0]);
+  if (write(ends[1], "x", 1) < 0) printf("write: %s\n", strerror(errno));
+}
+
+/* What a child does with the terminal: it is this one's. */
+static void fork_child(void) {
+  fflush(stdout);
+  pid_t child = fork();
+  if (child == 0) {
+    hed_terminal_close(&terminal);
+    hed_terminal_lend(&terminal);
+    exit(hed_terminal_take_back(&terminal) ? 1 : 0);
+  }
+  int status = 1;
+  waitpid(child, &status, 0);
+  printf("child: %d\n", status);
+}
+
+/* Runs a command, with the terminal or without it. */
+static bool run_child(const char *command, bool is_lent) {
+  if (is_lent) hed_terminal_lend(&terminal);
+  fflush(stdout);
+  int status = system(command);
+  printf("command: %d\n", status);
+  if (!hed_terminal_take_back(&terminal)) return false;
+  hed_extended_reset(&parser);
+  return true;
+}
+
+static void print_size(const char *what) {
+  unsigned columns = 0, rows = 0;
+  hed_terminal_size(1, &columns, &rows);
+  printf("%s, %u x %u\n", what, columns, rows);
+}
+
+/* Does what a key says. Returns false once the program has to end. */
+static bool obey(uint32_t key) {
+  switch (key) {
+    case '2': open_again(); return true;
+    case 'a': abort();
+    case 'c': return run_child("stty sane", false);
+    case 'd': fcntl(0, F_SETFL, fcntl(0, F_GETFL) | O_NONBLOCK); return true;
+    case 'f': fork_child(); return true;
+    case 'm': refuse(1); return true;
+    case 'l': return run_child("stty -a | grep -o -e '-icanon' -e icanon; read -r line; echo \"line $line\"", true);
+    case 'p': write_to_nobody(); return true;
+    case 's': raise(SIGSEGV); return true;
+    case 'x': exit(3);
+    default: return key != 'q';
+  }
+}
+
+static bool handle_event(const hed_extended_event *event) {
+  bool is_paste = event->kind == HED_KIND_PASTE || event->kind == HED_KIND_PASTE_PART;
+  if (event->kind == HED_KIND_KEY) printf("key %u, %u\n", event->input.key, (unsigned)event->input.detail);
+  if (is_paste) printf("%s of %zu bytes\n", event->kind == HED_KIND_PASTE ? "paste" : "part", event->text_len);
+  return event->kind != HED_KIND_KEY || event->input.key != HED_KEY_CHAR || obey(event->input.detail);
+}
+
+/* Returns false once the program has to end. */
+static bool handle_what_came(enum hed_terminal_event came, const hed_extended_event *event) {
+  switch (came) {
+    case HED_TERMINAL_EVENT: return handle_event(event);
+    case HED_TERMINAL_RESIZED: print_size("resized"); return true;
+    case HED_TERMINAL_RESUMED: print_size("resumed"); return true;
+    case HED_TERMINAL_NOTHING: puts("nothing"); return true;
+    case HED_TERMINAL_FAILED: printf("failed: %s\n", terminal.failure); return refused > 0; /* the call is made again */
+    default: puts(came == HED_TERMINAL_ENDED ? "ended" : "ending"); return false;
+  }
+}
+
+/* Polls by itself, and reads and heeds what is there. */
+static bool poll_once(void) {
+  struct pollfd ready[] = { { .fd = terminal.input, .events = POLLIN }, { .fd = terminal.wake, .events = POLLIN } };
+  hed_extended_event event;
+  uint8_t bytes[16];
+  size_t count = 0;
+  fflush(stdout);
+  poll(ready, 2, -1);
+  if (ready[1].revents && !handle_what_came(hed_terminal_heed(&terminal), NULL)) return false;
+  if (ready[0].revents && !hed_terminal_read(&terminal, bytes, sizeof bytes, &count)) return false;
+  if (!hed_extended_feed(&parser, bytes, count)) return false;
+  while (hed_extended_next(&parser, true, &event) == HED_NEXT_EVENT)
+    if (!handle_event(&event)) return false;
+  return true;
+}
+
+static bool next_once(void) {
+  hed_extended_event event;
+  enum hed_terminal_event came = hed_terminal_next(&terminal, &parser, -1, &event);
+  return handle_what_came(came, &event);
+}
+
+int main(int argc, char **argv) {
+  char text[HED_TERMINAL_TEXT_MOST + 2] = HED_TERMINAL_SCREEN_ON HED_TERMINAL_PASTE_ON;
+  const char *word = argc > 1 ? argv[1] : "";
+  int input = strcmp(word, "--tty") == 0 ? open("/dev/tty", O_RDWR) : 0;
+  if (strcmp(word, "--ignore") == 0) signal(SIGTERM, SIG_IGN), signal(SIGHUP, SIG_IGN);
+  if (strcmp(word, "--handle") == 0) handle(SIGUSR1), handle(SIGUSR2);
+  if (strcmp(word, "--long") == 0) memset(text, ' ', sizeof text - 1);
+  if (!hed_extended_init(&parser, HED_PROTOCOL_LEGACY)) return 1;
+  if (!hed_terminal_open(&terminal, input, input == 0 ? 1 : input, text, off)) {
+    fprintf(stderr, "test_terminal: %s\n", terminal.failure);
+    return 1;
+  }
+  puts("begun");
+  while (strcmp(word, "--poll") == 0 ? poll_once() : next_once()) continue;
+  hed_terminal_close(&terminal);
+  hed_extended_free(&parser);
+  hed_terminal_end();
+  return 0;
+}
