@@ -26,7 +26,7 @@ dist-files: dist-tarball dist-wheel dist-debs
 # A copy without what was built here, which everyone may read.
 dist-source:
 	mkdir $(source) $(dist_work)/made
-	tar -c --exclude={.git,out,target,__pycache__,./python/build,*.egg-info} --mode=u=rwX,go=rX . | tar -C $(source) -xm
+	tar -c --exclude={.git,out,target,__pycache__} --mode=u=rwX,go=rX . | tar -C $(source) -xm
 	$(PYTHON) tools/package/sbom.py > $(source)/python/hedrugal.spdx.json
 
 # What the tarball has. The library and the programs are stripped of what they don't need to be linked or run.
@@ -47,8 +47,7 @@ dist-tarball: dist-tree
 
 dist-wheel: dist-tree
 	echo 'make: makes the wheel'
-	HEDRUGAL_LIBRARY=$(tree)/lib $(PYTHON) -m build --wheel --no-isolation --outdir $(dist_work)/made $(source)/python \
-		$(call logged,wheel)
+	HEDRUGAL_LIBRARY=$(tree)/lib $(PYTHON) $(source)/python/backend.py $(dist_work)/made $(call logged,wheel)
 
 # (The variables of this make aren't those of the one in the copy.)
 dist-debs: dist-tree

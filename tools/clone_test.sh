@@ -1,0 +1,98 @@
+#!/usr/bin/env bash
+# Runs the commands of README.md from a clone, as on a machine with a compiler and nothing of ours: `make check-clone`.
+#
+# The clone has the files that git knows or would add, as they lie here. The machine is the Debian that tools/root.sh makes, without the
+# kit, an installed library or a network. In it each command of README.md is run, and the tests that need no kit. Then faults are made: a
+# damaged or a missing prebuilt library, one of another version or for another processor, and no compiler. Each gets one line that says
+# what is wrong and what to do. The last line is 'N passed, N failed', the status 1 if a case failed.
+. "$(dirname "$0")/common.sh"
+set -u
+export LC_ALL=C.UTF-8
+[ $# = 0 ] || { [ "$1" = --help ] && show_help && exit; refuse_word "$1"; }
+top=$(realpath -- "$(dirname "$0")/..")
+cd "$top" || exit
+root=$(tools/root.sh) || exit
+work=$(mktemp -d)
+trap 'rm -rf "$work"' EXIT
+user=(--map-root-user)
+[ "$(id -u)" != 0 ] || user=()
+prebuilt=prebuilt/$(uname -m)-linux
+
+# Runs a script of bash in the clone on that machine, of which it can change /root, /tmp and /usr/local alone.
+on_machine() { # script
+    # shellcheck disable=SC2016
+    timeout 900 unshare "${user[@]}" --mount --net --pid --fork bash -euc '
+        mount --rbind "$1" "$1" && mount -o remount,bind,ro "$1"
+        for folder in root tmp usr/local; do mkdir -p "$2/$folder" && mount --bind "$2/$folder" "$1/$folder"; done
+        mount -t proc proc "$1/proc" && mount --rbind /dev "$1/dev"
+        exec env -i HOME=/root PATH=/usr/local/bin:/usr/bin:/bin LC_ALL=C.UTF-8 chroot "$1" bash -euo pipefail -c "cd /root/hedrugal; $3"
+    ' bash "$root" "$work" "$1" < /dev/null
+}
+
+make_clone() {
+    local clone=$work/root/hedrugal
+    mkdir -p "$clone" && git ls-files -z --cached --others --exclude-standard | tar --null --ignore-failed-read -T - -c | tar -C "$clone" -x &&
+        git -C "$clone" init -q && git -C "$clone" add -A && git -C "$clone" -c user.name=test -c user.email=test commit -qm 'As it lies here'
+}
+
+# Prints the command of README.md that begins so.
+command_of() { # words
+    grep -o -m 1 "\`$1[^\`]*\`" README.md | tr -d '`' | grep . || echo "echo 'README.md has no command $1'; false"
+}
+
+# Runs scripts that have to fail, with a line that begins as the tool's name and says this.
+refused() { # text scripts..
+    local script
+    for script in "${@:2}"; do
+        ! on_machine "$script" > "$work/said" 2>&1 && cat "$work/said" && grep -E '^ *(make|hedrugal): ' "$work/said" | grep -F "$1" || return
+    done
+}
+
+# What the example in C prints for its bytes.
+# shellcheck disable=SC2034
+events="<(printf '\\033[1;5Aq') | diff - <(printf '%s\\n' 'UpArrow ctrl' 'Char U+0071')"
+
+# A program in Rust with a dependency, that prints two events.
+rust_program() { # name dependency
+    cat << END
+        cargo new --quiet --vcs none /tmp/$1 && cd /tmp/$1 && echo 'hedrugal = $2' >> Cargo.toml
+        printf '%s\n' 'fn main() {' 'for event in hedrugal::input::InputParser::new().parse_as_vec(b"q\x1b[A", true) {' \
+            'println!("{event:?}");' '}}' > src/main.rs
+        cargo run > /tmp/printed 2> /tmp/said || { cat /tmp/said; exit 1; }
+        cat /tmp/said; [ "\$(wc -l < /tmp/printed)" = 2 ]
+END
+}
+
+# Types keys once the example has begun, which is when it says how it ends.
+live="{ until grep -q ends /tmp/shown; do sleep 0.2; done; printf '\\033[A'; printf q; } 2> /dev/null |
+    script -qefc '$(command_of 'cd rust && cargo run')' /tmp/shown && grep UpArrow /tmp/shown"
+
+page="$(command_of 'v/bin/python -m') > /tmp/address & trap 'kill \$!' EXIT
+    until grep http /tmp/address; do sleep 0.2; done
+    python3 -c 'import fcntl, socket, struct; fcntl.ioctl(socket.socket(), 0x8914, struct.pack(\"16sH22x\", b\"lo\", 1))'
+    python3 -c 'import re, urllib.request as web; print(web.urlopen(re.search(\"http\\S*\", open(\"/tmp/address\").read())[0]).read())' |
+        grep -i '<title>'"
+
+taken="the library is the prebuilt one"
+parsed="import hedrugal; print(*hedrugal.InputParser().parse(b\"q\"))"
+check 'clone' make_clone
+check 'machine without the kit' on_machine '! command -v rt; [ -e README.md ]'
+check 'hedrugal-keys' on_machine "$(command_of 'make keys') < <(printf '\\033[1;5Az') > /tmp/shown 2> /tmp/said || { cat /tmp/said; false; }
+    grep -F 'ESC [ 1 ; 5 A -> key UpArrow CTRL = ctrl+up' /tmp/shown && grep -F 'make: $taken of $prebuilt' /tmp/said"
+check 'a program in C' on_machine "cp c/events.c program.c; $(command_of 'cc program.c'); ./a.out < $events"
+check 'a program in Rust, by path' on_machine "$(rust_program path '{ path = "/root/hedrugal/rust" }') && grep '$taken' /tmp/said"
+check 'a program in Rust, by git' on_machine "$(rust_program git '{ git = "file:///root/hedrugal" }')"
+check 'example in Rust' on_machine "$live"
+check 'Python module' on_machine "$(command_of 'python3 -m venv') -v > /tmp/said 2>&1 || { cat /tmp/said; false; }
+    grep -F 'hedrugal: $taken' /tmp/said; cd /; /root/hedrugal/v/bin/python -c '$parsed'"
+check 'page' on_machine "$page"
+check 'cargo test' on_machine "$(command_of 'cd rust && cargo test') 2> /tmp/said || { cat /tmp/said; false; }"
+check 'pytest' on_machine "$(command_of 'python3 -m pytest')"
+check 'make check' on_machine "$(command_of 'make check')"
+check 'make install' on_machine "make install 2> /tmp/said; cd /tmp && cp ~/hedrugal/c/events.c program.c
+    $(command_of 'cc program.c -l') -o events && LD_LIBRARY_PATH=/usr/local/lib ./events < $events
+    printf '\\033OA' | keyshow | grep -xF 'key ApplicationUpArrow NONE'"
+check 'installed library in Rust' on_machine "cd rust && CARGO_TARGET_DIR=/tmp/installed cargo build 2> /tmp/said && ! grep '$taken' /tmp/said"
+check 'installed library in Python' on_machine "LD_LIBRARY_PATH=/usr/local/lib v/bin/pip wheel -v -w /tmp ./python 2>&1 | grep 'the installed one: /usr/local'"
+check 'make uninstall' on_machine 'make uninstall && [ -z "$(find /usr/local -type f)" ]'
+print_counts
