@@ -119,16 +119,22 @@ impl Library {
         header.is_some_and(|it| it[18..] == processor.number.to_le_bytes())
     }
 
-    // The version that the header beside the library has, if one is there.
+    // The text of a file that lies beside the library, or none.
+    fn beside(&self, name: &str) -> String {
+        fs::read_to_string(self.folder.join(name)).unwrap_or_default()
+    }
+
+    // The version of the library, as its header or PROVENANCE says, if one of these is there.
     fn version(&self) -> Option<String> {
-        let header = fs::read_to_string(self.folder.join("hedrugal.h")).ok()?;
-        let version = noted(&header, "#define HED_VERSION \"")?;
+        let (header, provenance) = (self.beside("hedrugal.h"), self.beside("PROVENANCE"));
+        let version =
+            noted(&header, "#define HED_VERSION \"").or_else(|| noted(&provenance, "library: "))?;
         Some(version.trim_end_matches('"').to_string())
     }
 
     // Whether the file has the checksum that is noted in PROVENANCE beside it.
     fn is_whole(&self) -> bool {
-        let provenance = fs::read_to_string(self.folder.join("PROVENANCE")).unwrap_or_default();
+        let provenance = self.beside("PROVENANCE");
         let wanted = noted(&provenance, &format!("sha256 {}: ", self.file));
         let found = File::open(self.path())
             .ok()

@@ -21,11 +21,11 @@ prebuilt=prebuilt/$(uname -m)-linux
 # Runs a script of bash in the clone on that machine, of which it can change /root, /tmp and /usr/local alone.
 on_machine() { # script
     # shellcheck disable=SC2016
-    timeout 900 unshare "${user[@]}" --mount --net --pid --fork bash -euc '
+    timeout 600 unshare "${user[@]}" --mount --net --pid --kill-child --fork bash -euc '
         mount --rbind "$1" "$1" && mount -o remount,bind,ro "$1"
         for folder in root tmp usr/local; do mkdir -p "$2/$folder" && mount --bind "$2/$folder" "$1/$folder"; done
         mount -t proc proc "$1/proc" && mount --rbind /dev "$1/dev"
-        exec env -i HOME=/root PATH=/usr/local/bin:/usr/bin:/bin LC_ALL=C.UTF-8 chroot "$1" bash -euo pipefail -c "cd /root/hedrugal; $3"
+        exec chroot "$1" env -i HOME=/root PATH=/usr/local/bin:/usr/bin:/bin LC_ALL=C.UTF-8 bash -euo pipefail -c "cd /root/hedrugal; $3"
     ' bash "$root" "$work" "$1" < /dev/null
 }
 
@@ -37,14 +37,16 @@ make_clone() {
 
 # Prints the command of README.md that begins so.
 command_of() { # words
-    grep -o -m 1 "\`$1[^\`]*\`" README.md | tr -d '`' | grep . || echo "echo 'README.md has no command $1'; false"
+    grep -o "\`$1[^\`]*\`" README.md | tr -d '`' | sed 1q | grep . || echo "echo 'README.md has no command $1'; false"
 }
 
-# Runs scripts that have to fail, with a line that begins as the tool's name and says this.
-refused() { # text scripts..
-    local script
-    for script in "${@:2}"; do
-        ! on_machine "$script" > "$work/said" 2>&1 && cat "$work/said" && grep -E '^ *(make|hedrugal): ' "$work/said" | grep -F "$1" || return
+# Clones the repository, runs a script in the clone, and then commands, each of which has to fail with a line that says this.
+refused() { # text script commands..
+    local command
+    for command in "${@:3}"; do
+        if on_machine "rm -rf /tmp/clone; git clone -q . /tmp/clone; cd /tmp/clone; $2; $command" > "$work/said" 2>&1; then return 1; fi
+        cat "$work/said"
+        [ "$(grep -E '^ *(make|hedrugal): ' "$work/said" | grep -cF "$1")" = 1 ] || return
     done
 }
 
@@ -58,7 +60,7 @@ rust_program() { # name dependency
         cargo new --quiet --vcs none /tmp/$1 && cd /tmp/$1 && echo 'hedrugal = $2' >> Cargo.toml
         printf '%s\n' 'fn main() {' 'for event in hedrugal::input::InputParser::new().parse_as_vec(b"q\x1b[A", true) {' \
             'println!("{event:?}");' '}}' > src/main.rs
-        cargo run > /tmp/printed 2> /tmp/said || { cat /tmp/said; exit 1; }
+        CARGO_NET_GIT_FETCH_WITH_CLI=true cargo run > /tmp/printed 2> /tmp/said || { cat /tmp/said; exit 1; }
         cat /tmp/said; [ "\$(wc -l < /tmp/printed)" = 2 ]
 END
 }
@@ -94,5 +96,12 @@ check 'make install' on_machine "make install 2> /tmp/said; cd /tmp && cp ~/hedr
     printf '\\033OA' | keyshow | grep -xF 'key ApplicationUpArrow NONE'"
 check 'installed library in Rust' on_machine "cd rust && CARGO_TARGET_DIR=/tmp/installed cargo build 2> /tmp/said && ! grep '$taken' /tmp/said"
 check 'installed library in Python' on_machine "LD_LIBRARY_PATH=/usr/local/lib v/bin/pip wheel -v -w /tmp ./python 2>&1 | grep 'the installed one: /usr/local'"
-check 'make uninstall' on_machine 'make uninstall && [ -z "$(find /usr/local -type f)" ]'
+check 'make uninstall' on_machine "make uninstall && find /usr/local -type f -exec false '{}' +"
+archive=$prebuilt/libhedrugal.a
+pip='/root/hedrugal/v/bin/pip install ./python'
+check 'damaged library' refused "$archive isn't what" "echo damage >> $archive" 'make keys' 'cd rust; cargo build' "$pip"
+check 'no library' refused "there is no $prebuilt" "rm -r $prebuilt" 'make flags' 'cd rust; cargo build' "$pip"
+check 'no compiler' refused "there is no compiler 'none'" 'export CC=none' 'make -e' "$pip"
+check 'another version' refused 'of version 9.8.7' "sed -i '/^__version__/s/\".*\"/\"9.8.7\"/' python/hedrugal/__init__.py
+    sed -i '/^version/s/\".*\"/\"9.8.7\"/' rust/Cargo.*" 'cd rust; cargo build' "$pip"
 print_counts

@@ -195,6 +195,13 @@ check_stale() {
         grep -F 'was built from other sources' "$work/words" && [ ! -e "$work/none" ]
 }
 
+# Nor is one of another processor, which the header of the file has as a number.
+check_other_processor() {
+    cp -a "$library" "$work/other" && printf '\363' | dd bs=1 seek=18 conv=notrunc of="$work/other/libhedrugal.so.$version" status=none &&
+        ! make -s install LIBRARY="$work/other" KEYSHOW="$keyshow" PREFIX="$work/none" 2> "$work/words" &&
+        grep -F 'is for another processor' "$work/words" && [ ! -e "$work/none" ]
+}
+
 check 'install in a folder for packages' over_built install DESTDIR="$work/stage"
 check 'files' check_files
 check 'versions' check_versions
@@ -223,4 +230,5 @@ for name in .. ../lib lib/../.. lib/./a . '' /lib lib/ lib//a 'a lib' 'a&b'; do 
 find_view /usr/local
 [ ${#view[@]} = 0 ] || check 'folders of the system' check_system_folders
 check 'library of other sources' check_stale
+check 'library of another processor' check_other_processor
 print_counts

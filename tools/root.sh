@@ -16,9 +16,8 @@ mkdir -p "$cache"
 exec 3> "$root.lock" && flock 3
 if [ ! -d "$root" ]; then
     progress 'makes a Debian 12, once, in two minutes'
-    run_quietly timeout 900 mmdebstrap --variant=minbase --include="$packages" bookworm "$root.new" \
-        'deb http://deb.debian.org/debian bookworm main' 'deb http://deb.debian.org/debian-security bookworm-security main' ||
-        refuse 'mmdebstrap failed'
+    rm -rf "$root.new"
+    run_quietly timeout 900 mmdebstrap --variant=minbase --include="$packages" bookworm "$root.new" || exit
     mv "$root.new" "$root"
 fi
 echo "$root"
