@@ -178,6 +178,7 @@ endif
 
 # A program in Rattle, of tools/growth, as a static library.
 out/build/lib%.a: tools/growth/%.rt.txt $(proved_libraries) | out/build
+	@tools/needs.sh growth
 	@$(if $(GATE),,cd crates/termwiz_input && rt lib $(call logged,termwiz_input))
 	@folder=$$(mktemp -d) && trap 'rm -rf "$$folder"' EXIT && mkdir "$$folder/src" && cp $< "$$folder/src/lib.rt" && cd "$$folder" && \
 		{ $(call static_library,$*,termwiz_input,$@); } $(call logged,$*)

@@ -69,7 +69,7 @@ END
 live="{ until grep -q ends /tmp/shown; do sleep 0.2; done; printf '\\033[A'; printf q; } 2> /dev/null |
     script -qefc '$(command_of 'cd rust && cargo run')' /tmp/shown && grep UpArrow /tmp/shown"
 
-page="$(command_of 'v/bin/python -m') > /tmp/address & trap 'kill \$!' EXIT
+page="$(command_of './v/bin/python -m') > /tmp/address & trap 'kill \$!' EXIT
     until grep http /tmp/address; do sleep 0.2; done
     python3 -c 'import fcntl, socket, struct; fcntl.ioctl(socket.socket(), 0x8914, struct.pack(\"16sH22x\", b\"lo\", 1))'
     python3 -c 'import re, urllib.request as web; print(web.urlopen(re.search(\"http\\S*\", open(\"/tmp/address\").read())[0]).read())' |
@@ -92,7 +92,7 @@ check 'cargo test' on_machine "$(command_of 'cd rust && cargo test') 2> /tmp/sai
 check 'pytest' on_machine "$(command_of 'python3 -m pytest')"
 check 'make check' on_machine "$(command_of 'make check')"
 check 'make install' on_machine "make install 2> /tmp/said; cd /tmp && cp ~/hedrugal/c/events.c program.c
-    $(command_of 'cc program.c -l') -o events && LD_LIBRARY_PATH=/usr/local/lib ./events < $events
+    cc program.c \$(pkg-config --cflags --libs hedrugal) -o events && LD_LIBRARY_PATH=/usr/local/lib ./events < $events
     printf '\\033OA' | keyshow | grep -xF 'key ApplicationUpArrow NONE'"
 check 'installed library in Rust' on_machine "cd rust && CARGO_TARGET_DIR=/tmp/installed cargo build 2> /tmp/said && ! grep '$taken' /tmp/said"
 check 'installed library in Python' on_machine "LD_LIBRARY_PATH=/usr/local/lib v/bin/pip wheel -v -w /tmp ./python 2>&1 | grep 'the installed one: /usr/local'"
