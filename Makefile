@@ -76,7 +76,7 @@ prebuilt/%:
 # What is proved. By itself a target is proved and built by rt, over what earlier runs kept in crates/*/out. With GATE it is built over what
 # the running `rt ci` has proved: see the gate, below.
 crate_files := crates.txt $(shell find crates -name out -prune -o -name must-fail -prune -o -type f -print)
-kit = $(shell dirname "$$(rt doc)")
+kit = $(shell dirname "$$(rt doc 2> /dev/null)")
 libraries_of = $(shell sed -nE 's/^$(1)( staticlib)?://p' crates.txt)
 # The words by which rattle finds libraries: those of this repository where rt leaves them, and the kit's.
 rlibs_of = $(if $(wildcard crates/$(1)/src),$(CURDIR)/crates/$(1)/out/rlib,$(kit)/rlibs)
