@@ -49,11 +49,12 @@ clean: ## removes what was built, but for what the prover keeps in crates/*/out
 	rm -rf out hedrugal-keys rust/target rust/serde/target
 
 help: ## prints this
-	@sed -nE 's/^([a-z-]+):[^#]*## (.*)/make \1\t\2/p' Makefile $(wildcard *.mk) | expand -t 22
+	@sed -nE 's/^([a-z0-9-]+):[^#]*## (.*)/make \1\t\2/p' Makefile $(wildcard *.mk) | expand -t 22
 	@echo
 	@echo 'LIBRARY=DIR    a folder with a library that was built from these sources before. Without it rt proves and builds the library,'
 	@echo '               and without rt it is the one that lies in the folder prebuilt'
 	@echo 'KEYSHOW=FILE   a program keyshow that was built before, in place of one that is built likewise'
+	@echo 'RLIBS=DIR      the libraries below the crates hedrugal and keyshow, NAME.rlib, as rt proved them, in place of crates/NAME/out/rlib'
 	@echo 'PREFIX=DIR     where make install puts its files: $(PREFIX)'
 	@echo 'LIBDIR=NAME    the folder of the libraries below the prefix, such as lib64: $(LIBDIR)'
 	@echo 'DESTDIR=DIR    a folder that is put before the prefix, as a package is made'
@@ -78,11 +79,12 @@ prebuilt/%:
 crate_files := crates.txt $(shell find crates -name out -prune -o -name must-fail -prune -o -type f -print)
 kit = $(shell dirname "$$(rt doc 2> /dev/null)")
 libraries_of = $(shell sed -nE 's/^$(1)( staticlib)?://p' crates.txt)
-# The words by which rattle finds libraries: those of this repository where rt leaves them, and the kit's.
-rlibs_of = $(if $(wildcard crates/$(1)/src),$(CURDIR)/crates/$(1)/out/rlib,$(kit)/rlibs)
+# The words by which rattle finds libraries: those of this repository in RLIBS, or where rt leaves them, and the kit's.
+rlibs_of = $(if $(wildcard crates/$(1)/src),$(or $(abspath $(RLIBS)),$(CURDIR)/crates/$(1)/out/rlib),$(kit)/rlibs)
 over = $(foreach it,std $(1),--extern $(it)=$(call rlibs_of,$(it))/$(it).rlib) -L dependency=$(kit)/rlibs \
-	$(patsubst %/src/lib.rt,-L dependency=$(CURDIR)/%/out/rlib,$(filter-out crates/test_%,$(wildcard crates/*/src/lib.rt))) \
+	$(if $(RLIBS),-L dependency=$(abspath $(RLIBS)),$(patsubst %/src/lib.rt,-L dependency=$(CURDIR)/%/out/rlib,$(proved_below))) \
 	--antt-project $(kit)/rattle/logic/antt-project.json --logic-built $(kit)/logic_built --jobs 4 --list-axioms
+proved_below = $(filter-out crates/test_%,$(wildcard crates/*/src/lib.rt))
 # The command that proves a folder's src/lib.rt and writes a static library: NAME,LIBRARIES,FILE
 static_library = rattle build --crate-name $(1) src/lib.rt $(call over,$(2)) --links $(1)= --crate-type staticlib \
 	--toolchain $(kit)/toolchain --backend llvm -o $(abspath $(3))
@@ -107,22 +109,16 @@ out/build/libhedrugal.a: $(proved_libraries) | out/build
 	@tools/gate.sh part library '(cd crates/hedrugal && $(call static_library,hedrugal,$(call libraries_of,hedrugal),$@)) && \
 		tools/axioms.sh hedrugal out/gate/library.log'
 
-out/build/keyshow.log: $(proved_libraries) | out/build
-	@cd crates/keyshow && rattle check --crate-name keyshow src/main.rt $(call over,$(call libraries_of,keyshow)) $(call logged,keyshow)
-
 crates/%/out/keyshow crates/%/out/test_refusals: out/gate/%.proved ;
 else
 proved_libraries := $(crate_files)
 out/build/libhedrugal.a: $(crate_files) | out/build
 	@tools/needs.sh library
 	@echo 'make: proves and builds the crate hedrugal and those below it; out/build/hedrugal.log has what rt prints'
-	@cd crates/hedrugal && rt lib --list-axioms $(call proving,hedrugal)
+	@cd crates/hedrugal && $(if $(RLIBS),{ $(call static_library,hedrugal,$(call libraries_of,hedrugal),$@); },rt lib --list-axioms) \
+		$(call proving,hedrugal)
 	@tools/axioms.sh hedrugal out/build/hedrugal.log
-	@cp crates/hedrugal/out/libhedrugal.a $@
-
-out/build/keyshow.log: $(crate_files) | out/build
-	@tools/needs.sh axioms
-	@cd crates/keyshow && rt check --list-axioms $(call proving,keyshow)
+	@$(if $(RLIBS),,cp crates/hedrugal/out/libhedrugal.a $@)
 
 crates/keyshow/out/keyshow crates/test_refusals/out/test_refusals: $(crate_files) | out/build
 	@tools/needs.sh library
@@ -138,6 +134,10 @@ out/build/hedrugal.o: out/build/libhedrugal.a
 	cd out/build/objects && $(AR) x ../libhedrugal.a && $(AR) x $(kit)/c/liblibc_c.a
 	$(CC) -nostdlib -r -o $@ out/build/objects/*.o
 	$(OBJCOPY) --wildcard --keep-global-symbol='hed_*' $@
+
+# Makes the shared library of an archive: COMPILER
+shared_library = $(1) -shared -Wl,-soname,$(SONAME) -Wl,--version-script=c/hedrugal.map -Wl,-z,now,-z,relro,-z,noexecstack -o $@ \
+	-Wl,--whole-archive $< -Wl,--no-whole-archive && ln -f $@ $(@D)/$(SONAME) && ln -f $@ $(@D)/libhedrugal.so
 
 ifndef LIBRARY
 # Is written anew once the library comes from elsewhere than before.
@@ -155,9 +155,7 @@ endif
 
 # (Its other names are no symbolic links here: rt refuses those in a repository.)
 out/lib/libhedrugal.so.$(VERSION): out/lib/libhedrugal.a c/hedrugal.map | out/lib
-	$(CC) -shared -Wl,-soname,$(SONAME) -Wl,--version-script=c/hedrugal.map -Wl,-z,now,-z,relro,-z,noexecstack -o $@ \
-		-Wl,--whole-archive $< -Wl,--no-whole-archive
-	ln -f $@ out/lib/$(SONAME) && ln -f $@ out/lib/libhedrugal.so
+	$(call shared_library,$(CC))
 
 out/lib/hedrugal.h out/lib/hedrugal.pc: out/lib/%: c/% | out/lib
 	cp $< $@
@@ -246,8 +244,8 @@ uninstall: libdir ## removes these files, and their folders that are left empty,
 include $(wildcard *.mk)
 
 # Tests. Each part by itself is `make check-NAME`; the last line of what it prints counts its cases.
-kit_checks := axioms growth refusals listings
-every_check := lint numbers c rust python programs page install packages clone docs fuzz $(kit_checks)
+kit_checks := axioms growth refusals listings prebuilt
+every_check := lint numbers c c-arm64 rust python programs page install packages clone docs fuzz $(kit_checks)
 # What the tests of a part read.
 export HEDRUGAL_LIBRARY := $(abspath $(lib))
 export HEDRUGAL_KEYS := $(abspath out/bin/hedrugal-keys)
@@ -255,6 +253,8 @@ export HEDRUGAL_KEYS := $(abspath out/bin/hedrugal-keys)
 check-lint := pre-commit run --all-files
 check-numbers := tools/numbers.py --check
 check-c := tools/c_test.sh
+check-c-arm64 := CC=aarch64-linux-gnu-gcc CXX=aarch64-linux-gnu-g++ EMULATOR='qemu-aarch64-static -L /usr/aarch64-linux-gnu' \
+	HEDRUGAL_LIBRARY=$(arm64)/lib tools/c_test.sh
 check-rust := tools/rust_test.sh
 check-python := $(PYTHON) -m pytest python
 check-programs := $(PYTHON) -m pytest $(filter-out tests/test_page%,$(wildcard tests/test_*.py))
@@ -264,16 +264,19 @@ check-packages := tools/package_test.sh
 check-clone := tools/clone_test.sh
 check-docs := tools/docs.sh --library $(lib) --only links,c,rust,rattle,lines
 check-fuzz := tools/fuzz.sh 30
-check-axioms := tools/axioms.sh keyshow out/build/keyshow.log
+check-axioms := tools/axioms.sh keyshow $(processors:%=out/build/keyshow-%.log)
 check-growth := tools/growth.sh out/build/libfeed.a
 check-refusals := tools/refusals.sh
+check-prebuilt := $(MAKE) --silent prebuilt-check
 check-listings := tools/docs.sh --library $(lib) --built --only sh,keyshow
 
 .PHONY: gate-ci gate-library $(foreach it,$(every_check),check-$(it) gate-$(it))
-$(foreach it,$(filter-out lint numbers axioms,$(every_check)),check-$(it) gate-$(it)): all
+$(foreach it,$(filter-out lint numbers axioms c-arm64 prebuilt,$(every_check)),check-$(it) gate-$(it)): all
 check-growth gate-growth: out/build/libfeed.a
 check-refusals gate-refusals: crates/test_refusals/out/test_refusals
-check-axioms gate-axioms: out/build/keyshow.log
+check-axioms gate-axioms: $(processors:%=out/build/%/keyshow.o)
+check-c-arm64 gate-c-arm64: arm64-library
+gate-prebuilt: $(processors:%=out/prebuilt/%-linux/PROVENANCE)
 $(addprefix check-,$(every_check)): check-%:
 	@tools/needs.sh $*
 	@KEYSHOW=$(abspath $(keyshow)) $($@)
@@ -305,13 +308,13 @@ format: ## lays out the sources in C, Rust and Python
 # rattle itself over the libraries that `rt ci` has written to crates/*/out by then, and nothing below it is proved twice. keyshow and the
 # other programs are those that `rt ci` builds. The parts that test them run beside its must-fail edits, to which they are preferred.
 JOBS ?= 6
-gate_parts := ci library lint numbers rust c packages clone programs page docs growth listings refusals python install axioms fuzz
+gate_parts := ci library prebuilt lint numbers c-arm64 rust c packages clone programs page docs growth listings refusals python install axioms fuzz
 gate_checks := $(filter-out ci library,$(gate_parts))
 
 gate: ## proves everything from nothing, tries the must-fail edits, and runs every test
 	@tools/needs.sh all
 	@rm -rf out crates/*/out/rlib
-	@$(MAKE) --no-print-directory -k -j$(JOBS) gate-parts GATE=yes LIBRARY= KEYSHOW= || true
+	@$(MAKE) --no-print-directory -k -j$(JOBS) gate-parts GATE=yes LIBRARY= KEYSHOW= RLIBS= || true
 	@tools/gate.sh table $(gate_parts)
 
 gate-parts: $(addprefix gate-,$(gate_parts))

@@ -1,32 +1,43 @@
 #!/usr/bin/env bash
 # Runs the commands of README.md from a clone, as on a machine with a compiler and nothing of ours: `make check-clone`.
 #
+#     tools/clone_test.sh [amd64 | arm64]
+#
 # The clone has the files that git knows or would add, as they lie here. The machine is the Debian that tools/root.sh makes, without the
-# kit, an installed library or a network. In it each command of README.md is run, and the tests that need no kit. Then faults are made: a
+# kit, an installed library or a network. That for 64-bit ARM is run by qemu, which a namespace of its own calls, so that nothing is left of it.
+# In it each command of README.md is run, and the tests that need no kit. Then faults are made: a
 # damaged or a missing prebuilt library, one of another version or for another processor, and no compiler. Each gets one line that says
 # what is wrong and what to do. The last line is 'N passed, N failed', the status 1 if a case failed.
 . "$(dirname "$0")/common.sh"
 set -u
 export LC_ALL=C.UTF-8
-[ $# = 0 ] || { [ "$1" = --help ] && show_help && exit; refuse_word "$1"; }
+[ "${1-}" != --help ] || { show_help; exit; }
 top=$(realpath -- "$(dirname "$0")/..")
 cd "$top" || exit
-root=$(tools/root.sh) || exit
+processor=${1:-amd64}
+root=$(tools/root.sh "$processor") || exit
 work=$(mktemp -d)
 trap 'rm -rf "$work"' EXIT
-user=(--map-root-user)
-[ "$(id -u)" != 0 ] || user=()
-prebuilt=prebuilt/$(uname -m)-linux
+user=(--map-root-user) machine=$(uname -m)
+case $processor in
+    arm64) machine=aarch64 ;;
+    *) [ "$(id -u)" != 0 ] || user=() ;;
+esac
+prebuilt=prebuilt/$machine-linux
 
 # Runs a script of bash in the clone on that machine, of which it can change /root, /tmp and /usr/local alone.
 on_machine() { # script
     # shellcheck disable=SC2016
-    timeout 600 unshare "${user[@]}" --mount --net --pid --kill-child --fork bash -euc '
+    timeout 3000 unshare "${user[@]}" --mount --net --pid --kill-child --fork bash -euc '
+        if [ "$4" = aarch64 ]; then
+            mount -t binfmt_misc none /proc/sys/fs/binfmt_misc
+            cat /usr/lib/binfmt.d/qemu-aarch64.conf > /proc/sys/fs/binfmt_misc/register
+        fi
         mount --rbind "$1" "$1" && mount -o remount,bind,ro "$1"
         for folder in root tmp usr/local; do mkdir -p "$2/$folder" && mount --bind "$2/$folder" "$1/$folder"; done
         mount -t proc proc "$1/proc" && mount --rbind /dev "$1/dev"
         exec chroot "$1" env -i HOME=/root PATH=/usr/local/bin:/usr/bin:/bin LC_ALL=C.UTF-8 bash -euo pipefail -c "cd /root/hedrugal; $3"
-    ' bash "$root" "$work" "$1" < /dev/null
+    ' bash "$root" "$work" "$1" "$machine" < /dev/null
 }
 
 make_clone() {

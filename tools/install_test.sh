@@ -211,7 +211,7 @@ check 'program with the shared library' check_shared "$stage" lib
 check 'program with the archive' check_static "$stage" lib
 check 'keyshow, as its manual page shows it' check_program keyshow '\033[1;5Az\033'
 check 'hedrugal-keys, as its manual page shows it' check_keys
-for option in -m32 -mx32 -U__linux__; do check "header with $option" check_refused $option; done
+for option in -m32 -mx32 -U__linux__ -D__AARCH64EB__; do check "header with $option" check_refused $option; done
 check 'calls in the manual page' check_calls_page
 check 'example of the manual page' check_example
 check 'manual pages by man' check_by_man

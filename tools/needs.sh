@@ -3,7 +3,7 @@
 #
 #     tools/needs.sh [--install] PART..
 #
-# The part all stands for each of them but performance and terminals. With --install it first installs what Debian has of it, where this user can.
+# The part all stands for each of them but performance, terminals and arm64. With --install it first installs what Debian has of it, where this user can.
 set -eu
 . "$(dirname "$0")/common.sh"
 [ "${1-}" != --help ] || { show_help; exit; }
@@ -16,7 +16,7 @@ look() { # parts..
     local thing package parts part
     lacking='' packages=''
     while read -r thing package parts; do
-        [[ $parts =~ ^(performance|terminals)$ ]] || parts+=' all'
+        [[ $parts =~ ^(performance|terminals|arm64)$ ]] || parts+=' all'
         for part; do
             [[ $thing != '#' && " $parts " == *" $part "* ]] && ! is_there "$thing" || continue
             lacking+=" ${thing##*/}"
