@@ -4,10 +4,10 @@
 #     tools/clone_test.sh [amd64 | arm64]
 #
 # The clone has the files that git knows or would add, as they lie here. The machine is the Debian that tools/root.sh makes, without the
-# kit, an installed library or a network. That for 64-bit ARM is run by qemu, which a namespace of its own calls, so that nothing is left of it.
-# In it each command of README.md is run, and the tests that need no kit. Then faults are made: a
-# damaged or a missing prebuilt library, one of another version or for another processor, and no compiler. Each gets one line that says
-# what is wrong and what to do. The last line is 'N passed, N failed', the status 1 if a case failed.
+# kit, an installed library or a network. That for 64-bit ARM is run by qemu, which a namespace of its own calls, so that nothing is left
+# of it. There each command of README.md is run, and the tests that need no kit. Then faults are made: a damaged or a missing prebuilt
+# library, one of another version, and no compiler. Each gets one line that says what is wrong and what to do. The last line is
+# 'N passed, N failed', the status 1 if a case failed.
 . "$(dirname "$0")/common.sh"
 set -u
 export LC_ALL=C.UTF-8
@@ -18,9 +18,9 @@ processor=${1:-amd64}
 root=$(tools/root.sh "$processor") || exit
 work=$(mktemp -d)
 trap 'rm -rf "$work"' EXIT
-user=(--map-root-user) machine=$(uname -m)
+user=(--map-root-user) machine=$(uname -m) seconds=600
 case $processor in
-    arm64) machine=aarch64 ;;
+    arm64) machine=aarch64 seconds=3000 ;;
     *) [ "$(id -u)" != 0 ] || user=() ;;
 esac
 prebuilt=prebuilt/$machine-linux
@@ -28,7 +28,7 @@ prebuilt=prebuilt/$machine-linux
 # Runs a script of bash in the clone on that machine, of which it can change /root, /tmp and /usr/local alone.
 on_machine() { # script
     # shellcheck disable=SC2016
-    timeout 3000 unshare "${user[@]}" --mount --net --pid --kill-child --fork bash -euc '
+    timeout --signal=KILL "$seconds" unshare "${user[@]}" --mount --net --pid --kill-child --fork bash -euc '
         if [ "$4" = aarch64 ]; then
             mount -t binfmt_misc none /proc/sys/fs/binfmt_misc
             cat /usr/lib/binfmt.d/qemu-aarch64.conf > /proc/sys/fs/binfmt_misc/register
@@ -61,43 +61,42 @@ refused() { # text script commands..
     done
 }
 
+taken="the library is the prebuilt one"
 # What the example in C prints for its bytes.
 # shellcheck disable=SC2034
 events="<(printf '\\033[1;5Aq') | diff - <(printf '%s\\n' 'UpArrow ctrl' 'Char U+0071')"
 
-# A program in Rust with a dependency, that prints two events.
-rust_program() { # name dependency
-    cat << END
-        cargo new --quiet --vcs none /tmp/$1 && cd /tmp/$1 && echo 'hedrugal = $2' >> Cargo.toml
-        printf '%s\n' 'fn main() {' 'for event in hedrugal::input::InputParser::new().parse_as_vec(b"q\x1b[A", true) {' \
-            'println!("{event:?}");' '}}' > src/main.rs
-        CARGO_NET_GIT_FETCH_WITH_CLI=true cargo run > /tmp/printed 2> /tmp/said || { cat /tmp/said; exit 1; }
-        cat /tmp/said; [ "\$(wc -l < /tmp/printed)" = 2 ]
-END
-}
+# A program in Rust beside the clone.
+program="cd; cargo init --quiet --vcs none --name program .
+    echo '$(command_of 'hedrugal = ')' >> Cargo.toml
+    echo 'fn main() { println!(\"{:?}\", hedrugal::input::InputParser::new().parse_as_vec(b\"q\", true)); }' > src/main.rs
+    cargo run 2> /tmp/said | grep -F '[Key(KeyEvent { key: Char('\\''q'\\''), modifiers: ' || { cat /tmp/said; false; }
+    grep '$taken' /tmp/said"
+
+# Waits until a file has a text.
+# shellcheck disable=SC2016
+waits='waits() { timeout 600 bash -c "until grep -qs $1 $2; do sleep 0.2; done"; }'
 
 # Types keys once the example has begun, which is when it says how it ends.
-live="{ until grep -q ends /tmp/shown; do sleep 0.2; done; printf '\\033[A'; printf q; } 2> /dev/null |
-    script -qefc '$(command_of 'cd rust && cargo run')' /tmp/shown && grep UpArrow /tmp/shown"
+live="$waits; { waits ends /tmp/shown; printf '\\033[A'; printf q; } |
+    timeout 600 script -qefc '$(command_of 'cd rust && cargo run')' /tmp/shown && grep UpArrow /tmp/shown"
 
-page="$(command_of './v/bin/python -m') > /tmp/address & trap 'kill \$!' EXIT
-    until grep http /tmp/address; do sleep 0.2; done
+page="$waits; cd /tmp/own; $(command_of './v/bin/python -m') > /tmp/address & trap 'kill \$!' EXIT
+    waits http /tmp/address
     python3 -c 'import fcntl, socket, struct; fcntl.ioctl(socket.socket(), 0x8914, struct.pack(\"16sH22x\", b\"lo\", 1))'
     python3 -c 'import re, urllib.request as web; print(web.urlopen(re.search(\"http\\S*\", open(\"/tmp/address\").read())[0]).read())' |
         grep -i '<title>'"
 
-taken="the library is the prebuilt one"
 parsed="import hedrugal; print(*hedrugal.InputParser().parse(b\"q\"))"
 check 'clone' make_clone
 check 'machine without the kit' on_machine '! command -v rt; [ -e README.md ]'
 check 'hedrugal-keys' on_machine "$(command_of 'make keys') < <(printf '\\033[1;5Az') > /tmp/shown 2> /tmp/said || { cat /tmp/said; false; }
     grep -F 'ESC [ 1 ; 5 A -> key UpArrow CTRL = ctrl+up' /tmp/shown && grep -F 'make: $taken of $prebuilt' /tmp/said"
 check 'a program in C' on_machine "cp c/events.c program.c; $(command_of 'cc program.c'); ./a.out < $events"
-check 'a program in Rust, by path' on_machine "$(rust_program path '{ path = "/root/hedrugal/rust" }') && grep '$taken' /tmp/said"
-check 'a program in Rust, by git' on_machine "$(rust_program git '{ git = "file:///root/hedrugal" }')"
+check 'a program in Rust' on_machine "$program"
 check 'example in Rust' on_machine "$live"
-check 'Python module' on_machine "$(command_of 'python3 -m venv') -v > /tmp/said 2>&1 || { cat /tmp/said; false; }
-    grep -F 'hedrugal: $taken' /tmp/said; cd /; /root/hedrugal/v/bin/python -c '$parsed'"
+check 'Python module' on_machine "git clone -q . /tmp/own; cd /tmp/own; $(command_of 'python3 -m venv') -v > /tmp/said 2>&1 || { cat /tmp/said; false; }
+    grep -F 'hedrugal: $taken' /tmp/said; cd /; /tmp/own/v/bin/python -c '$parsed'"
 check 'page' on_machine "$page"
 check 'cargo test' on_machine "$(command_of 'cd rust && cargo test') 2> /tmp/said || { cat /tmp/said; false; }"
 check 'pytest' on_machine "$(command_of 'python3 -m pytest')"
@@ -106,10 +105,10 @@ check 'make install' on_machine "make install 2> /tmp/said; cd /tmp && cp ~/hedr
     cc program.c \$(pkg-config --cflags --libs hedrugal) -o events && LD_LIBRARY_PATH=/usr/local/lib ./events < $events
     printf '\\033OA' | keyshow | grep -xF 'key ApplicationUpArrow NONE'"
 check 'installed library in Rust' on_machine "cd rust && CARGO_TARGET_DIR=/tmp/installed cargo build 2> /tmp/said && ! grep '$taken' /tmp/said"
-check 'installed library in Python' on_machine "LD_LIBRARY_PATH=/usr/local/lib v/bin/pip wheel -v -w /tmp ./python 2>&1 | grep 'the installed one: /usr/local'"
+check 'installed library in Python' on_machine "cd /tmp/own && LD_LIBRARY_PATH=/usr/local/lib v/bin/pip wheel -v -w /tmp ./python 2>&1 | grep 'the installed one: /usr/local'"
 check 'make uninstall' on_machine "make uninstall && find /usr/local -type f -exec false '{}' +"
 archive=$prebuilt/libhedrugal.a
-pip='/root/hedrugal/v/bin/pip install ./python'
+pip='/tmp/own/v/bin/pip install ./python'
 check 'damaged library' refused "$archive isn't what" "echo damage >> $archive" 'make keys' 'cd rust; cargo build' "$pip"
 check 'no library' refused "there is no $prebuilt" "rm -r $prebuilt" 'make flags' 'cd rust; cargo build' "$pip"
 check 'no compiler' refused "there is no compiler 'none'" 'export CC=none' 'make -e' "$pip"

@@ -63,6 +63,16 @@ rust_finds_prebuilt() {
     rust_finds PKG_CONFIG=false && grep -F 'the library is the prebuilt one' "$work/message"
 }
 
+# A program whose dependency is a repository with the package.
+rust_by_git() {
+    git -C "$work/copy" init --quiet && git -C "$work/copy" add . &&
+        git -C "$work/copy" -c user.name=test -c user.email=test commit --quiet -m 'As it lies here' || return
+    cargo init --quiet --vcs none --name program "$work/program" && echo "hedrugal = { git = \"file://$work/copy\" }" >> "$work/program/Cargo.toml" &&
+        echo 'fn main() { println!("{}", hedrugal::input::InputParser::new().parse_as_vec(b"q", true).len()); }' > "$work/program/src/main.rs" &&
+        env -u HEDRUGAL_LIBRARY CARGO_HOME="$work/home" CARGO_TARGET_DIR="$work/program" PKG_CONFIG=false \
+            cargo run --quiet --manifest-path "$work/program/Cargo.toml" | grep -x 1
+}
+
 # The build stops with a message of two lines, of which the first says this.
 rust_stops() { # text NAME=VALUE..
     if rust_builds "${@:2}"; then return 1; fi
@@ -96,6 +106,7 @@ check 'shared library' rust_finds HEDRUGAL_LIBRARY="$work/shared" LD_LIBRARY_PAT
 check 'pkg-config' rust_finds PKG_CONFIG_PATH="$library"
 check 'pkg-config of the system' rust_finds PKG_CONFIG_PATH="$library" PKG_CONFIG_SYSTEM_LIBRARY_PATH="$library"
 check 'prebuilt library' rust_finds_prebuilt
+check 'package of a repository' rust_by_git
 check 'installed library of another version' rust_stops 'the installed library is of version 9.8.7' PKG_CONFIG_PATH="$work/other"
 check 'named library of another version' rust_stops "$work/other/libhedrugal.a is of version 9.8.7" HEDRUGAL_LIBRARY="$work/other"
 for folder in "$work"/copy/prebuilt/*-linux; do
