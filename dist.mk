@@ -6,7 +6,8 @@ DIST ?= out/dist
 dist: dist-needs all arm64-library ## makes the Debian packages, tarballs, Python wheels and their checksums, for both processors, in the folder DIST
 	@umask 022; work=$$(mktemp -d); trap 'rm -rf "$$work"' EXIT; mkdir "$$work"/{x86_64,aarch64,made}; \
 	processor() { $(MAKE) --silent --no-print-directory dist-processor dist_work="$$work/$$1" dist_made="$$work/made" "$${@:2}"; }; \
-	processor x86_64; processor aarch64 CC=aarch64-linux-gnu-gcc LIBRARY='$(abspath $(arm64)/lib)' KEYSHOW=$(arm64)/bin/keyshow; \
+	processor x86_64 dist_cc='$(CC)' dist_library='$(lib)' dist_keyshow='$(keyshow)'; \
+	processor aarch64 dist_cc=aarch64-linux-gnu-gcc dist_library=$(arm64)/lib dist_keyshow=$(arm64)/bin/keyshow; \
 	$(MAKE) --silent --no-print-directory dist-files dist_made="$$work/made"
 
 dist-needs:
@@ -38,7 +39,9 @@ dist-source:
 
 # What the tarball has. The library and the programs are stripped of what they don't need to be linked or run.
 dist-tree: dist-source
-	$(MAKE) --silent -C $(source) install DESTDIR=$(tree) PREFIX=/ LIBDIR=lib LIBRARY='$(abspath $(lib))' KEYSHOW='$(abspath $(keyshow))' \
+	mkdir $(source)/built
+	cp '$(dist_library)'/{libhedrugal.a,libhedrugal.so.$(VERSION),hedrugal.h,hedrugal.pc} '$(dist_keyshow)' $(source)/built/
+	$(MAKE) --silent -C $(source) install DESTDIR=$(tree) PREFIX=/ LIBDIR=lib LIBRARY=built KEYSHOW=built/keyshow CC='$(dist_cc)' \
 		$(call logged,install)
 	$(processor)-linux-gnu-strip -D --strip-debug --remove-section=.comment $(tree)/lib/libhedrugal.a
 	$(processor)-linux-gnu-strip --strip-unneeded --remove-section=.comment --remove-section=.note $(tree)/lib/libhedrugal.so.$(VERSION) $(tree)/bin/*
@@ -60,9 +63,8 @@ dist-wheel: dist-tree
 # (The variables of this make aren't those of the one in the copy.)
 dist-debs: dist-tree
 	echo 'make: makes the Debian packages for $(processor)'
-	mkdir $(source)/built
-	cp $(tree)/lib/libhedrugal.* $(tree)/include/hedrugal.h c/hedrugal.pc $(tree)/bin/keyshow $(source)/built/
-	cd $(source) && env -u MAKEFLAGS -u MFLAGS -u MAKELEVEL LIBRARY=built KEYSHOW=built/keyshow dpkg-buildpackage \
+	cp $(tree)/lib/libhedrugal.* $(tree)/bin/keyshow $(source)/built/
+	cd $(source) && env -u MAKEFLAGS -u MFLAGS -u MAKELEVEL LIBRARY=built KEYSHOW=built/keyshow CC='$(dist_cc)' dpkg-buildpackage \
 		--host-arch=$(if $(filter aarch64,$(processor)),arm64,amd64) --build=binary --no-sign $(call logged,debs)
 	mv $(dist_work)/*.deb $(dist_made)/
 endif

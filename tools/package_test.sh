@@ -103,14 +103,14 @@ check_files() { # package
         ! dpkg-deb -c "$(package_file "$1")" | grep -v ' root/root '
 }
 
-# What dpkg-shlibdeps says that files need. For ARM, of which it has no list of the C library's symbols, it is what debian/shlibs.local says, if
+# What dpkg-shlibdeps says that files need. For ARM, of which it has no list of the C library's symbols, it is what debian/shlibs.cross says, if
 # that will do.
 dependency_of() { # files..
     if [ "$processor" = x86_64 ]; then
         mkdir -p "$work/source/debian" && printf 'Source: any\n\nPackage: any\nArchitecture: any\n' > "$work/source/debian/control" &&
             (cd "$work/source" && dpkg-shlibdeps -O "$@") | sed 's/^shlibs:Depends=//'
     else
-        [ "$({ echo 2.34; glibc_of "$@"; } | sort -V | tail -n 1)" = 2.34 ] && sed -n 's/^libc 6 //p' debian/shlibs.local
+        [ "$({ echo 2.34; glibc_of "$@"; } | sort -V | tail -n 1)" = 2.34 ] && sed -n 's/^libc 6 //p' debian/shlibs.cross
     fi
 }
 
@@ -223,6 +223,7 @@ make_root() {
     mkdir "$root/var/lib/dpkg"/{info,updates,triggers} && touch "$root/var/lib/dpkg/info/libc6:amd64.list"
     cat > "$work/bin/dpkg" << END
 #!/bin/sh
+[ "\$1" != --print-architecture ] || exec '$(command -v dpkg)' "\$1"
 exec '$(command -v dpkg)' --root='$root' --log=/dev/null --force-not-root,bad-path "\$@" > /dev/null
 END
     chmod +x "$work/bin/dpkg"
