@@ -271,7 +271,7 @@ check-prebuilt := $(MAKE) --silent prebuilt-check
 check-listings := tools/docs.sh --library $(lib) --built --only sh,keyshow
 
 .PHONY: gate-ci gate-library $(foreach it,$(every_check),check-$(it) gate-$(it))
-$(foreach it,$(filter-out lint numbers axioms c-arm64 prebuilt,$(every_check)),check-$(it) gate-$(it)): all
+$(foreach it,$(filter-out lint numbers axioms clone c-arm64 prebuilt,$(every_check)),check-$(it) gate-$(it)): all
 check-growth gate-growth: out/build/libfeed.a
 check-refusals gate-refusals: crates/test_refusals/out/test_refusals
 check-axioms gate-axioms: $(processors:%=out/build/%/keyshow.o)

@@ -82,7 +82,11 @@ def installed_library(_):
     name = ctypes.util.find_library("hedrugal")
     if not name:
         return None
-    ctypes.CDLL(name)
+    try:
+        ctypes.CDLL(name)
+    except OSError:
+        # The compiler finds it, and the loader doesn't before ldconfig was run.
+        return None
     loaded = Path("/proc/self/maps").read_text(encoding="utf-8")
     return Path(re.search(r"/.*/libhedrugal\.so.*", loaded)[0])
 

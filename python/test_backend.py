@@ -108,6 +108,9 @@ def test_what_comes_first(tree):
     assert build(tree, installed=LIBRARY)[1] == [
         f"hedrugal: the library is what make built: {built}"
     ]
+    built.unlink()
+    (said,) = build(tree, installed="libhedrugal.so.none")[1]
+    assert said.startswith("hedrugal: the library is the prebuilt one: ")
 
 
 def test_source_distribution(tree):

@@ -25,7 +25,7 @@ case $processor in
 esac
 prebuilt=prebuilt/$machine-linux
 
-# Runs a script of bash in the clone on that machine, of which it can change /root, /tmp and /usr/local alone.
+# Runs a script of bash in the clone on that machine. It can write to the home folder, to that of temporary files and to /usr/local.
 on_machine() { # script
     # shellcheck disable=SC2016
     timeout --signal=KILL "$seconds" unshare "${user[@]}" --mount --net --pid --kill-child --fork bash -euc '
@@ -55,7 +55,7 @@ command_of() { # words
 refused() { # text script commands..
     local command
     for command in "${@:3}"; do
-        if on_machine "rm -rf /tmp/clone; git clone -q . /tmp/clone; cd /tmp/clone; $2; $command" > "$work/said" 2>&1; then return 1; fi
+        if on_machine "rm -rf /root/clone; git clone -q . /root/clone; cd /root/clone; $2; $command" > "$work/said" 2>&1; then return 1; fi
         cat "$work/said"
         [ "$(grep -E '^ *(make|hedrugal): ' "$work/said" | grep -cF "$1")" = 1 ] || return
     done
@@ -66,49 +66,49 @@ taken="the library is the prebuilt one"
 # shellcheck disable=SC2034
 events="<(printf '\\033[1;5Aq') | diff - <(printf '%s\\n' 'UpArrow ctrl' 'Char U+0071')"
 
-# A program in Rust beside the clone.
-program="cd; cargo init --quiet --vcs none --name program .
+# A program in Rust in whose folder the clone lies.
+program="cargo init --quiet --vcs none ~/program; cd ~/program; ln -s ~/hedrugal .
     echo '$(command_of 'hedrugal = ')' >> Cargo.toml
     echo 'fn main() { println!(\"{:?}\", hedrugal::input::InputParser::new().parse_as_vec(b\"q\", true)); }' > src/main.rs
-    cargo run 2> /tmp/said | grep -F '[Key(KeyEvent { key: Char('\\''q'\\''), modifiers: ' || { cat /tmp/said; false; }
-    grep '$taken' /tmp/said"
+    cargo run 2> ~/said | grep -F '[Key(KeyEvent { key: Char('\\''q'\\''), modifiers: ' || { cat ~/said; false; }
+    grep '$taken' ~/said"
 
 # Waits until a file has a text.
 # shellcheck disable=SC2016
 waits='waits() { timeout 600 bash -c "until grep -qs $1 $2; do sleep 0.2; done"; }'
 
 # Types keys once the example has begun, which is when it says how it ends.
-live="$waits; { waits ends /tmp/shown; printf '\\033[A'; printf q; } |
-    timeout 600 script -qefc '$(command_of 'cd rust && cargo run')' /tmp/shown && grep UpArrow /tmp/shown"
+live="$waits; { waits ends ~/shown; printf '\\033[A'; printf q; } |
+    timeout 600 script -qefc '$(command_of 'cd rust && cargo run')' ~/shown && grep UpArrow ~/shown"
 
-page="$waits; cd /tmp/own; $(command_of './v/bin/python -m') > /tmp/address & trap 'kill \$!' EXIT
-    waits http /tmp/address
+page="$waits; cd /root/own; $(command_of './v/bin/python -m') > /root/address & trap 'kill \$!' EXIT
+    waits http /root/address
     python3 -c 'import fcntl, socket, struct; fcntl.ioctl(socket.socket(), 0x8914, struct.pack(\"16sH22x\", b\"lo\", 1))'
-    python3 -c 'import re, urllib.request as web; print(web.urlopen(re.search(\"http\\S*\", open(\"/tmp/address\").read())[0]).read())' |
+    python3 -c 'import re, urllib.request as web; print(web.urlopen(re.search(\"http\\S*\", open(\"/root/address\").read())[0]).read())' |
         grep -i '<title>'"
 
 parsed="import hedrugal; print(*hedrugal.InputParser().parse(b\"q\"))"
 check 'clone' make_clone
 check 'machine without the kit' on_machine '! command -v rt; [ -e README.md ]'
-check 'hedrugal-keys' on_machine "$(command_of 'make keys') < <(printf '\\033[1;5Az') > /tmp/shown 2> /tmp/said || { cat /tmp/said; false; }
-    grep -F 'ESC [ 1 ; 5 A -> key UpArrow CTRL = ctrl+up' /tmp/shown && grep -F 'make: $taken of $prebuilt' /tmp/said"
+check 'hedrugal-keys' on_machine "{ $(command_of 'make keys') < <(printf '\\033[1;5Az'); } > ~/shown 2>&1 || { cat ~/shown; false; }
+    grep -F 'ESC [ 1 ; 5 A -> key UpArrow CTRL = ctrl+up' ~/shown && grep -xF 'make: $taken of $prebuilt' ~/shown"
 check 'a program in C' on_machine "cp c/events.c program.c; $(command_of 'cc program.c'); ./a.out < $events"
 check 'a program in Rust' on_machine "$program"
 check 'example in Rust' on_machine "$live"
-check 'Python module' on_machine "git clone -q . /tmp/own; cd /tmp/own; $(command_of 'python3 -m venv') -v > /tmp/said 2>&1 || { cat /tmp/said; false; }
-    grep -F 'hedrugal: $taken' /tmp/said; cd /; /tmp/own/v/bin/python -c '$parsed'"
+check 'Python module' on_machine "git clone -q . /root/own; cd /root/own; $(command_of 'python3 -m venv') -v > ~/said 2>&1 || { cat ~/said; false; }
+    grep -F 'hedrugal: $taken' ~/said; cd /; /root/own/v/bin/python -c '$parsed'"
 check 'page' on_machine "$page"
-check 'cargo test' on_machine "$(command_of 'cd rust && cargo test') 2> /tmp/said || { cat /tmp/said; false; }"
+check 'cargo test' on_machine "$(command_of 'cd rust && cargo test') 2> ~/said || { cat ~/said; false; }"
 check 'pytest' on_machine "$(command_of 'python3 -m pytest')"
 check 'make check' on_machine "$(command_of 'make check')"
-check 'make install' on_machine "make install 2> /tmp/said; cd /tmp && cp ~/hedrugal/c/events.c program.c
+check 'make install' on_machine "make install 2> ~/said; cd && cp ~/hedrugal/c/events.c program.c
     cc program.c \$(pkg-config --cflags --libs hedrugal) -o events && LD_LIBRARY_PATH=/usr/local/lib ./events < $events
     printf '\\033OA' | keyshow | grep -xF 'key ApplicationUpArrow NONE'"
-check 'installed library in Rust' on_machine "cd rust && CARGO_TARGET_DIR=/tmp/installed cargo build 2> /tmp/said && ! grep '$taken' /tmp/said"
-check 'installed library in Python' on_machine "cd /tmp/own && LD_LIBRARY_PATH=/usr/local/lib v/bin/pip wheel -v -w /tmp ./python 2>&1 | grep 'the installed one: /usr/local'"
+check 'installed library in Rust' on_machine "cd rust && CARGO_TARGET_DIR=~/installed cargo build 2> ~/said && ! grep '$taken' ~/said"
+check 'installed library in Python' on_machine "cd /root/own && LD_LIBRARY_PATH=/usr/local/lib v/bin/pip wheel -v -w ~ ./python 2>&1 | grep 'the installed one: /usr/local'"
 check 'make uninstall' on_machine "make uninstall && find /usr/local -type f -exec false '{}' +"
 archive=$prebuilt/libhedrugal.a
-pip='/tmp/own/v/bin/pip install ./python'
+pip='/root/own/v/bin/pip install ./python'
 check 'damaged library' refused "$archive isn't what" "echo damage >> $archive" 'make keys' 'cd rust; cargo build' "$pip"
 check 'no library' refused "there is no $prebuilt" "rm -r $prebuilt" 'make flags' 'cd rust; cargo build' "$pip"
 check 'no compiler' refused "there is no compiler 'none'" 'export CC=none' 'make -e' "$pip"

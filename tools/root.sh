@@ -16,8 +16,7 @@ esac
 need mmdebstrap mmdebstrap
 
 debian=http://deb.debian.org
-packages=gcc,libc6-dev,make,git,cargo-web,python3,python3-venv,python3-pytest,g++,pkg-config
-[ "$processor" = arm64 ] || packages+=,valgrind
+packages=gcc,libc6-dev,make,git,cargo-web,python3,python3-venv,python3-pytest,pkg-config
 cache=${XDG_CACHE_HOME:-$HOME/.cache}/hedrugal
 mkdir -p "$cache"
 exec 3> "$cache/lock" && flock 3
@@ -44,7 +43,7 @@ make_root() { # folder
 set_up() { # folder
     local names
     mkdir -p "$1/usr/local"
-    for names in 'gcc cc' 'g++ c++' 'mawk awk'; do ln -s "${names% *}" "$1/usr/bin/${names#* }"; done
+    for names in 'gcc cc' 'mawk awk'; do ln -s "${names% *}" "$1/usr/bin/${names#* }"; done
     for names in passwd group; do cp "$1/usr/share/base-passwd/$names.master" "$1/etc/$names"; done
 }
 
