@@ -57,11 +57,12 @@ prebuilt_crates = $(shell tac crates.txt | awk -F '[: ]+' \
 prebuilt_sources = crates.txt $(if $(filter aarch64,$(1)),c/kit) $(wildcard $(foreach it,$(prebuilt_crates),$(addprefix crates/$(it)/,src specs proofs)))
 # The line by which rattle ends a log, but for the words on what it reads without checking it again. A missing log has none.
 verdict = $$(sed -n 's/^\(logic=proved .* sum=[0-9a-f]*\).*/\1/p' $(1) 2> /dev/null | tail -n 1)
+library_logs = $(if $(filter x86_64,$*),out/gate/library.log out/build/hedrugal.log,out/build/hedrugal-$*.log)
 
 out/prebuilt/%-linux/PROVENANCE: out/prebuilt/%-linux/libhedrugal.a out/prebuilt/%-linux/keyshow.o
 	@{ echo 'library: $(VERSION)'; \
 	  echo "kit: $$(rt version)"; \
-	  echo "proof of the crate hedrugal: $(call verdict,$(if $(filter x86_64,$*),out/gate/library.log out/build/hedrugal.log,out/build/hedrugal-$*.log))"; \
+	  echo "proof of the crate hedrugal: $(call verdict,$(library_logs))"; \
 	  echo "proof of the crate keyshow: $(call verdict,out/build/keyshow-$*.log)"; \
 	  echo "joined by: $$($*-linux-gnu-gcc --version | head -n 1), $$($*-linux-gnu-ld --version | head -n 1)"; \
 	  echo "sources: $$(find $(call prebuilt_sources,$*) -type f | sort | xargs sha256sum | sha256sum | cut -d ' ' -f 1)"; \

@@ -2,13 +2,14 @@
 # Tests what `make dist` makes, as on a machine without the Rattle kit: `make check-packages`. HEDRUGAL_LIBRARY names the library's folder,
 # else it is out/lib; KEYSHOW names the program, else it is out/bin/keyshow.
 #
-# The packages for both processors are made twice, from two folders, and have to be the same bytes. lintian has to find nothing in the Debian packages but what
-# debian/*.lintian-overrides explain. Their files, fields and exported calls have to be those that are expected.
+# The packages for both processors are made twice, from two folders, and have to be the same bytes. lintian has to find nothing in the
+# Debian packages but what debian/*.lintian-overrides explain. Their files, fields and exported calls have to be those that are expected.
 #
-# Then the listings of docs/packages.md are run, for x86-64 alone, where no program finds the kit: rt isn't on the path, and the folders of the kit and of this
-# repository are empty, if the system lets a program have such a view of them. The Debian packages are installed by dpkg in a folder in
-# place of the system's root, the tarball is unpacked in a folder whose name has a space, and the wheel is installed in a virtual
-# environment. At last dpkg has to remove all that it installed. The last line is 'N passed, N failed', the status 1 if a case failed.
+# Then the listings of docs/packages.md are run, for x86-64 alone, where no program finds the kit: rt isn't on the path, and the folders of
+# the kit and of this repository are empty, if the system lets a program have such a view of them. The Debian packages are installed by
+# dpkg in a folder in place of the system's root, the tarball is unpacked in a folder whose name has a space, and the wheel is installed in
+# a virtual environment. At last dpkg has to remove all that it installed. The last line is 'N passed, N failed', the status 1 if a case
+# failed.
 . "$(dirname "$0")/common.sh"
 start_cases "$@"
 want_keyshow
