@@ -24,24 +24,37 @@ open := (
 CALLS := $(shell sed -nE 's/^[a-z].*[ *](hed_[a-z_]+)\$(open).*$$/\1/p' c/hedrugal.h)
 SONAME := libhedrugal.so.$(firstword $(subst ., ,$(VERSION)))
 
-# A library and a program that were built before are taken where they are, and rt isn't needed.
+# The library is that of LIBRARY, else what rt makes of these sources, and without rt the prebuilt one for the processor of CC. keyshow
+# is likewise that of KEYSHOW, or what rt makes, or linked from a prebuilt object.
+has_rt := $(shell command -v rt)
+platform := $(subst -, ,$(shell $(CC) -dumpmachine 2> /dev/null))
+prebuilt := prebuilt/$(firstword $(platform))-$(filter linux,$(platform))
+origin := $(if $(has_rt),what rt proved and built,the prebuilt one of $(prebuilt))
 lib := $(or $(LIBRARY),out/lib)
 keyshow := $(or $(KEYSHOW),out/bin/keyshow)
 library_files := $(addprefix $(lib)/,libhedrugal.a libhedrugal.so.$(VERSION) hedrugal.h hedrugal.pc hedrugal_terminal.h hedrugal_terminal.c)
 
-.PHONY: all library clean help libdir install uninstall check lint format gate gate-parts
+.PHONY: all library keys flags clean help libdir install uninstall check lint format gate gate-parts FORCE
 all: library $(keyshow) out/bin/hedrugal-keys ## builds the library and the programs, in out/lib and out/bin; what needs a proof is proved
 
 library: $(library_files) ## builds the library alone
+	@$(if $(LIBRARY),,echo 'make: the library is $(origin)' >&2)
+
+keys: library hedrugal-keys ## builds the program ./hedrugal-keys, which shows what the keys of a terminal send
+
+flags: library ## prints what to add to a command that compiles a program in C: cc program.c $(make -s flags)
+	@printf '%q %q\n' '-I$(abspath $(lib))' '$(abspath $(lib)/libhedrugal.a)'
 
 clean: ## removes what was built, but for what the prover keeps in crates/*/out
-	rm -rf out rust/target rust/serde/target
+	rm -rf out hedrugal-keys rust/target rust/serde/target
 
 help: ## prints this
-	@sed -nE 's/^([a-z-]+):[^#]*## (.*)/make \1\t\2/p' Makefile $(wildcard *.mk) | expand -t 22
+	@sed -nE 's/^([a-z0-9-]+):[^#]*## (.*)/make \1\t\2/p' Makefile $(wildcard *.mk) | expand -t 22
 	@echo
-	@echo 'LIBRARY=DIR    a folder with a library that was built from these sources before, in place of out/lib'
-	@echo 'KEYSHOW=FILE   a program keyshow that was built before; with both no target but gate needs rt'
+	@echo 'LIBRARY=DIR    a folder with a library that was built from these sources before. Without it rt proves and builds the library,'
+	@echo '               and without rt it is the one that lies in the folder prebuilt'
+	@echo 'KEYSHOW=FILE   a program keyshow that was built before, in place of one that is built likewise'
+	@echo 'RLIBS=DIR      the libraries below the crates hedrugal and keyshow, NAME.rlib, as rt proved them, in place of crates/NAME/out/rlib'
 	@echo 'PREFIX=DIR     where make install puts its files: $(PREFIX)'
 	@echo 'LIBDIR=NAME    the folder of the libraries below the prefix, such as lib64: $(LIBDIR)'
 	@echo 'DESTDIR=DIR    a folder that is put before the prefix, as a package is made'
@@ -50,22 +63,38 @@ help: ## prints this
 out/build out/lib out/bin:
 	@mkdir -p $@
 
+# What lies in the folder prebuilt, if it is what PROVENANCE there says.
+check_prebuilt = (cd $(<D) && sed -n 's/^sha256 $(<F): \(.*\)/\1  $(<F)/p' PROVENANCE | sha256sum --check --status) 2> /dev/null || \
+	{ echo "make: $< isn't what $(<D)/PROVENANCE says: get that folder again, as by git checkout $(<D)" >&2; exit 1; }
+ifdef platform
+lacking = there is no $@: name a library by LIBRARY, or put rt of the Rattle kit on the path
+else
+lacking = there is no compiler '$(CC)': install gcc, or name another by CC
+endif
+prebuilt/%:
+	@echo "make: $(lacking)" >&2; exit 1
+
 # What is proved. By itself a target is proved and built by rt, over what earlier runs kept in crates/*/out. With GATE it is built over what
 # the running `rt ci` has proved: see the gate, below.
 crate_files := crates.txt $(shell find crates -name out -prune -o -name must-fail -prune -o -type f -print)
-kit = $(shell dirname "$$(rt doc)")
+kit = $(shell dirname "$$(rt doc 2> /dev/null)")
 libraries_of = $(shell sed -nE 's/^$(1)( staticlib)?://p' crates.txt)
-# The words by which rattle finds libraries: those of this repository where rt leaves them, and the kit's.
-rlibs_of = $(if $(wildcard crates/$(1)/src),$(CURDIR)/crates/$(1)/out/rlib,$(kit)/rlibs)
+# The words by which rattle finds libraries: those of this repository in RLIBS, or where rt leaves them, and the kit's.
+rlibs_of = $(if $(wildcard crates/$(1)/src),$(or $(abspath $(RLIBS)),$(CURDIR)/crates/$(1)/out/rlib),$(kit)/rlibs)
 over = $(foreach it,std $(1),--extern $(it)=$(call rlibs_of,$(it))/$(it).rlib) -L dependency=$(kit)/rlibs \
-	$(patsubst %/src/lib.rt,-L dependency=$(CURDIR)/%/out/rlib,$(filter-out crates/test_%,$(wildcard crates/*/src/lib.rt))) \
+	$(if $(RLIBS),-L dependency=$(abspath $(RLIBS)),$(patsubst %/src/lib.rt,-L dependency=$(CURDIR)/%/out/rlib,$(proved_below))) \
 	--antt-project $(kit)/rattle/logic/antt-project.json --logic-built $(kit)/logic_built --jobs 4 --list-axioms
+proved_below = $(filter-out crates/test_%,$(wildcard crates/*/src/lib.rt))
 # The command that proves a folder's src/lib.rt and writes a static library: NAME,LIBRARIES,FILE
 static_library = rattle build --crate-name $(1) src/lib.rt $(call over,$(2)) --links $(1)= --crate-type staticlib \
 	--toolchain $(kit)/toolchain --backend llvm -o $(abspath $(3))
 # Keeps what a command prints in a file of out/build, or of the folder in which packages are made, and shows it if the command fails.
 logged = > $(abspath $(log_folder)/$(1).log) 2>&1 || { cat $(abspath $(log_folder)/$(1).log) >&2; exit 1; }
 log_folder = $(or $(dist_work),out/build)
+# Keeps what rt prints there. Each crate is shown as rt comes to it, and if rt fails, all but the lines of what is proved.
+proving = 2>&1 | tee $(abspath out/build/$(1).log) | awk '/: proved$$/ { split($$2, path, ":") } \
+	path[1] != crate { crate = path[1]; print "make: proves " crate; fflush() }' || \
+	{ grep -v ': proved$$' $(abspath out/build/$(1).log) >&2; exit 1; }
 
 ifdef GATE
 # (A wait takes no processor, and one of the JOBS.)
@@ -80,27 +109,21 @@ out/build/libhedrugal.a: $(proved_libraries) | out/build
 	@tools/gate.sh part library '(cd crates/hedrugal && $(call static_library,hedrugal,$(call libraries_of,hedrugal),$@)) && \
 		tools/axioms.sh hedrugal out/gate/library.log'
 
-out/build/keyshow.log: $(proved_libraries) | out/build
-	@cd crates/keyshow && rattle check --crate-name keyshow src/main.rt $(call over,$(call libraries_of,keyshow)) $(call logged,keyshow)
-
 crates/%/out/keyshow crates/%/out/test_refusals: out/gate/%.proved ;
 else
 proved_libraries := $(crate_files)
 out/build/libhedrugal.a: $(crate_files) | out/build
 	@tools/needs.sh library
-	@echo 'make: proves and builds the crate hedrugal and those below it; out/build/hedrugal.log shows how far it is'
-	@cd crates/hedrugal && rt lib --list-axioms $(call logged,hedrugal)
+	@echo 'make: proves and builds the crate hedrugal and those below it; out/build/hedrugal.log has what rt prints'
+	@cd crates/hedrugal && $(if $(RLIBS),{ $(call static_library,hedrugal,$(call libraries_of,hedrugal),$@); },rt lib --list-axioms) \
+		$(call proving,hedrugal)
 	@tools/axioms.sh hedrugal out/build/hedrugal.log
-	@cp crates/hedrugal/out/libhedrugal.a $@
-
-out/build/keyshow.log: $(crate_files) | out/build
-	@tools/needs.sh axioms
-	@cd crates/keyshow && rt check --list-axioms $(call logged,keyshow)
+	@$(if $(RLIBS),,cp crates/hedrugal/out/libhedrugal.a $@)
 
 crates/keyshow/out/keyshow crates/test_refusals/out/test_refusals: $(crate_files) | out/build
 	@tools/needs.sh library
-	@echo 'make: proves and builds the crate $(@F) and those below it; out/build/$(@F).log shows how far it is'
-	@cd crates/$(@F) && rm -f out/$(@F) && { rt run < /dev/null || [ -x out/$(@F) ]; } $(call logged,$(@F))
+	@echo 'make: proves and builds the crate $(@F) and those below it; out/build/$(@F).log has what rt prints'
+	@cd crates/$(@F) && rm -f out/$(@F) && { rt run < /dev/null || [ -x out/$(@F) ]; } $(call proving,$(@F))
 	@touch $@
 endif
 
@@ -112,14 +135,27 @@ out/build/hedrugal.o: out/build/libhedrugal.a
 	$(CC) -nostdlib -r -o $@ out/build/objects/*.o
 	$(OBJCOPY) --wildcard --keep-global-symbol='hed_*' $@
 
+# Makes the shared library of an archive: COMPILER
+shared_library = $(1) -shared -Wl,-soname,$(SONAME) -Wl,--version-script=c/hedrugal.map -Wl,-z,now,-z,relro,-z,noexecstack -o $@ \
+	-Wl,--whole-archive $< -Wl,--no-whole-archive && ln -f $@ $(@D)/$(SONAME) && ln -f $@ $(@D)/libhedrugal.so
+
 ifndef LIBRARY
-out/lib/libhedrugal.a: out/build/hedrugal.o | out/lib
+# Is written anew once the library comes from elsewhere than before.
+out/build/origin: FORCE | out/build
+	@echo '$(origin)' | cmp -s - $@ || echo '$(origin)' > $@
+
+ifdef has_rt
+out/lib/libhedrugal.a: out/build/hedrugal.o out/build/origin | out/lib
 	rm -f $@ && $(AR) rcs $@ $<
+else
+out/lib/libhedrugal.a: $(prebuilt)/libhedrugal.a out/build/origin | out/lib
+	@$(check_prebuilt)
+	cp $< $@
+endif
 
 # (Its other names are no symbolic links here: rt refuses those in a repository.)
-out/lib/libhedrugal.so.$(VERSION): out/build/hedrugal.o c/hedrugal.map | out/lib
-	$(CC) -shared -Wl,-soname,$(SONAME) -Wl,--version-script=c/hedrugal.map -Wl,-z,now,-z,relro,-z,noexecstack -o $@ $<
-	ln -f $@ out/lib/$(SONAME) && ln -f $@ out/lib/libhedrugal.so
+out/lib/libhedrugal.so.$(VERSION): out/lib/libhedrugal.a c/hedrugal.map | out/lib
+	$(call shared_library,$(CC))
 
 out/lib/hedrugal.h out/lib/hedrugal.pc out/lib/hedrugal_terminal.h out/lib/hedrugal_terminal.c: out/lib/%: c/% | out/lib
 	cp $< $@
@@ -129,16 +165,33 @@ $(library_files):
 ifneq ($(strip $(foreach it,hedrugal.h hedrugal.pc,$(shell [ ! -e $(lib)/$(it) ] || cmp $(lib)/$(it) c/$(it) 2>&1))),)
 $(error the library in '$(lib)' was built from other sources: its header or hedrugal.pc is another)
 endif
+# (The header of an ELF file has its processor by number.)
+elf_x86_64 := 62
+elf_aarch64 := 183
+number := $(if $(platform),$(shell od -An -tu2 -j18 -N2 $(lib)/libhedrugal.so.$(VERSION) 2> /dev/null))
+ifneq ($(filter-out $(elf_$(firstword $(platform))),$(number)),)
+$(error the library in '$(lib)' is for another processor than '$(CC)' compiles for)
+endif
 endif
 
 # A program in Rattle, of tools/growth, as a static library.
 out/build/lib%.a: tools/growth/%.rt.txt $(proved_libraries) | out/build
+	@tools/needs.sh growth
 	@$(if $(GATE),,cd crates/termwiz_input && rt lib $(call logged,termwiz_input))
 	@folder=$$(mktemp -d) && trap 'rm -rf "$$folder"' EXIT && mkdir "$$folder/src" && cp $< "$$folder/src/lib.rt" && cd "$$folder" && \
 		{ $(call static_library,$*,termwiz_input,$@); } $(call logged,$*)
 
 # The programs.
+ifdef has_rt
 out/bin/keyshow: crates/keyshow/out/keyshow | out/bin
+	cp $< $@
+else
+out/bin/keyshow: $(prebuilt)/keyshow.o | out/bin
+	@$(check_prebuilt)
+	$(CC) $(LDFLAGS) -o $@ $<
+endif
+
+hedrugal-keys: out/bin/hedrugal-keys
 	cp $< $@
 
 out/bin/hedrugal-keys: $(wildcard keys/*.[ch] c/hedrugal_terminal.[ch] c/name_errors.h) $(lib)/libhedrugal.a | out/bin
@@ -195,9 +248,8 @@ uninstall: libdir ## removes these files, and their folders that are left empty,
 include $(wildcard *.mk)
 
 # Tests. Each part by itself is `make check-NAME`; the last line of what it prints counts its cases.
-CHECKS ?= $(filter-out $(kit_checks),$(every_check))
-kit_checks := axioms growth refusals listings
-every_check := lint numbers c rust python programs page install packages docs fuzz $(kit_checks)
+kit_checks := axioms growth refusals listings prebuilt
+every_check := lint numbers c c-arm64 rust python programs page install packages clone docs fuzz $(kit_checks)
 # What the tests of a part read.
 export HEDRUGAL_LIBRARY := $(abspath $(lib))
 export HEDRUGAL_KEYS := $(abspath out/bin/hedrugal-keys)
@@ -205,36 +257,46 @@ export HEDRUGAL_KEYS := $(abspath out/bin/hedrugal-keys)
 check-lint := pre-commit run --all-files
 check-numbers := tools/numbers.py --check
 check-c := tools/c_test.sh
+check-c-arm64 := CC=aarch64-linux-gnu-gcc CXX=aarch64-linux-gnu-g++ EMULATOR='qemu-aarch64-static -L /usr/aarch64-linux-gnu' \
+	HEDRUGAL_LIBRARY=$(arm64)/lib tools/c_test.sh
 check-rust := tools/rust_test.sh
 check-python := $(PYTHON) -m pytest python
 check-programs := $(PYTHON) -m pytest $(filter-out tests/test_page%,$(wildcard tests/test_*.py))
 check-page := $(PYTHON) -m pytest $(wildcard tests/test_page*.py)
 check-install := tools/install_test.sh
 check-packages := tools/package_test.sh
+check-clone := tools/clone_test.sh
 check-docs := tools/docs.sh --library $(lib) --only links,c,rust,rattle,lines
 check-fuzz := tools/fuzz.sh 30
-check-axioms := tools/axioms.sh keyshow out/build/keyshow.log
+check-axioms := tools/axioms.sh keyshow $(processors:%=out/build/keyshow-%.log)
 check-growth := tools/growth.sh out/build/libfeed.a
 check-refusals := tools/refusals.sh
+check-prebuilt := $(MAKE) --silent prebuilt-check
 check-listings := tools/docs.sh --library $(lib) --built --only sh,keyshow
 
 .PHONY: gate-ci gate-library $(foreach it,$(every_check),check-$(it) gate-$(it))
-$(foreach it,$(filter-out lint numbers axioms,$(every_check)),check-$(it) gate-$(it)): all
+$(foreach it,$(filter-out lint numbers axioms clone c-arm64 prebuilt,$(every_check)),check-$(it) gate-$(it)): all
 check-growth gate-growth: out/build/libfeed.a
 check-refusals gate-refusals: crates/test_refusals/out/test_refusals
-check-axioms gate-axioms: out/build/keyshow.log
+check-axioms gate-axioms: $(processors:%=out/build/%/keyshow.o)
+check-c-arm64 gate-c-arm64: arm64-library
+gate-prebuilt: $(processors:%=out/prebuilt/%-linux/PROVENANCE)
 $(addprefix check-,$(every_check)): check-%:
 	@tools/needs.sh $*
 	@KEYSHOW=$(abspath $(keyshow)) $($@)
 
-# A part that was left out is named.
+# A part that was left out is named. Unless CHECKS names parts, those are left out too whose tools aren't there.
 check: all ## runs the tests that need no kit; CHECKS="c rust" names the parts, of which check-NAME is one alone
 	@rm -rf out/gate
-	@for part in $(CHECKS); do \
+	@run=() left=(); \
+	for part in $(or $(CHECKS),$(every_check)); do \
+	  if $(if $(CHECKS),true,[[ ' $(kit_checks) ' != *" $$part "* ]] && tools/needs.sh "$$part"); then run+=("$$part"); else left+=("$$part"); fi; \
+	done; \
+	for part in "$${run[@]}"; do \
 	  tools/gate.sh part "$$part" "make -s check-$$part LIBRARY='$(lib)' KEYSHOW='$(keyshow)'" || true; \
-	done
-	@$(if $(filter-out $(CHECKS),$(every_check)),echo 'check: left out: $(filter-out $(CHECKS),$(every_check))')
-	@tools/gate.sh table $(CHECKS)
+	done; \
+	[ $${#left[@]} = 0 ] || echo "check: left out: $${left[*]}"; \
+	tools/gate.sh table "$${run[@]}"
 
 lint: check-lint ## checks the layout of the sources in C, Rust and Python, and runs flake8 and shellcheck
 
@@ -250,13 +312,13 @@ format: ## lays out the sources in C, Rust and Python
 # rattle itself over the libraries that `rt ci` has written to crates/*/out by then, and nothing below it is proved twice. keyshow and the
 # other programs are those that `rt ci` builds. The parts that test them run beside its must-fail edits, to which they are preferred.
 JOBS ?= 6
-gate_parts := ci library lint numbers rust c packages programs page docs growth listings refusals python install axioms fuzz
+gate_parts := ci library prebuilt lint numbers c-arm64 rust c packages clone programs page docs growth listings refusals python install axioms fuzz
 gate_checks := $(filter-out ci library,$(gate_parts))
 
 gate: ## proves everything from nothing, tries the must-fail edits, and runs every test
 	@tools/needs.sh all
 	@rm -rf out crates/*/out/rlib
-	@$(MAKE) --no-print-directory -k -j$(JOBS) gate-parts GATE=yes LIBRARY= KEYSHOW= || true
+	@$(MAKE) --no-print-directory -k -j$(JOBS) gate-parts GATE=yes LIBRARY= KEYSHOW= RLIBS= || true
 	@tools/gate.sh table $(gate_parts)
 
 gate-parts: $(addprefix gate-,$(gate_parts))

@@ -40,13 +40,13 @@
  * table. What a parser or a map owns it gets from malloc and realloc, and hed_parser_free, hed_extended_free, hed_keymap_free or
  * hed_bindings_free frees it. That what it owns may pass from thread to thread is proved.
  *
- * The library is built for Linux on x86-64, and so are its layouts: for anything else this header doesn't compile. The numbers are those
- * of c/numbers.txt, and a number never changes its meaning. */
+ * The library is built for Linux on x86-64 and on 64-bit ARM, and so are its layouts: for anything else this header doesn't compile. The
+ * numbers are those of c/numbers.txt, and a number never changes its meaning. */
 #ifndef HEDRUGAL_H
 #define HEDRUGAL_H
 
-#if !defined(__linux__) || !defined(__x86_64__) || defined(__ILP32__)
-#error "hedrugal.h: the library is built for Linux on x86-64 with 64-bit pointers alone, and this compiler builds for something else"
+#if !defined(__linux__) || !(defined(__x86_64__) || defined(__aarch64__)) || defined(__ILP32__) || defined(__AARCH64EB__)
+#error "hedrugal.h: the library is built for Linux on x86-64 and on little-endian 64-bit ARM, and this compiler builds for something else"
 #endif
 
 #include <stdbool.h>

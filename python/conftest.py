@@ -1,15 +1,23 @@
-"""Fixtures of the tests, which run by pytest over the library that HEDRUGAL_LIBRARY names.
+"""Fixtures of the tests, which run by pytest over the library that backend.py would take: the one
+that HEDRUGAL_LIBRARY names, or the one that make built, or an installed or the prebuilt one.
 
-    HEDRUGAL_LIBRARY=DIR python3 -m pytest python"""
+    python3 -m pytest python"""
+import os
 import sys
+import tempfile
 
 import pytest
 
 sys.dont_write_bytecode = True
 pytest.register_assert_rewrite("helpers")
+# Where the prebuilt library is linked. The folder is removed as Python ends.
+WORK = tempfile.TemporaryDirectory()
 try:
+    import backend
+
+    os.environ["HEDRUGAL_LIBRARY"] = str(backend.shared_library(WORK.name)[0])
     import hedrugal
-except ImportError as error:
+except (ImportError, SystemExit) as error:
     pytest.exit(f"the tests can't start: {error}", returncode=2)
 
 

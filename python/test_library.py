@@ -283,10 +283,12 @@ def test_another_version(tmp_path):
 @pytest.mark.parametrize(
     "before",
     [
-        "import platform\nplatform.machine = lambda: 'aarch64'\n",
+        "import platform\nplatform.machine = lambda: 'riscv64'\n",
         "import ctypes.util, sys\nsys.platform = 'darwin'\n",
         "import ctypes\nctypes.sizeof = lambda _, size=ctypes.sizeof: size(ctypes.c_uint32)\n",
     ],
 )
 def test_another_processor(before):
-    assert_message(import_it({"HEDRUGAL_LIBRARY": LIBRARY}, before=before), "x86-64 Linux")
+    assert_message(
+        import_it({"HEDRUGAL_LIBRARY": LIBRARY}, before=before), "Linux on x86-64 and 64-bit ARM"
+    )

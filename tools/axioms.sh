@@ -1,19 +1,19 @@
 #!/usr/bin/env bash
 # Compares the C functions on whose contracts the proof of a crate rests with those that docs/VERIFICATION.md lists as trusted.
 #
-#     tools/axioms.sh CRATE LOG
+#     tools/axioms.sh CRATE LOG..
 #
-# LOG is what rt or rattle printed with --list-axioms when it proved the crate. The status is 1 if the lists differ.
+# Each LOG is what rt or rattle printed with --list-axioms when it proved the crate. The status is 1 if the lists differ.
 set -eu
 export LC_ALL=C
 . "$(dirname "$0")/common.sh"
 [ "${1-}" != --help ] || { show_help; exit; }
-[ $# = 2 ] || refuse 'wants a crate and a log'
+[ $# -gt 1 ] || refuse 'wants a crate and its logs'
 page=$(dirname "$0")/../docs/VERIFICATION.md
 
 # shellcheck disable=SC2016
 listed=$(sed -n "s/^| \`$1\` |\(.*\)|\$/\1/p" "$page" | grep -o '`[^`]*`' | tr -d '`' | sort)
-reached=$(sed -n 's/^  \([a-z0-9_:]*\) *reached$/\1/p' "$2" | sort)
+reached=$(sed -n 's/^  \([a-z0-9_:]*\) *reached$/\1/p' "${@:2}" | sort -u)
 if ! differences=$(diff <(echo "$listed") <(echo "$reached")); then
     echo "axioms: docs/VERIFICATION.md lists others for $1 ('>' is what the proof rests on):" >&2
     echo "$differences" >&2

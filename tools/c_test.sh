@@ -1,11 +1,15 @@
 #!/usr/bin/env bash
-# Tests the library from C: `make check-c`. HEDRUGAL_LIBRARY names its folder, else it is out/lib.
+# Tests the library from C: `make check-c`. HEDRUGAL_LIBRARY names its folder, else it is out/lib. CC and CXX compile, and EMULATOR has the
+# words that run a program of another processor.
 #
 # The example and the tests in c/ are built as C99, the example also as C++, and linked with the archive and with the shared library. The
 # tests also run under valgrind, which has to find no error and no leak, and its helgrind no race in a test of four threads, whose parsers
-# share a table. Two tests refuse every request for memory in turn. The last line is 'N passed, N failed', the status 1 if a case failed.
+# share a table. Two tests refuse every request for memory in turn. Without valgrind and under an emulator, which can't run it, its cases are
+# left out, and a line says so. The last line is 'N passed, N failed', the status 1 if a case failed.
 . "$(dirname "$0")/common.sh"
 start_cases "$@"
+cc=${CC:-cc} cxx=${CXX:-c++}
+read -ra emulator <<< "${EMULATOR-}"
 strict=(-O1 -g -Wall -Wextra -pedantic -Werror)
 archive=$library/libhedrugal.a
 shared=("-L$library" -lhedrugal "-Wl,-rpath,$library")
@@ -19,19 +23,23 @@ check_names() {
 
 # What the example prints.
 check_example() { # program
-    printf '\033[1;5Aq\033OP\033[<0;3;4M\033[200~ab\033[201~\033' | "$1" |
+    printf '\033[1;5Aq\033OP\033[<0;3;4M\033[200~ab\033[201~\033' | run "$1" |
         diff - <(printf '%s\n' 'UpArrow ctrl' 'Char U+0071' 'Function 1' 'mouse at 3, 4, buttons 2' 'paste of 2 bytes: ab' 'Escape')
 }
 
 example_by_pkg_config() {
     local flags
     read -ra flags <<< "$(PKG_CONFIG_PATH=$library pkg-config --cflags --libs hedrugal)"
-    cc c/events.c "${flags[@]}" -o "$work/events_by_pkg_config"
+    "$cc" c/events.c "${flags[@]}" -o "$work/events_by_pkg_config"
 }
 
 # Builds a program of c/, with the archive unless words say how it is linked.
 build() { # name program [words..]
-    cc -std=c99 "${strict[@]}" -I"$library" "c/$1.c" "${@:3}" "$archive" -o "$work/$2"
+    "$cc" -std=c99 "${strict[@]}" -I"$library" "c/$1.c" "${@:3}" "$archive" -o "$work/$2"
+}
+
+run() { # program words..
+    timeout 600 "${emulator[@]}" "$@"
 }
 
 memcheck() { # words..
@@ -41,24 +49,31 @@ memcheck() { # words..
 check 'names in the archive' check_names
 check 'example as C99' build events events
 check 'example' check_example "$work/events"
-check 'example as C++' c++ -std=c++11 "${strict[@]}" -I"$library" -xc++ c/events.c -xnone "${shared[@]}" -o "$work/events_cpp"
+check 'example as C++' "$cxx" -std=c++11 "${strict[@]}" -I"$library" -xc++ c/events.c -xnone "${shared[@]}" -o "$work/events_cpp"
 check 'example with the shared library' check_example "$work/events_cpp"
 check 'example by pkg-config' example_by_pkg_config
 check 'build of the calls' build test_calls calls
-check 'build with the shared library' cc -std=c99 "${strict[@]}" -I"$library" c/test_calls.c "${shared[@]}" -o "$work/calls_shared"
+check 'build with the shared library' "$cc" -std=c99 "${strict[@]}" -I"$library" c/test_calls.c "${shared[@]}" -o "$work/calls_shared"
 check 'build of the refusals' build test_refusals refusals "$counting"
 check 'build of the extended calls' build test_extended extended
 check 'build of their refusals' build test_extended_refusals extended_refusals "$counting"
 check 'build of bindings' build test_bindings bindings
 check 'build of shared tables' build test_sharing sharing -pthread
+check "build of the kit's functions" build test_kit kit c/kit/heap.c c/kit/system.c "$counting"
 for name in ask live edit; do check "program $name as C99" build $name $name c/hedrugal_terminal.c; done
-check 'calls' timeout 300 "$work/calls" c/numbers.txt
-check 'calls of the shared library' timeout 300 "$work/calls_shared" c/numbers.txt
-check 'refusals' timeout 300 "$work/refusals"
-check 'extended calls' timeout 300 "$work/extended"
-check 'refusals of extended calls' timeout 300 "$work/extended_refusals"
-check 'bindings' timeout 300 "$work/bindings"
-check 'shared tables' timeout 300 "$work/sharing"
+check 'calls' run "$work/calls" c/numbers.txt
+check 'calls of the shared library' run "$work/calls_shared" c/numbers.txt
+check 'refusals' run "$work/refusals"
+check 'extended calls' run "$work/extended"
+check 'refusals of extended calls' run "$work/extended_refusals"
+check 'bindings' run "$work/bindings"
+check 'shared tables' run "$work/sharing"
+check "the kit's functions" run "$work/kit" one ''
+if [ ${#emulator[@]} -gt 0 ] || ! command -v valgrind > /dev/null; then
+    echo 'left out: the cases under valgrind'
+    print_counts
+    exit
+fi
 check 'calls under valgrind' memcheck "$work/calls" c/numbers.txt
 check 'refusals under valgrind' memcheck "$work/refusals" 1000
 check 'extended calls under valgrind' memcheck "$work/extended"

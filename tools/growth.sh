@@ -15,6 +15,7 @@ export LC_ALL=C
 . "$(dirname "$0")/common.sh"
 [ "${1-}" != --help ] || { show_help; exit; }
 [ $# = 1 ] || refuse 'wants the file of the static library feed'
+need rt 'the Rattle kit'
 feed=$(realpath -- "$1") || exit
 enter
 

@@ -203,6 +203,13 @@ check_stale() {
         grep -F 'was built from other sources' "$work/words" && [ ! -e "$work/none" ]
 }
 
+# Nor is one of another processor, which the header of the file has as a number.
+check_other_processor() {
+    cp -a "$library" "$work/other" && printf '\363' | dd bs=1 seek=18 conv=notrunc of="$work/other/libhedrugal.so.$version" status=none &&
+        ! make -s install LIBRARY="$work/other" KEYSHOW="$keyshow" PREFIX="$work/none" 2> "$work/words" &&
+        grep -F 'is for another processor' "$work/words" && [ ! -e "$work/none" ]
+}
+
 check 'install in a folder for packages' over_built install DESTDIR="$work/stage"
 check 'files' check_files
 check 'versions' check_versions
@@ -213,7 +220,7 @@ check 'program with the archive' check_static "$stage" lib
 check 'program on a terminal' check_terminal "$stage" lib
 check 'keyshow, as its manual page shows it' check_program keyshow '\033[1;5Az\033'
 check 'hedrugal-keys, as its manual page shows it' check_keys
-for option in -m32 -mx32 -U__linux__; do check "header with $option" check_refused $option; done
+for option in -m32 -mx32 -U__linux__ -D__AARCH64EB__; do check "header with $option" check_refused $option; done
 check 'calls in the manual page' check_calls_page
 check 'example of the manual page' check_example
 check 'manual pages by man' check_by_man
@@ -232,4 +239,5 @@ for name in .. ../lib lib/../.. lib/./a . '' /lib lib/ lib//a 'a lib' 'a&b'; do 
 find_view /usr/local
 [ ${#view[@]} = 0 ] || check 'folders of the system' check_system_folders
 check 'library of other sources' check_stale
+check 'library of another processor' check_other_processor
 print_counts

@@ -3,7 +3,7 @@
 #
 #     tools/needs.sh [--install] PART..
 #
-# The part all stands for each of them but performance and terminals. With --install it first installs what Debian has of it, where this user can.
+# The part all stands for each of them but performance, terminals and arm64. With --install it first installs what Debian has of it, where this user can.
 set -eu
 . "$(dirname "$0")/common.sh"
 [ "${1-}" != --help ] || { show_help; exit; }
@@ -16,7 +16,7 @@ look() { # parts..
     local thing package parts part
     lacking='' packages=''
     while read -r thing package parts; do
-        [[ $parts =~ ^(performance|terminals)$ ]] || parts+=' all'
+        [[ $parts =~ ^(performance|terminals|arm64)$ ]] || parts+=' all'
         for part; do
             [[ $thing != '#' && " $parts " == *" $part "* ]] && ! is_there "$thing" || continue
             lacking+=" ${thing##*/}"
@@ -40,6 +40,6 @@ if [ $installs = yes ] && [ -n "$packages" ] && [ "$(id -u)" = 0 ] && command -v
 fi
 [ -n "$lacking" ] || exit 0
 hint=${packages:+", install the packages$packages"}
-[[ "$lacking " != *' rt '* ]] || hint+=', put rt of the Rattle kit (rattle-kit-13f) on the path, or name what was built before by LIBRARY and KEYSHOW'
+[[ "$lacking " != *' rt '* ]] || hint+=', put rt of the Rattle kit (rattle-kit-13f) on the path'
 echo "needs: not there:$lacking$hint" >&2
 exit 1

@@ -2,24 +2,33 @@
 # Tests what `make dist` makes, as on a machine without the Rattle kit: `make check-packages`. HEDRUGAL_LIBRARY names the library's folder,
 # else it is out/lib; KEYSHOW names the program, else it is out/bin/keyshow.
 #
-# The packages are made twice, from two folders, and have to be the same bytes. lintian has to find nothing in the Debian packages but what
-# debian/*.lintian-overrides explain. Their files, fields and exported calls have to be those that are expected.
+# The packages for both processors are made twice, from two folders, and have to be the same bytes. lintian has to find nothing in the
+# Debian packages but what debian/*.lintian-overrides explain. Their files, fields and exported calls have to be those that are expected.
 #
-# Then the listings of docs/packages.md are run where no program finds the kit: rt isn't on the path, and the folders of the kit and of this
-# repository are empty, if the system lets a program have such a view of them. The Debian packages are installed by dpkg in a folder in
-# place of the system's root, the tarball is unpacked in a folder whose name has a space, and the wheel is installed in a virtual
-# environment. At last dpkg has to remove all that it installed. The last line is 'N passed, N failed', the status 1 if a case failed.
+# Then the listings of docs/packages.md are run, for x86-64 alone, where no program finds the kit: rt isn't on the path, and the folders of
+# the kit and of this repository are empty, if the system lets a program have such a view of them. The Debian packages are installed by
+# dpkg in a folder in place of the system's root, the tarball is unpacked in a folder whose name has a space, and the wheel is installed in
+# a virtual environment. At last dpkg has to remove all that it installed. The last line is 'N passed, N failed', the status 1 if a case
+# failed.
 . "$(dirname "$0")/common.sh"
 start_cases "$@"
 want_keyshow
 
 debian=(hedrugal libhedrugal-dev libhedrugal0)
-tarball=hedrugal-$version-x86_64-linux
-packages=$work/packages unpacked=$work/unpacked root=$work/root
-libdir=usr/lib/x86_64-linux-gnu
-system_library=$unpacked/libhedrugal0/$libdir/libhedrugal.so.$version
+packages=$work/packages root=$work/root
+# Debian's names of the processors.
+declare -A debian_name=([x86_64]=amd64 [aarch64]=arm64)
 kit=$top
 ! command -v rt > /dev/null || kit=$(dirname "$(rt doc)")
+
+# Says which processor's packages the following is about.
+look_at() { # processor
+    processor=$1
+    tarball=hedrugal-$version-$processor-linux
+    unpacked=$work/unpacked/$processor
+    libdir=usr/lib/$processor-linux-gnu
+    system_library=$unpacked/libhedrugal0/$libdir/libhedrugal.so.$version
+}
 
 make_dist() { # folder of the sources, folder of the packages
     make -s -C "$1" dist DIST="$2" LIBRARY="$library" KEYSHOW="$keyshow"
@@ -30,27 +39,25 @@ make_dist() { # folder of the sources, folder of the packages
 make_again() {
     local copy="$work/a copy" again="$work/over another"
     mkdir "$copy" "$again" && tar --exclude=.git --exclude=out --exclude=target -c . | tar -C "$copy" -x || return
-    mkdir -p "$copy"/python/{build/lib/hedrugal,hedrugal/__pycache__,hedrugal/page/__pycache__} "$copy"/rust/{target/debug,serde/target}
-    touch "$copy"/python/{build/lib/hedrugal/old.py,hedrugal/__pycache__/old.pyc,hedrugal/page/__pycache__/old.pyc} \
-        "$copy"/rust/{target/debug,serde/target}/old "$again"/another "$again"/{libhedrugal0,libhedrugal-dev,hedrugal}_0.0.1-1_amd64.deb \
-        "$again"/hedrugal-0.0.1-{x86_64-linux.tar.gz,py3-none-manylinux_2_5_x86_64.whl}
+    mkdir -p "$copy"/python/hedrugal/{,page/}__pycache__ "$copy"/rust/{target/debug,serde/target}
+    touch "$copy"/python/hedrugal/{,page/}__pycache__/old.pyc \
+        "$copy"/rust/{target/debug,serde/target}/old "$again"/another \
+        "$again"/{libhedrugal0,libhedrugal-dev,hedrugal}_0.0.1-1_{amd64,arm64}.deb \
+        "$again"/hedrugal-0.0.1-{{x86_64,aarch64}-linux.tar.gz,py3-none-manylinux_2_5_{x86_64,aarch64}.whl}
     chmod -R go= "$copy" && (cd / && umask 077 && TZ=Asia/Tokyo make_dist "$copy" "$again") &&
         rm "$again/another" && diff -r "$packages" "$again"
 }
 
 check_names() {
-    diff <(find "$packages" -type f -printf '%f\n' | sort | sed 's/linux_[0-9]*_[0-9]*_/linux_A_B_/') - << END
-SHA256SUMS
-hedrugal-$version-py3-none-manylinux_A_B_x86_64.whl
-$tarball.tar.gz
-hedrugal_$version-1_amd64.deb
-libhedrugal-dev_$version-1_amd64.deb
-libhedrugal0_$version-1_amd64.deb
-END
+    diff <(find "$packages" -type f -printf '%f\n' | sed 's/linux_[0-9]*_[0-9]*_/linux_A_B_/' | sort) <({
+        echo SHA256SUMS
+        printf "hedrugal-$version-%s\n" py3-none-manylinux_A_B_{x86_64,aarch64}.whl {x86_64,aarch64}-linux.tar.gz
+        printf "%s_$version-1_amd64.deb\n%s_$version-1_arm64.deb\n" {hedrugal,libhedrugal-dev,libhedrugal0}{,}
+    } | sort)
 }
 
 check_checksums() {
-    (cd "$packages" && sha256sum --check --strict SHA256SUMS && [ "$(wc -l < SHA256SUMS)" = 5 ])
+    (cd "$packages" && sha256sum --check --strict SHA256SUMS && [ "$(wc -l < SHA256SUMS)" = 10 ])
 }
 
 # Letters among the machine code are no words.
@@ -62,9 +69,13 @@ check_by_lintian() {
 # (wheel compares each file with its checksum.)
 unpack() {
     local package
-    mkdir "$unpacked" && tar -C "$unpacked" -xzf "$packages"/*.tar.gz && /usr/bin/python3 -m wheel unpack -d "$work" "$packages"/*.whl &&
-        mv "$work/hedrugal-$version" "$unpacked/wheel" || return
-    for package in "${debian[@]}"; do dpkg-deb -R "$packages/${package}_$version-1_amd64.deb" "$unpacked/$package" || return; done
+    mkdir -p "$unpacked" && tar -C "$unpacked" -xzf "$packages/$tarball.tar.gz" &&
+        /usr/bin/python3 -m wheel unpack -d "$work" "$packages"/*_"$processor".whl && mv "$work/hedrugal-$version" "$unpacked/wheel" || return
+    for package in "${debian[@]}"; do dpkg-deb -R "$(package_file "$package")" "$unpacked/$package" || return; done
+}
+
+package_file() { # package
+    echo "$packages/$1_$version-1_${debian_name[$processor]}.deb"
 }
 
 expected_files() { # package
@@ -92,19 +103,30 @@ expected_files() { # package
 
 check_files() { # package
     diff <(expected_files "$1" | sort) <(listed "$unpacked/$1" | grep -v ^DEBIAN/) &&
-        ! dpkg-deb -c "$packages/$1"_*.deb | grep -v ' root/root '
+        ! dpkg-deb -c "$(package_file "$1")" | grep -v ' root/root '
 }
 
-# What dpkg-shlibdeps says that files need.
+# What dpkg-shlibdeps says that files need. For ARM, of which it has no list of the C library's symbols, it is what debian/shlibs.cross says, if
+# that will do.
 dependency_of() { # files..
-    mkdir -p "$work/source/debian" && printf 'Source: any\n\nPackage: any\nArchitecture: any\n' > "$work/source/debian/control" &&
-        (cd "$work/source" && dpkg-shlibdeps -O "$@") | sed 's/^shlibs:Depends=//'
+    if [ "$processor" = x86_64 ]; then
+        mkdir -p "$work/source/debian" && printf 'Source: any\n\nPackage: any\nArchitecture: any\n' > "$work/source/debian/control" &&
+            (cd "$work/source" && dpkg-shlibdeps -O "$@") | sed 's/^shlibs:Depends=//'
+    else
+        [ "$({ echo 2.34; glibc_of "$@"; } | sort -V | tail -n 1)" = 2.34 ] && sed -n 's/^libc 6 //p' debian/shlibs.cross
+    fi
+}
+
+# The oldest C library that these files can do with.
+glibc_of() { # files..
+    "$processor-linux-gnu-objdump" -T "$@" | sed -n 's/.*GLIBC_\([0-9]*\.[0-9]*\).*/\1/p' | sort -V | tail -n 1
 }
 
 check_fields() { # package section multi-arch dependency
     # shellcheck disable=SC2016
     local fields='${Package} ${source:Package} ${Version} ${Architecture} ${Section} ${Multi-Arch} ${Depends}\n'
-    [ -n "$4" ] && diff <(dpkg-deb -W --showformat="$fields" "$packages/$1"_*.deb) <(echo "$1 hedrugal $version-1 amd64 $2 $3 $4")
+    [ -n "$4" ] && diff <(dpkg-deb -W --showformat="$fields" "$(package_file "$1")") \
+        <(echo "$1 hedrugal $version-1 ${debian_name[$processor]} $2 $3 $4")
 }
 
 # What the library exports is in the package's file of symbols too.
@@ -115,18 +137,20 @@ check_library() {
         grep -xF 'activate-noawait ldconfig' "$control/triggers"
 }
 
-# No instruction of AVX, BMI and other extensions that a processor of the level x86-64-v2 may lack.
+# No instruction of AVX, BMI and other extensions that a processor of the level x86-64-v2 may lack, nor of SVE and LSE, which a processor of
+# ARMv8.0 lacks.
 check_processor() { # file
-    local later='v[a-z0-9]+|lzcnt|andn|bextr|bls[ir]|blsmsk|bzhi|mulx|pdep|pext|rorx|sarx|shlx|shrx|movbe'
-    objdump -d --no-show-raw-insn "$1" > "$work/code" && ! grep -E "%[yz]mm|%k[0-7]|\\s($later)\\s" "$work/code"
+    local later='%[yz]mm|%k[0-7]|\s(v[a-z0-9]+|lzcnt|andn|bextr|bls[ir]|blsmsk|bzhi|mulx|pdep|pext|rorx|sarx|shlx|shrx|movbe)\s'
+    [ "$processor" = x86_64 ] || later='\sz[0-9]+\.|\s(cas|swp|ld(add|clr|eor|set|smax|smin|umax|umin|apr))[a-z]*\s'
+    "$processor-linux-gnu-objdump" -d --no-show-raw-insn "$1" > "$work/code" && [ -s "$work/code" ] && ! grep -E "$later" "$work/code"
 }
 
 # The wheel's tag is for the C library that its own file needs, or the oldest that pip knows.
 check_wheel() {
-    local needed
-    needed=$(objdump -T "$unpacked/wheel/hedrugal/libhedrugal.so" | sed -n 's/.*GLIBC_\([0-9]*\.[0-9]*\).*/\1/p' | sort -V | tail -n 1)
-    needed=$(printf '%s\n' 2.5 "$needed" | sort -V | tail -n 1)
-    [ -f "$packages/hedrugal-$version-py3-none-manylinux_${needed/./_}_x86_64.whl" ]
+    local needed oldest=2.5
+    [ "$processor" = x86_64 ] || oldest=2.17
+    needed=$(printf '%s\n' "$oldest" "$(glibc_of "$unpacked/wheel/hedrugal/libhedrugal.so")" | sort -V | tail -n 1)
+    [ -f "$packages/hedrugal-$version-py3-none-manylinux_${needed/./_}_$processor.whl" ]
 }
 
 # The tarball and the wheel have the files of the Python module, as they lie here, and the library where it looks for it.
@@ -202,6 +226,7 @@ make_root() {
     mkdir "$root/var/lib/dpkg"/{info,updates,triggers} && touch "$root/var/lib/dpkg/info/libc6:amd64.list"
     cat > "$work/bin/dpkg" << END
 #!/bin/sh
+[ "\$1" != --print-architecture ] || exec '$(command -v dpkg)' "\$1"
 exec '$(command -v dpkg)' --root='$root' --log=/dev/null --force-not-root,bad-path "\$@" > /dev/null
 END
     chmod +x "$work/bin/dpkg"
@@ -271,17 +296,20 @@ check 'the same bytes again' make_again
 check 'names of the packages' check_names
 check 'checksums' check_checksums
 check 'Debian packages by lintian' check_by_lintian
-check 'packages unpacked' unpack
-for package in "${debian[@]}"; do check "files of $package" check_files "$package"; done
-check 'fields of hedrugal' check_fields hedrugal utils no "$(dependency_of "$unpacked"/hedrugal/usr/bin/*)"
-check 'fields of libhedrugal-dev' check_fields libhedrugal-dev libdevel same "libhedrugal0 (= $version-1)"
-check 'fields of libhedrugal0' check_fields libhedrugal0 libs same "$(dependency_of "$system_library")"
-check 'name and exports of the library' check_library
-for file in "$system_library" "$unpacked"/hedrugal/usr/bin/*; do check "processor for ${file##*/}" check_processor "$file"; done
-check 'wheel' check_wheel
-check 'Python module' check_python
-check "modes of the tarball's files" check_modes
-check 'notices' check_notices
+for name in aarch64 x86_64; do
+    look_at $name
+    check "$name: packages unpacked" unpack
+    for package in "${debian[@]}"; do check "$name: files of $package" check_files "$package"; done
+    check "$name: fields of hedrugal" check_fields hedrugal utils no "$(dependency_of "$unpacked"/hedrugal/usr/bin/*)"
+    check "$name: fields of libhedrugal-dev" check_fields libhedrugal-dev libdevel same "libhedrugal0 (= $version-1)"
+    check "$name: fields of libhedrugal0" check_fields libhedrugal0 libs same "$(dependency_of "$system_library")"
+    check "$name: name and exports of the library" check_library
+    for file in "$system_library" "$unpacked"/hedrugal/usr/bin/*; do check "$name: processor for ${file##*/}" check_processor "$file"; done
+    check "$name: wheel" check_wheel
+    check "$name: Python module" check_python
+    check "$name: modes of the tarball's files" check_modes
+    check "$name: notices" check_notices
+done
 check 'notices of the kit' check_third_party
 check 'list of parts' check_parts
 find_view "$kit" "$top"
@@ -289,7 +317,7 @@ check 'view without the kit' check_view
 check 'root for dpkg' make_root
 progress 'runs the listings of docs/packages.md'
 on_system check_steps 'from the Debian packages' "$work/system" '## Debian packages' \
-    'tar xzf hedrugal-*.tar.gz; cd hedrugal-*-linux' '## Rust'
+    "tar xzf hedrugal-*-$(uname -m)-linux.tar.gz; cd hedrugal-*-linux" '## Rust'
 on_system check_steps 'after the Debian packages' "$work/removal" '## Removal'
 # But dpkg's own lists.
 check 'nothing is left' diff <(ls "$root") <(echo var)

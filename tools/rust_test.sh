@@ -42,12 +42,14 @@ rust_serde_tests() {
         --config 'source.crates-io.replace-with="system"' --config "source.system.directory=\"$system_crates\""
 }
 
-# Builds a program over the package in a new folder, with these variables in place of the one that names the library, beside $work/lib.
+# Builds a program over a copy of the package in a new folder, with these variables in place of the one that names the library, beside
+# $work/lib.
 rust_builds() { # NAME=VALUE..
     rm -rf "$work/found"
     cd "$work/shared" || return
     env -u HEDRUGAL_LIBRARY CARGO_TARGET_DIR="$work/found" "$@" \
-        cargo build --quiet --locked --offline --manifest-path "$top/rust/Cargo.toml" --example measure
+        cargo build --locked --offline --manifest-path "$work/copy/rust/Cargo.toml" --example measure 2> "$work/message" ||
+        { cat "$work/message"; return 1; }
 }
 
 # The program so built finds two events in four bytes.
@@ -56,10 +58,24 @@ rust_finds() { # NAME=VALUE..
     printf 'q\033[A' > "$work/keys" && env "$@" "$work/found/debug/examples/measure" "$work/keys" 1 | grep -x '[0-9]* 2 0'
 }
 
+# Without another the prebuilt library is taken, and cargo says so.
+rust_finds_prebuilt() {
+    rust_finds PKG_CONFIG=false && grep -F 'the library is the prebuilt one' "$work/message"
+}
+
+# A program whose dependency is a repository with the package.
+rust_by_git() {
+    git -C "$work/copy" init --quiet && git -C "$work/copy" add . &&
+        git -C "$work/copy" -c user.name=test -c user.email=test commit --quiet -m 'As it lies here' || return
+    cargo init --quiet --vcs none --name program "$work/program" && echo "hedrugal = { git = \"file://$work/copy\" }" >> "$work/program/Cargo.toml" &&
+        echo 'fn main() { println!("{}", hedrugal::input::InputParser::new().parse_as_vec(b"q", true).len()); }' > "$work/program/src/main.rs" &&
+        env -u HEDRUGAL_LIBRARY CARGO_HOME="$work/home" CARGO_TARGET_DIR="$work/program" PKG_CONFIG=false \
+            cargo run --quiet --manifest-path "$work/program/Cargo.toml" | grep -x 1
+}
+
 # The build stops with a message of two lines, of which the first says this.
 rust_stops() { # text NAME=VALUE..
-    if rust_builds "${@:2}" 2> "$work/message"; then return 1; fi
-    cat "$work/message"
+    if rust_builds "${@:2}"; then return 1; fi
     sed '1,/^ *--- stderr/d;/^$/d' "$work/message" > "$work/said"
     [ "$(wc -l < "$work/said")" = 2 ] && head -n 1 "$work/said" | grep -F "hedrugal: $1"
 }
@@ -69,11 +85,19 @@ check 'examples of the documentation' rust test --doc
 check 'documentation' rust_documentation
 check 'clippy' rust clippy --all-targets -- -D warnings
 check 'tests with serde' rust_serde_tests
-check 'tests under valgrind' rust_memcheck --test parser --test keymap -- \
-    --skip streams --skip recorded --skip generated --skip undecided --skip long::reads
+if command -v valgrind > /dev/null; then
+    check 'tests under valgrind' rust_memcheck --test parser --test keymap -- \
+        --skip streams --skip recorded --skip generated --skip undecided --skip long::reads
+else
+    echo 'left out: the tests under valgrind'
+fi
 
-mkdir "$work/shared" && cp -a "$library"/libhedrugal.so* "$work/shared/" || exit
+mkdir "$work/shared" "$work/copy" "$work/other" && cp -a "$library"/libhedrugal.so* "$work/shared/" || exit
 ln -s "$library" "$work/lib"
+tar --exclude=target -c rust prebuilt | tar -C "$work/copy" -x && cp "$library"/libhedrugal.a "$work/other/" || exit
+sed 's/^#define HED_VERSION ".*"/#define HED_VERSION "9.8.7"/' c/hedrugal.h > "$work/other/hedrugal.h"
+sed 's/^Version: .*/Version: 9.8.7/' c/hedrugal.pc > "$work/other/hedrugal.pc"
+prebuilt=$work/copy/prebuilt/$(uname -m)-linux
 check 'absolute folder' rust_finds HEDRUGAL_LIBRARY="$library"
 check 'relative folder' rust_finds HEDRUGAL_LIBRARY=../lib
 check 'file of the archive' rust_finds HEDRUGAL_LIBRARY="$library/libhedrugal.a"
@@ -81,7 +105,18 @@ check 'shared library' rust_finds HEDRUGAL_LIBRARY="$work/shared" LD_LIBRARY_PAT
 # A folder in which linkers look unasked isn't named by pkg-config itself.
 check 'pkg-config' rust_finds PKG_CONFIG_PATH="$library"
 check 'pkg-config of the system' rust_finds PKG_CONFIG_PATH="$library" PKG_CONFIG_SYSTEM_LIBRARY_PATH="$library"
-check 'no library' rust_stops 'pkg-config finds no hedrugal' PKG_CONFIG=false
+check 'prebuilt library' rust_finds_prebuilt
+check 'package of a repository' rust_by_git
+check 'installed library of another version' rust_stops 'the installed library is of version 9.8.7' PKG_CONFIG_PATH="$work/other"
+check 'named library of another version' rust_stops "$work/other/libhedrugal.a is of version 9.8.7" HEDRUGAL_LIBRARY="$work/other"
+for folder in "$work"/copy/prebuilt/*-linux; do
+    [ "$(basename "$folder")" = "$(uname -m)-linux" ] ||
+        check "library of ${folder##*/}" rust_stops "$folder/libhedrugal.a isn't a library for" HEDRUGAL_LIBRARY="$folder"
+done
+echo damage >> "$prebuilt/libhedrugal.a"
+check 'damaged prebuilt library' rust_stops "$prebuilt/libhedrugal.a isn't what PROVENANCE beside it says" PKG_CONFIG=false
+rm -r "$prebuilt"
+check 'no library' rust_stops 'pkg-config finds no hedrugal, and there is no prebuilt' PKG_CONFIG=false
 check 'folder without a library' rust_stops "there is no libhedrugal.a in $work/no" HEDRUGAL_LIBRARY="$work/no"
 check 'file that is no library' rust_stops "$work/keys isn't a libhedrugal.a" HEDRUGAL_LIBRARY="$work/keys"
 chmod o+w "$work/shared" && check 'folder of others' rust_stops 'another user may write to' HEDRUGAL_LIBRARY="$work/shared"

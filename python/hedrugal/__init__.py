@@ -747,9 +747,9 @@ def _is_open_to_others(path: str) -> bool:
 def _load() -> ctypes.PyDLL:
     """Loads the library, and declares its calls."""
     machine, bits = platform.machine(), 8 * ctypes.sizeof(ctypes.c_void_p)
-    if not sys.platform.startswith("linux") or machine not in ("x86_64", "AMD64") or bits != 64:
+    if not (sys.platform == "linux" and machine in ("x86_64", "aarch64") and bits == 64):
         raise ImportError(
-            "hedrugal: the library is for x86-64 Linux, "
+            "hedrugal: the library is for Linux on x86-64 and 64-bit ARM, "
             f"and this is a Python of {bits} bits for {machine} {sys.platform}"
         )
     file = _library_file()

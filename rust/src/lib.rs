@@ -28,9 +28,9 @@
 //! termwiz = { package = "hedrugal", path = "hedrugal/rust" }
 //! ```
 //!
-//! A build finds the installed library by pkg-config. `HEDRUGAL_LIBRARY` comes first: it names the
-//! file of a library, or the folder that has it, absolute or from where cargo runs. The library is
-//! for Linux on x86-64.
+//! A build finds the installed library by pkg-config, and without one takes the prebuilt one of the
+//! repository. `HEDRUGAL_LIBRARY` comes first: it names the file of a library, or the folder that
+//! has it, absolute or from where cargo runs. The library is for Linux on x86-64 and on 64-bit ARM.
 //!
 //! The feature `use_serde`, serde's derives for keys, events and flags, is that of the manifest in
 //! `rust/serde`, which has these sources: so a build without it asks for no other crate.

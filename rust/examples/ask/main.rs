@@ -1,7 +1,7 @@
 //! Asks a terminal where its cursor is, for its background colour, and for the flags of Kitty's
 //! keyboard protocol, and prints the replies.
 //!
-//!     HEDRUGAL_LIBRARY=DIR cargo run --example ask
+//!     cargo run --example ask
 //!
 //! The reply to ESC [6n may have the bytes of an F3 with modifiers. All recorded terminals answer
 //! that question, and only few answer ESC [?6n, whose reply is no key. So the program asks ESC [6n,

@@ -1,7 +1,7 @@
 //! Edits a text by commands that a file binds to chords, such as docs/edit.keys, and prints what
 //! happens. Nothing is saved.
 //!
-//!     HEDRUGAL_LIBRARY=DIR cargo run --example edit FILE
+//!     cargo run --example edit FILE
 //!
 //! The program asks for bracketed paste, xterm's modifyOtherKeys and Kitty's flags 1 and 4, so that
 //! most keys can be told apart. The terminal is restored as in the example live.

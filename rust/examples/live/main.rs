@@ -1,6 +1,6 @@
 //! Prints the events of a terminal as they come, one on a line. A program to start from.
 //!
-//!     HEDRUGAL_LIBRARY=DIR cargo run --example live [-- --mouse]
+//!     cargo run --example live [-- --mouse]
 //!
 //! Bracketed paste is always on, or pasted text would count as typed. --mouse switches mouse
 //! reports on too, which keep most terminals from selecting text. A new size of the terminal is

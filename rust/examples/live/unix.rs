@@ -1,4 +1,5 @@
-//! The calls of Unix that the program needs and std doesn't have, with the numbers of x86-64 Linux.
+//! The calls of Unix that the program needs and std doesn't have, with the numbers of Linux on x86-64
+//! and on 64-bit ARM, which are the same.
 //! This package depends on no other crate; a program of your own has all this from `libc`, or from
 //! a crate that is safe to call.
 use std::ffi::{c_int, c_short, c_ulong};
@@ -6,8 +7,11 @@ use std::io;
 use std::os::fd::RawFd;
 use std::time::Duration;
 
-#[cfg(not(all(target_os = "linux", target_arch = "x86_64")))]
-compile_error!("the numbers of this file are those of x86-64 Linux");
+#[cfg(not(all(
+    target_os = "linux",
+    any(target_arch = "x86_64", target_arch = "aarch64")
+)))]
+compile_error!("the numbers of this file are those of Linux on x86-64 and on 64-bit ARM");
 
 const POLLIN: c_short = 1;
 const TCSANOW: c_int = 0;

@@ -11,9 +11,9 @@ use crate::lines::{hex, line};
 use crate::plain::PlainReader;
 use hedrugal::input::{InputEvent, InputParser};
 use std::io::Write;
-use std::path::PathBuf;
+use std::path::{Path, PathBuf};
 use std::process::{Command, Stdio};
-use std::sync::Mutex;
+use std::sync::{Mutex, OnceLock};
 use std::{env, thread};
 
 const PIECES: &[usize] = &[1, 7, 64];
@@ -25,15 +25,34 @@ const ALONE: usize = 100;
 
 const PASTE_END: &[u8] = b"\x1b[201~";
 
-// The program: what KEYSHOW names, or the one that rt built in this repository.
-fn keyshow() -> PathBuf {
-    let built = concat!(env!("CARGO_MANIFEST_DIR"), "/../crates/keyshow/out/keyshow");
-    let program = env::var_os("KEYSHOW").map_or_else(|| PathBuf::from(built), PathBuf::from);
-    let how = "build it by `rt run < stdin` in crates/keyshow, or name it in KEYSHOW";
+// The program: what KEYSHOW names, or the one that rt built in this repository, or else the prebuilt
+// one, which cc links.
+fn keyshow() -> &'static Path {
+    static PROGRAM: OnceLock<PathBuf> = OnceLock::new();
+    PROGRAM.get_or_init(|| {
+        let top = Path::new(env!("CARGO_MANIFEST_DIR")).join("..");
+        let built = top.join("crates/keyshow/out/keyshow");
+        let named = env::var_os("KEYSHOW").map(PathBuf::from);
+        named
+            .or_else(|| built.is_file().then_some(built))
+            .unwrap_or_else(|| {
+                linked(&top.join(format!("prebuilt/{}-linux/keyshow.o", env::consts::ARCH)))
+            })
+    })
+}
+
+// The program that cc makes of an object.
+fn linked(object: &Path) -> PathBuf {
+    let program = Path::new(env!("CARGO_TARGET_TMPDIR")).join("keyshow");
+    let cc = Command::new("cc")
+        .arg(object)
+        .arg("-o")
+        .arg(&program)
+        .status();
     assert!(
-        program.is_file(),
-        "there is no {}: {how}",
-        program.display()
+        cc.is_ok_and(|status| status.success()),
+        "cc can't link {}: name the program keyshow in KEYSHOW",
+        object.display()
     );
     program
 }

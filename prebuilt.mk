@@ -1,0 +1,100 @@
+# prebuilt/: for who has no kit, the archive of the library and the program keyshow as an object, for two processors. PROVENANCE beside them
+# says of what they were made, and by which proofs. What is built again has to be the same bytes: make prebuilt-check.
+.PHONY: prebuilt prebuilt-check
+processors := x86_64 aarch64
+
+prebuilt: $(processors:%=out/prebuilt/%-linux/PROVENANCE) ## proves and builds what the folder prebuilt has, and writes it there
+	@mkdir -p prebuilt && cp -r out/prebuilt/. prebuilt/
+	@echo 'make: wrote $(words $(processors)) folders of prebuilt'
+
+prebuilt-check: $(processors:%=out/prebuilt/%-linux/PROVENANCE) ## does the same, and says whether that folder has the same bytes
+	@$(foreach it,$(processors),$(call is_prebuilt,$(it)) &&) echo 'make: prebuilt has what these sources make'
+
+# Whether a processor's folder has what was built again.
+is_prebuilt = { diff -r prebuilt/$(1)-linux out/prebuilt/$(1)-linux || \
+	{ echo "make: prebuilt/$(1)-linux isn't what these sources make: make prebuilt writes it anew" >&2; false; }; }
+
+# All proofs are over the same libraries: those of RLIBS, or those that `rt ci` or, for the library, `rt lib` proved.
+ready_libraries := $(proved_libraries) $(if $(RLIBS)$(GATE),,| out/build/libhedrugal.a)
+
+out/build/aarch64/libhedrugal.a: $(ready_libraries)
+	@mkdir -p $(@D)
+	@cd crates/hedrugal && { $(call static_library,hedrugal,$(call libraries_of,hedrugal),$@) --target aarch64-unknown-linux-gnu; } \
+		$(call logged,hedrugal-aarch64)
+	@tools/axioms.sh hedrugal out/build/hedrugal-aarch64.log
+
+out/build/%/keyshow.o: $(ready_libraries)
+	@mkdir -p $(@D)
+	@cd crates/keyshow && rattle build --crate-name keyshow src/main.rt $(call over,$(call libraries_of,keyshow)) \
+		--toolchain $(kit)/toolchain --backend llvm --target $*-unknown-linux-gnu -o $(abspath $@) $(call logged,keyshow-$*)
+
+# Joins what rattle made with the C functions on which it stands to one object, in which only these names stay: PROCESSOR,SOURCES,NAMES
+joined = $(1)-linux-gnu-gcc -O2 -fPIC -nostdlib -r -o $@ -Wl,--whole-archive $< -Wl,--no-whole-archive $(2) && \
+	$(1)-linux-gnu-objcopy --wildcard --keep-global-symbol='$(3)' $@
+
+out/build/aarch64/hedrugal.o: out/build/aarch64/libhedrugal.a c/kit/heap.c
+	$(call joined,aarch64,c/kit/heap.c,hed_*)
+
+out/prebuilt/x86_64-linux/keyshow.o: out/build/x86_64/keyshow.o
+	@mkdir -p $(@D)
+	$(call joined,x86_64,$(kit)/c/libos_c.a $(kit)/c/liblibc_c.a,main)
+
+out/prebuilt/aarch64-linux/keyshow.o: out/build/aarch64/keyshow.o c/kit/system.c c/kit/heap.c
+	@mkdir -p $(@D)
+	$(call joined,aarch64,c/kit/system.c c/kit/heap.c,main)
+
+out/build/x86_64/hedrugal.o: out/build/hedrugal.o
+	@mkdir -p $(@D)
+	cp $< $@
+
+out/prebuilt/%-linux/libhedrugal.a: out/build/%/hedrugal.o
+	@mkdir -p $(@D)
+	rm -f $@ && $*-linux-gnu-ar rcsD $@ $<
+
+# The crates that the two are made of. (In crates.txt a crate is below those that it stands on.)
+prebuilt_crates = $(shell tac crates.txt | awk -F '[: ]+' \
+	'BEGIN { below["hedrugal"]; below["keyshow"] } $$1 in below { print $$1; for (i = 2; i <= NF; i++) below[$$i] }')
+prebuilt_sources = crates.txt $(if $(filter aarch64,$(1)),c/kit) $(wildcard $(foreach it,$(prebuilt_crates),$(addprefix crates/$(it)/,src specs proofs)))
+# The line by which rattle ends a log, but for the words on what it reads without checking it again. A missing log has none.
+verdict = $$(sed -n 's/^\(logic=proved .* sum=[0-9a-f]*\).*/\1/p' $(1) 2> /dev/null | tail -n 1)
+library_logs = $(if $(filter x86_64,$*),out/gate/library.log out/build/hedrugal.log,out/build/hedrugal-$*.log)
+
+out/prebuilt/%-linux/PROVENANCE: out/prebuilt/%-linux/libhedrugal.a out/prebuilt/%-linux/keyshow.o
+	@{ echo 'library: $(VERSION)'; \
+	  echo "kit: $$(rt version)"; \
+	  echo "proof of the crate hedrugal: $(call verdict,$(library_logs))"; \
+	  echo "proof of the crate keyshow: $(call verdict,out/build/keyshow-$*.log)"; \
+	  echo "joined by: $$($*-linux-gnu-gcc --version | head -n 1), $$($*-linux-gnu-ld --version | head -n 1)"; \
+	  echo "sources: $$(find $(call prebuilt_sources,$*) -type f | sort | xargs sha256sum | sha256sum | cut -d ' ' -f 1)"; \
+	  for file in libhedrugal.a keyshow.o; do echo "sha256 $$file: $$(sha256sum < $(@D)/$$file | cut -d ' ' -f 1)"; done; \
+	  echo 'to check: make prebuilt-check, with the kit, builds the same bytes again'; \
+	  echo 'to refresh: make prebuilt, with the kit'; \
+	} > $@
+	@[ $$(grep -c ': logic=proved ' $@) = 2 ] || { echo 'make: out/build has no proof to name in $@' >&2; exit 1; }
+
+# The prebuilt library and keyshow for 64-bit ARM, as make builds them for the processor of this machine.
+.PHONY: arm64-library
+arm64 := out/aarch64
+arm64-library: $(addprefix $(arm64)/lib/,libhedrugal.a libhedrugal.so.$(VERSION) hedrugal.h hedrugal.pc) $(arm64)/bin/keyshow
+
+$(arm64)/lib/libhedrugal.a: prebuilt/aarch64-linux/libhedrugal.a
+	@$(check_prebuilt)
+	@mkdir -p $(@D)
+	cp $< $@
+
+$(arm64)/lib/libhedrugal.so.$(VERSION): $(arm64)/lib/libhedrugal.a c/hedrugal.map
+	$(call shared_library,aarch64-linux-gnu-gcc)
+
+$(arm64)/lib/hedrugal.h $(arm64)/lib/hedrugal.pc: $(arm64)/lib/%: c/%
+	@mkdir -p $(@D)
+	cp $< $@
+
+$(arm64)/bin/keyshow: prebuilt/aarch64-linux/keyshow.o
+	@$(check_prebuilt)
+	@mkdir -p $(@D)
+	aarch64-linux-gnu-gcc $(LDFLAGS) -o $@ $<
+
+.PHONY: gate-arm64
+gate-arm64: ## runs the commands of README.md and the tests that need no kit on 64-bit ARM, by qemu: this takes half an hour
+	@tools/needs.sh arm64
+	@tools/clone_test.sh arm64

@@ -1,0 +1,175 @@
+"""The wheel and the source distribution, from a copy of the sources with each kind of library."""
+import base64
+import hashlib
+import os
+import platform
+import shutil
+import tarfile
+import zipfile
+
+import pytest
+
+import hedrugal
+from helpers import HERE, LIBRARY, TOP, run_python
+
+NAME = f"hedrugal-{hedrugal.__version__}"
+PREBUILT = f"prebuilt/{platform.machine()}-linux"
+# The test's machine may have the library installed.
+BUILD = """
+import ctypes.util, sys
+ctypes.util.find_library = {{"hedrugal": {installed!r}}}.get
+sys.path.insert(0, {folder!r})
+import backend
+print(backend.{hook}({made!r}))
+"""
+
+
+@pytest.fixture
+def tree(tmp_path):
+    """A copy of the sources and the prebuilt library, in a folder with a space in its name."""
+    top = tmp_path / "a copy"
+    shutil.copytree(
+        HERE, top / "python", ignore=shutil.ignore_patterns("test_*", "__pycache__", "*.so")
+    )
+    shutil.copytree(os.path.join(TOP, "prebuilt"), top / "prebuilt")
+    for name in ("LICENSE", "THIRD-PARTY"):
+        shutil.copy(os.path.join(TOP, name), top)
+    return top
+
+
+def build(tree, hook="build_wheel", folder="python", installed=None, **env):
+    """Calls a hook, and returns the file that it wrote and what it said."""
+    made = tree / "made"
+    made.mkdir(exist_ok=True)
+    text = BUILD.format(folder=str(tree / folder), hook=hook, made=str(made), installed=installed)
+    status, printed, errors = run_python(text, {"PYTHONPATH": "", **env})
+    assert (status, errors) == (0, "")
+    *said, name = printed.splitlines()
+    return made / name, said
+
+
+def files_of(wheel):
+    with zipfile.ZipFile(wheel) as opened:
+        assert opened.testzip() is None
+        return {name: opened.read(name) for name in opened.namelist()}
+
+
+def check_record(files):
+    """Each file but the record itself stands there with its checksum."""
+    record = f"{NAME}.dist-info/RECORD"
+    lines = files[record].decode().splitlines()
+    assert lines.pop() == f"{record},,"
+    for line in lines:
+        name, checksum, size = line.rsplit(",", 2)
+        digest = base64.urlsafe_b64encode(hashlib.sha256(files[name]).digest()).decode()
+        assert (checksum, size) == (f"sha256={digest.rstrip('=')}", str(len(files[name])))
+    assert len(lines) == len(files) - 1
+
+
+def test_wheel(tree):
+    wheel, said = build(tree, HEDRUGAL_LIBRARY=LIBRARY)
+    assert said == [f"hedrugal: the library is that of HEDRUGAL_LIBRARY: {LIBRARY}"]
+    files = files_of(wheel)
+    check_record(files)
+    for folder, _, names in os.walk(os.path.join(HERE, "hedrugal")):
+        if "__pycache__" not in folder:
+            for name in (os.path.join(folder, it) for it in names if not it.endswith(".so")):
+                with open(name, "rb") as opened:
+                    assert files[os.path.relpath(name, HERE)] == opened.read()
+    with open(LIBRARY, "rb") as opened:
+        assert files["hedrugal/libhedrugal.so"] == opened.read()
+    tag = files[f"{NAME}.dist-info/WHEEL"].decode().split("Tag: ")[1].strip()
+    assert wheel.name == f"{NAME}-{tag}.whl"
+    assert tag.startswith("py3-none-manylinux_") and tag.endswith(platform.machine())
+    assert {f"{NAME}.dist-info/{it}" for it in ("LICENSE", "THIRD-PARTY", "METADATA")} <= {*files}
+    first = wheel.read_bytes()
+    assert build(tree, HEDRUGAL_LIBRARY=os.path.dirname(LIBRARY))[0].read_bytes() == first
+
+
+def test_prebuilt(tree):
+    """It is linked, and loaded from the wheel."""
+    wheel, said = build(tree)
+    assert len(said) == 1 and said[0].startswith("hedrugal: the library is the prebuilt one: ")
+    with zipfile.ZipFile(wheel) as opened:
+        opened.extractall(tree / "own")
+    text = "import hedrugal\nprint(hedrugal.__file__, *hedrugal.InputParser().parse(b'q'))\n"
+    _, printed, _ = run_python(text, {"PYTHONPATH": str(tree / "own")})
+    assert printed.startswith(f"{tree}/own/hedrugal/__init__.py KeyEvent(key='q'")
+
+
+def test_what_comes_first(tree):
+    """What make built comes before an installed library, and that before the prebuilt one."""
+    assert build(tree, installed=LIBRARY)[1] == [
+        f"hedrugal: the library is the installed one: {LIBRARY}"
+    ]
+    built = tree / "out/lib/libhedrugal.so"
+    built.parent.mkdir(parents=True)
+    shutil.copy(LIBRARY, built)
+    assert build(tree, installed=LIBRARY)[1] == [
+        f"hedrugal: the library is what make built: {built}"
+    ]
+    built.unlink()
+    (said,) = build(tree, installed="libhedrugal.so.none")[1]
+    assert said.startswith("hedrugal: the library is the prebuilt one: ")
+
+
+def test_source_distribution(tree):
+    """A wheel of it is that of the sources."""
+    wheel = build(tree)[0].read_bytes()
+    source, said = build(tree, "build_sdist")
+    assert (source.name, said) == (f"{NAME}.tar.gz", [])
+    with tarfile.open(source) as opened:
+        opened.extractall(tree / "unpacked")
+    assert os.listdir(tree / "unpacked") == [NAME]
+    assert (tree / "unpacked" / NAME / "PKG-INFO").read_text().startswith("Metadata-Version: ")
+    assert build(tree, folder=f"unpacked/{NAME}")[0].read_bytes() == wheel
+
+
+def refusal(tree, **env):
+    """The line with which the build of a wheel fails."""
+    text = BUILD.format(
+        folder=str(tree / "python"), hook="build_wheel", made=str(tree), installed=None
+    )
+    status, _, errors = run_python(text, {"PYTHONPATH": "", **env})
+    assert status == 1 and errors.startswith("hedrugal: ") and errors.count("\n") == 1
+    return errors
+
+
+def test_damaged(tree):
+    archive = tree / PREBUILT / "libhedrugal.a"
+    archive.write_bytes(archive.read_bytes() + b"damage")
+    assert f"{archive} isn't what PROVENANCE beside it says" in refusal(tree)
+
+
+def test_no_prebuilt_library(tree):
+    shutil.rmtree(tree / "prebuilt")
+    assert f"there is no {PREBUILT}/libhedrugal.a: HEDRUGAL_LIBRARY" in refusal(tree)
+
+
+def test_no_compiler(tree):
+    assert "there is no compiler 'none'" in refusal(tree, CC="none")
+    assert "the compiler 'false' can't link" in refusal(tree, CC="false -x")
+
+
+def test_named_library(tree):
+    text = tree / "text.so"
+    text.write_text("text")
+    missing = str(tree / "none.so")
+    assert f"there is no {missing}" in refusal(tree, HEDRUGAL_LIBRARY=missing)
+    assert f"{text} isn't a shared library" in refusal(tree, HEDRUGAL_LIBRARY=str(text))
+    assert "hed_version" in refusal(tree, HEDRUGAL_LIBRARY=loaded("libc.so.6"))
+
+
+def loaded(name):
+    """The file of a shared library of this process."""
+    with open("/proc/self/maps", encoding="utf-8") as maps:
+        return next(line.split()[-1] for line in maps if line.rstrip().endswith(f"/{name}"))
+
+
+def test_another_version(tree):
+    module = tree / "python/hedrugal/__init__.py"
+    line = f'__version__ = "{hedrugal.__version__}"\n'
+    text = module.read_text(encoding="utf-8")
+    assert text.count(line) == 1
+    module.write_text(text.replace(line, '__version__ = "9.8.7"\n'), encoding="utf-8")
+    assert "of version 9.8.7: " in refusal(tree, HEDRUGAL_LIBRARY=LIBRARY)

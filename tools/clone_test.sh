@@ -1,0 +1,117 @@
+#!/usr/bin/env bash
+# Runs the commands of README.md from a clone, as on a machine with a compiler and nothing of ours: `make check-clone`.
+#
+#     tools/clone_test.sh [amd64 | arm64]
+#
+# The clone has the files that git knows or would add, as they lie here. The machine is the Debian that tools/root.sh makes, without the
+# kit, an installed library or a network. That for 64-bit ARM is run by qemu, which a namespace of its own calls, so that nothing is left
+# of it. There each command of README.md is run, and the tests that need no kit. Then faults are made: a damaged or a missing prebuilt
+# library, one of another version, and no compiler. Each gets one line that says what is wrong and what to do. The last line is
+# 'N passed, N failed', the status 1 if a case failed.
+. "$(dirname "$0")/common.sh"
+set -u
+export LC_ALL=C.UTF-8
+[ "${1-}" != --help ] || { show_help; exit; }
+top=$(realpath -- "$(dirname "$0")/..")
+cd "$top" || exit
+processor=${1:-amd64}
+root=$(tools/root.sh "$processor") || exit
+work=$(mktemp -d)
+trap 'rm -rf "$work"' EXIT
+user=(--map-root-user) machine=$(uname -m) seconds=600
+case $processor in
+    arm64) machine=aarch64 seconds=3000 ;;
+    *) [ "$(id -u)" != 0 ] || user=() ;;
+esac
+prebuilt=prebuilt/$machine-linux
+
+# Runs a script of bash in the clone on that machine. It can write to the home folder, to that of temporary files and to /usr/local.
+on_machine() { # script
+    # shellcheck disable=SC2016
+    timeout --signal=KILL "$seconds" unshare "${user[@]}" --mount --net --pid --kill-child --fork bash -euc '
+        if [ "$4" = aarch64 ]; then
+            mount -t binfmt_misc none /proc/sys/fs/binfmt_misc
+            cat /usr/lib/binfmt.d/qemu-aarch64.conf > /proc/sys/fs/binfmt_misc/register
+        fi
+        mount --rbind "$1" "$1" && mount -o remount,bind,ro "$1"
+        for folder in root tmp usr/local; do mkdir -p "$2/$folder" && mount --bind "$2/$folder" "$1/$folder"; done
+        mount -t proc proc "$1/proc" && mount --rbind /dev "$1/dev"
+        exec chroot "$1" env -i HOME=/root PATH=/usr/local/bin:/usr/bin:/bin LC_ALL=C.UTF-8 bash -euo pipefail -c "cd /root/hedrugal; $3"
+    ' bash "$root" "$work" "$1" "$machine" < /dev/null
+}
+
+make_clone() {
+    local clone=$work/root/hedrugal
+    mkdir -p "$clone" && git ls-files -z --cached --others --exclude-standard | tar --null --ignore-failed-read -T - -c | tar -C "$clone" -x &&
+        git -C "$clone" init -q && git -C "$clone" add -A && git -C "$clone" -c user.name=test -c user.email=test commit -qm 'As it lies here'
+}
+
+# Prints the command of README.md that begins so.
+command_of() { # words
+    grep -o "\`$1[^\`]*\`" README.md | tr -d '`' | sed 1q | grep . || echo "echo 'README.md has no command $1'; false"
+}
+
+# Clones the repository, runs a script in the clone, and then commands, each of which has to fail with a line that says this.
+refused() { # text script commands..
+    local command
+    for command in "${@:3}"; do
+        if on_machine "rm -rf /root/clone; git clone -q . /root/clone; cd /root/clone; $2; $command" > "$work/said" 2>&1; then return 1; fi
+        cat "$work/said"
+        [ "$(grep -E '^ *(make|hedrugal): ' "$work/said" | grep -cF "$1")" = 1 ] || return
+    done
+}
+
+taken="the library is the prebuilt one"
+# What the example in C prints for its bytes.
+# shellcheck disable=SC2034
+events="<(printf '\\033[1;5Aq') | diff - <(printf '%s\\n' 'UpArrow ctrl' 'Char U+0071')"
+
+# A program in Rust in whose folder the clone lies.
+program="cargo init --quiet --vcs none ~/program; cd ~/program; ln -s ~/hedrugal .
+    echo '$(command_of 'hedrugal = ')' >> Cargo.toml
+    echo 'fn main() { println!(\"{:?}\", hedrugal::input::InputParser::new().parse_as_vec(b\"q\", true)); }' > src/main.rs
+    cargo run 2> ~/said | grep -F '[Key(KeyEvent { key: Char('\\''q'\\''), modifiers: ' || { cat ~/said; false; }
+    grep '$taken' ~/said"
+
+# Waits until a file has a text.
+# shellcheck disable=SC2016
+waits='waits() { timeout 600 bash -c "until grep -qs $1 $2; do sleep 0.2; done"; }'
+
+# Types keys once the example has begun, which is when it says how it ends.
+live="$waits; { waits ends ~/shown; printf '\\033[A'; printf q; } |
+    timeout 600 script -qefc '$(command_of 'cd rust && cargo run')' ~/shown && grep UpArrow ~/shown"
+
+page="$waits; cd /root/own; $(command_of './v/bin/python -m') > /root/address & trap 'kill \$!' EXIT
+    waits http /root/address
+    python3 -c 'import fcntl, socket, struct; fcntl.ioctl(socket.socket(), 0x8914, struct.pack(\"16sH22x\", b\"lo\", 1))'
+    python3 -c 'import re, urllib.request as web; print(web.urlopen(re.search(\"http\\S*\", open(\"/root/address\").read())[0]).read())' |
+        grep -i '<title>'"
+
+parsed="import hedrugal; print(*hedrugal.InputParser().parse(b\"q\"))"
+check 'clone' make_clone
+check 'machine without the kit' on_machine '! command -v rt; [ -e README.md ]'
+check 'hedrugal-keys' on_machine "{ $(command_of 'make keys') < <(printf '\\033[1;5Az'); } > ~/shown 2>&1 || { cat ~/shown; false; }
+    grep -F 'ESC [ 1 ; 5 A -> key UpArrow CTRL = ctrl+up' ~/shown && grep -xF 'make: $taken of $prebuilt' ~/shown"
+check 'a program in C' on_machine "cp c/events.c program.c; $(command_of 'cc program.c'); ./a.out < $events"
+check 'a program in Rust' on_machine "$program"
+check 'example in Rust' on_machine "$live"
+check 'Python module' on_machine "git clone -q . /root/own; cd /root/own; $(command_of 'python3 -m venv') -v > ~/said 2>&1 || { cat ~/said; false; }
+    grep -F 'hedrugal: $taken' ~/said; cd /; /root/own/v/bin/python -c '$parsed'"
+check 'page' on_machine "$page"
+check 'cargo test' on_machine "$(command_of 'cd rust && cargo test') 2> ~/said || { cat ~/said; false; }"
+check 'pytest' on_machine "$(command_of 'python3 -m pytest')"
+check 'make check' on_machine "$(command_of 'make check')"
+check 'make install' on_machine "make install 2> ~/said; cd && cp ~/hedrugal/c/events.c program.c
+    cc program.c \$(pkg-config --cflags --libs hedrugal) -o events && LD_LIBRARY_PATH=/usr/local/lib ./events < $events
+    printf '\\033OA' | keyshow | grep -xF 'key ApplicationUpArrow NONE'"
+check 'installed library in Rust' on_machine "cd rust && CARGO_TARGET_DIR=~/installed cargo build 2> ~/said && ! grep '$taken' ~/said"
+check 'installed library in Python' on_machine "cd /root/own && LD_LIBRARY_PATH=/usr/local/lib v/bin/pip wheel -v -w ~ ./python 2>&1 | grep 'the installed one: /usr/local'"
+check 'make uninstall' on_machine "make uninstall && find /usr/local -type f -exec false '{}' +"
+archive=$prebuilt/libhedrugal.a
+pip='/root/own/v/bin/pip install ./python'
+check 'damaged library' refused "$archive isn't what" "echo damage >> $archive" 'make keys' 'cd rust; cargo build' "$pip"
+check 'no library' refused "there is no $prebuilt" "rm -r $prebuilt" 'make flags' 'cd rust; cargo build' "$pip"
+check 'no compiler' refused "there is no compiler 'none'" 'export CC=none' 'make -e' "$pip"
+check 'another version' refused 'of version 9.8.7' "sed -i '/^__version__/s/\".*\"/\"9.8.7\"/' python/hedrugal/__init__.py
+    sed -i '/^version/s/\".*\"/\"9.8.7\"/' rust/Cargo.*" 'cd rust; cargo build' "$pip"
+print_counts

@@ -1,0 +1,62 @@
+#!/usr/bin/env bash
+# Prints the folder of a whole Debian 12 with a compiler, Python and cargo, for tests as on a machine that has nothing else:
+#
+#     tools/root.sh [amd64 | arm64]
+#
+# mmdebstrap makes it once, in two minutes, in the folder hedrugal of XDG_CACHE_HOME, else of ~/.cache. It is made anew for another list of
+# packages, and once Debian has others of them: the checksum of Debian's list, which has theirs, is part of the folder's name. For arm64 the
+# packages are only unpacked, since their programs would need qemu.
+set -eu
+. "$(dirname "$0")/common.sh"
+case ${1-amd64} in
+    amd64 | arm64) processor=${1-amd64} ;;
+    --help) show_help; exit ;;
+    *) refuse_word "$1" ;;
+esac
+need mmdebstrap mmdebstrap
+
+debian=http://deb.debian.org
+packages=gcc,libc6-dev,make,git,cargo-web,python3,python3-venv,python3-pytest,pkg-config
+cache=${XDG_CACHE_HOME:-$HOME/.cache}/hedrugal
+mkdir -p "$cache"
+exec 3> "$cache/lock" && flock 3
+
+# Prints the checksums of Debian's lists of packages for the processor.
+list_of_debian() {
+    local file
+    file=$(mktemp)
+    /usr/lib/apt/apt-helper -o APT::Sandbox::User=root download-file "$debian/debian/dists/bookworm/InRelease" "$file" > /dev/null 2>&1 &&
+        sed -n "/^SHA256:/,\$s|main/binary-$processor/Packages\$||p" "$file"
+    rm "$file"
+}
+
+make_root() { # folder
+    local sources=("deb $debian/debian bookworm main" "deb $debian/debian-security bookworm-security main") words=(--variant=minbase)
+    [ "$processor" = amd64 ] || words=(--variant=extract --mode=root --include='?essential')
+    progress "makes a Debian 12 for $processor, once, in two minutes"
+    run_quietly timeout 900 mmdebstrap --architectures="$processor" "${words[@]}" --include="$packages" bookworm "$1" "${sources[@]}" ||
+        refuse 'mmdebstrap failed'
+    [ "$processor" = amd64 ] || set_up "$1"
+}
+
+# Makes what the packages' own programs would make.
+set_up() { # folder
+    local names
+    mkdir -p "$1/usr/local"
+    for names in 'gcc cc' 'mawk awk'; do ln -s "${names% *}" "$1/usr/bin/${names#* }"; done
+    for names in passwd group; do cp "$1/usr/share/base-passwd/$names.master" "$1/etc/$names"; done
+}
+
+lists=$(list_of_debian)
+root=$cache/$processor-$(sha256sum <<< "$packages $lists" | cut -c 1-12)
+if [ -z "$lists" ]; then
+    root=$(find "$cache" -maxdepth 1 -name "$processor-*" | head -n 1)
+    [ -n "$root" ] || refuse "$debian doesn't answer"
+    progress "$debian doesn't answer: takes the Debian of before"
+fi
+if [ ! -d "$root" ]; then
+    rm -rf "${cache:?}/$processor"*
+    make_root "$cache/$processor.new"
+    mv "$cache/$processor.new" "$root"
+fi
+echo "$root"
