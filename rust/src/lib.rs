@@ -72,4 +72,5 @@ pub mod keymap;
 mod library_parser;
 mod raw;
 mod table;
+pub mod terminal;
 mod times;

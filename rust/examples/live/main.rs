@@ -8,23 +8,13 @@
 //!
 //! q ends the program, and so do the end of the input, SIGHUP, SIGINT, SIGQUIT and SIGTERM. ^C, ^Z
 //! and ^\ are keys like any other, as in an editor; SIGTSTP from another process stops it until
-//! SIGCONT. The terminal is restored whenever it ends or stops in one of these ways; if its output
-//! can't be written since nobody reads it, its settings alone, a second after the signal.
-mod terminal;
-mod unix;
-
-use hedrugal::input::{InputEvent, InputParser, KeyCode, KeyEvent, Modifiers, MouseEvent};
-use std::io::{self, Read};
+//! SIGCONT. The terminal is restored whenever it ends or stops in one of these ways; if nobody reads
+//! its output, a second after the signal, but for what can't be written at once.
+use hedrugal::extended::ExtendedEvent;
+use hedrugal::input::{InputEvent, KeyCode, KeyEvent, Modifiers, MouseEvent, MouseTracking};
+use hedrugal::terminal::{Event, Modes, Terminal};
+use std::io::{self, Write};
 use std::process::ExitCode;
-use std::time::Instant;
-use terminal::{Modes, Terminal, Woken};
-use unix::signals;
-
-const PASTE_LIMIT: usize = 1 << 20;
-const PASTE_AND_MOUSE: Modes = Modes {
-    on: "\x1b[?2004h\x1b[?1003h\x1b[?1006h",
-    off: "\x1b[?1006l\x1b[?1003l\x1b[?2004l",
-};
 
 fn with_modifiers(mut line: String, modifiers: Modifiers) -> String {
     for (flag, name) in [
@@ -58,7 +48,7 @@ fn mouse_line(event: &MouseEvent) -> String {
     with_modifiers(report, event.modifiers)
 }
 
-fn line(event: &InputEvent) -> String {
+fn input_line(event: &InputEvent) -> String {
     match event {
         InputEvent::Key(key) => key_line(key),
         InputEvent::Mouse(mouse) => mouse_line(mouse),
@@ -67,101 +57,33 @@ fn line(event: &InputEvent) -> String {
     }
 }
 
-fn is_q(event: &InputEvent) -> bool {
-    matches!(event, InputEvent::Key(it) if it.key == KeyCode::Char('q') && it.modifiers.is_empty())
+fn line(event: &Event, terminal: &Terminal) -> io::Result<String> {
+    Ok(match event {
+        Event::Input(ExtendedEvent::Input(event)) => input_line(event),
+        Event::Input(other) => format!("{other:?}"),
+        Event::PastePart(text) => format!("part of a paste, {} bytes", text.len()),
+        Event::Resized { columns, rows } => format!("size {columns} x {rows}"),
+        Event::Resumed => {
+            let (columns, rows) = terminal.size()?;
+            format!("size {columns} x {rows}")
+        }
+    })
 }
 
-/// Returns whether the program goes on.
-fn handle(terminal: &Terminal, event: &InputEvent) -> io::Result<bool> {
-    terminal.print_line(&line(event))?;
-    Ok(!is_q(event))
+fn is_q(event: &Event) -> bool {
+    event.press().is_some_and(|press| press.to_string() == "q")
 }
 
-/// Handles an event while the program goes on.
-fn handle_while(goes_on: &mut io::Result<bool>, terminal: &Terminal, event: &InputEvent) {
-    if matches!(goes_on, Ok(true)) {
-        *goes_on = handle(terminal, event);
-    }
-}
-
-/// The program. Its functions return whether it goes on.
-struct Live {
-    parser: InputParser,
-    terminal: Terminal,
-}
-
-impl Live {
-    fn new(modes: Modes) -> io::Result<Live> {
-        let terminal = Terminal::find(modes)?;
-        let parser = InputParser::try_new().map_err(io::Error::other)?;
-        Ok(Live { parser, terminal })
-    }
-
-    fn run(&mut self) -> io::Result<()> {
-        self.terminal.enter()?;
-        self.terminal.print_line("q ends")?;
-        while self.step()? {}
-        Ok(())
-    }
-
-    fn step(&mut self) -> io::Result<bool> {
-        let time = self.parser.timeout(Instant::now());
-        match self.terminal.wait(time)? {
-            Woken::Input => self.handle_input(),
-            Woken::Pause => self.handle_pause(),
-            Woken::Resized => self.print_size(),
-            Woken::Resumed => {
-                self.parser.reset();
-                self.print_size()
-            }
-            Woken::Ending => Ok(false),
+fn run(modes: Modes) -> io::Result<()> {
+    let mut terminal = Terminal::open_with(modes)?;
+    writeln!(io::stdout(), "q ends")?;
+    while let Some(event) = terminal.read()? {
+        writeln!(io::stdout(), "{}", line(&event, &terminal)?)?;
+        if is_q(&event) {
+            break;
         }
     }
-
-    /// Nothing came in time, so an ESC is the Escape key, and what began a sequence is keys.
-    fn handle_pause(&mut self) -> io::Result<bool> {
-        let mut goes_on = Ok(true);
-        let handle_next = |event| handle_while(&mut goes_on, &self.terminal, &event);
-        self.parser
-            .expire(Instant::now(), handle_next)
-            .map_err(io::Error::other)?;
-        goes_on
-    }
-
-    fn handle_input(&mut self) -> io::Result<bool> {
-        let mut bytes = [0; 4096];
-        let count = self.terminal.input.read(&mut bytes)?;
-        let goes_on = self.parse(&bytes[..count], count > 0)?;
-        self.take_paste()?;
-        Ok(goes_on && count > 0)
-    }
-
-    fn parse(&mut self, bytes: &[u8], more: bool) -> io::Result<bool> {
-        let mut goes_on = Ok(true);
-        let handle_next = |event| handle_while(&mut goes_on, &self.terminal, &event);
-        self.parser
-            .try_parse(bytes, handle_next, more)
-            .map_err(io::Error::other)?;
-        goes_on
-    }
-
-    /// A paste above the limit is handled in parts. It stays open, so no byte of it becomes a key,
-    /// whatever pauses come.
-    fn take_paste(&mut self) -> io::Result<()> {
-        let part = self.parser.take_paste(PASTE_LIMIT);
-        if let Some(text) = part.map_err(io::Error::other)? {
-            let line = format!("part of a paste, {} bytes", text.len());
-            self.terminal.print_line(&line)?;
-        }
-        Ok(())
-    }
-
-    fn print_size(&self) -> io::Result<bool> {
-        let (columns, rows) = self.terminal.size()?;
-        self.terminal
-            .print_line(&format!("size {columns} x {rows}"))?;
-        Ok(true)
-    }
+    Ok(())
 }
 
 fn main() -> ExitCode {
@@ -171,10 +93,11 @@ fn main() -> ExitCode {
         eprintln!("usage: live [--mouse]");
         return ExitCode::from(2);
     }
-    let modes = [Modes::PASTE, PASTE_AND_MOUSE][usize::from(mouse)];
-    let ended = Live::new(modes).and_then(|mut live| live.run());
-    signals::end_by_signal();
-    match ended {
+    let modes = Modes {
+        mouse: mouse.then_some(MouseTracking::Any),
+        ..Modes::default()
+    };
+    match run(modes) {
         Ok(()) => ExitCode::SUCCESS,
         Err(error) => {
             eprintln!("live: {error}");
