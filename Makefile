@@ -35,7 +35,7 @@ all: library $(keyshow) out/bin/hedrugal-keys ## builds the library and the prog
 library: $(library_files) ## builds the library alone
 
 clean: ## removes what was built, but for what the prover keeps in crates/*/out
-	rm -rf out rust/target rust/serde/target
+	rm -rf out rust/target rust/with/target
 
 help: ## prints this
 	@sed -nE 's/^([a-z-]+):[^#]*## (.*)/make \1\t\2/p' Makefile $(wildcard *.mk) | expand -t 22

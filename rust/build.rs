@@ -21,6 +21,16 @@ fn stop(fault: &str, advice: &str) -> ! {
     process::exit(1)
 }
 
+// Goes on without a library, which documentation and `cargo check` don't need: a program fails where
+// it is linked. The script runs again by the next command, since this file isn't there.
+fn go_on_without(fault: &str, advice: &str) -> ! {
+    println!("cargo:warning={fault}: no program can be linked");
+    println!("cargo:warning={advice}");
+    println!("cargo:rustc-link-lib=dylib=hedrugal");
+    println!("cargo:rerun-if-changed=libhedrugal.a");
+    process::exit(0)
+}
+
 // Whether the program is built for Linux on x86-64 with 64-bit pointers, as the library is.
 fn is_for_linux() -> bool {
     let is = |name: &str, value: &str| env::var_os(name).is_some_and(|known| known == value);
@@ -137,7 +147,7 @@ fn library() -> Library {
         )
     }
     let Some(folders) = by_pkg_config() else {
-        stop(
+        go_on_without(
             "pkg-config finds no hedrugal, and HEDRUGAL_LIBRARY isn't set",
             "Install the library, or set HEDRUGAL_LIBRARY to its file or folder, absolute or from \
              where cargo runs.",

@@ -21,13 +21,23 @@
 //! ```
 //!
 //! Everything else in this package does no input of its own: this module calls the system.
+#[cfg(feature = "tokio")]
+mod decoder;
 mod events;
 mod modes;
 mod raw_mode;
 mod reader;
+#[cfg(feature = "mio")]
+mod source;
+#[cfg(feature = "tokio")]
+mod stream;
 mod unix;
 
+#[cfg(feature = "tokio")]
+pub use decoder::EventDecoder;
 pub use events::Event;
 pub use modes::Modes;
 pub use raw_mode::{restore, Heeded, RawMode};
 pub use reader::{Answers, Terminal};
+#[cfg(feature = "tokio")]
+pub use stream::EventStream;

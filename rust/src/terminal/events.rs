@@ -3,6 +3,7 @@ use super::Modes;
 use crate::extended::{ExtendedEvent, ExtendedParser, KeyPress, KeyReport, Protocol, Reading};
 use crate::input::{AllocError, Policy};
 use std::collections::VecDeque;
+use std::io;
 use std::time::{Duration, Instant};
 
 /// Something that happened at a program's terminal.
@@ -174,4 +175,8 @@ impl Events {
             });
         }
     }
+}
+
+pub(super) fn refused(error: AllocError) -> io::Error {
+    io::Error::new(io::ErrorKind::OutOfMemory, error)
 }

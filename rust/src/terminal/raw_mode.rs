@@ -215,7 +215,7 @@ fn terminal_of(standard: impl AsFd + IsTerminal) -> io::Result<File> {
     }
     let opened = File::options().read(true).write(true).open("/dev/tty");
     opened.map_err(|error| {
-        let told = format!("standard input or output is no terminal, and /dev/tty: {error}");
+        let told = format!("standard input and output have to be a terminal, or /dev/tty: {error}");
         io::Error::new(error.kind(), told)
     })
 }

@@ -1,8 +1,9 @@
 // A terminal that a program reads events from.
-use super::events::Events;
+use super::events::{refused, Events};
 use super::unix::{self, EIO};
 use super::{Event, Heeded, Modes, RawMode};
-use crate::input::{AllocError, Policy};
+use crate::extended::ExtendedEvent;
+use crate::input::Policy;
 use std::collections::VecDeque;
 use std::fmt;
 use std::io::{self, ErrorKind, Read, Write};
@@ -14,7 +15,7 @@ use std::time::{Duration, Instant};
 pub struct Answers {
     /// The replies, in their order: `Csi`, `Osc`, `Dcs`, `Apc`, `StringPart`, `StringCut`,
     /// `CursorPosition` and `KeyboardFlags`.
-    pub events: Vec<crate::extended::ExtendedEvent>,
+    pub events: Vec<ExtendedEvent>,
     /// Whether the last question, for the attributes, was answered: no reply is missing then but to
     /// questions that the terminal doesn't know.
     pub is_whole: bool,
@@ -265,19 +266,25 @@ impl Terminal {
     // came.
     fn wait(&mut self, time: Option<Duration>) -> io::Result<bool> {
         let limits = [time, self.timeout()];
-        let [has_input, has_signal] = self.is_ready(limits.into_iter().flatten().min())?;
-        if has_signal {
-            self.heed()?;
-        } else if has_input {
-            self.read_input()?;
-        } else {
+        let came = self.handle_ready(limits.into_iter().flatten().min())?;
+        if !came {
             self.expire()?;
         }
-        Ok(has_input || has_signal)
+        Ok(came)
+    }
+
+    // Waits for input or a signal, and handles it. Returns whether one came.
+    pub(crate) fn handle_ready(&mut self, time: Option<Duration>) -> io::Result<bool> {
+        match self.is_ready(time)? {
+            [_, true] => self.heed()?,
+            [true, false] => self.read_input()?,
+            [false, false] => return Ok(false),
+        }
+        Ok(true)
     }
 
     // Whether there is input, and whether a signal came.
-    pub(crate) fn is_ready(&self, time: Option<Duration>) -> io::Result<[bool; 2]> {
+    fn is_ready(&self, time: Option<Duration>) -> io::Result<[bool; 2]> {
         let polled = self.descriptors().map(|it| it.as_raw_fd());
         match unix::poll_all(polled, time) {
             Err(error) if error.kind() == ErrorKind::Interrupted => Ok([false, true]),
@@ -285,7 +292,7 @@ impl Terminal {
         }
     }
 
-    pub(crate) fn heed(&mut self) -> io::Result<()> {
+    fn heed(&mut self) -> io::Result<()> {
         match self.raw_mode.heed()? {
             Heeded::Resumed => {
                 self.events.parser().reset();
@@ -309,7 +316,7 @@ impl Terminal {
     }
 
     // Reads what is there. A terminal that is gone is at its end.
-    pub(crate) fn read_input(&mut self) -> io::Result<()> {
+    fn read_input(&mut self) -> io::Result<()> {
         let mut bytes = [0; 4096];
         match self.raw_mode.input().read(&mut bytes) {
             Ok(0) => self.events.end(),
@@ -338,8 +345,4 @@ impl fmt::Debug for Terminal {
             .field("raw_mode", &self.raw_mode)
             .finish_non_exhaustive()
     }
-}
-
-fn refused(error: AllocError) -> io::Error {
-    io::Error::new(ErrorKind::OutOfMemory, error)
 }
