@@ -1,4 +1,4 @@
-"""The module for terminals of the Rust package on a pseudo-terminal: the guard alone, and what may go
+"""The Rust package's module for terminals on a pseudo-terminal: the guard alone, and what may go
 wrong. The keys of rust/tests/terminal do what has to go well."""
 import signal
 import termios

@@ -113,7 +113,6 @@ impl Entered {
         if is_noting() {
             return;
         }
-        RESIZED.store(false, SeqCst);
         let is_continued = CONTINUED.swap(false, SeqCst);
         let is_stopping = STOPPING.swap(false, SeqCst);
         match take_ending() {
@@ -143,6 +142,7 @@ extern "C" fn handle(number: c_int) {
     unix::keep_errno(|| {
         with_entered(|entered| match number {
             SIGALRM => end_at_once(entered),
+            SIGWINCH => note(number),
             _ if is_noting() => note(number),
             _ => entered.act(number),
         });

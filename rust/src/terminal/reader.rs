@@ -169,7 +169,7 @@ impl Terminal {
     }
 
     /// Lends the terminal as it was to what a function runs, such as an editor, as
-    /// [`RawMode::lend`] does. What was typed before and isn't read no longer counts.
+    /// [`RawMode::lend`] does. What was typed before and is no event yet no longer counts.
     ///
     /// # Errors
     ///
