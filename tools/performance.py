@@ -148,14 +148,16 @@ PARSERS = {
 OWN = "C with a table each"
 MANY = ["C", OWN, "Legacy", "Kitty", "libtermkey", "crossterm"]
 MANY_INPUTS, MANY_BYTES = ["keys", "csiu"], 1 << 15
-# The layers of rust/examples/with/layers.rs, and how many bytes are typed at once.
+# The layers of rust/examples/with/layers.rs.
 LAYERS = {
     "terminal": "`Terminal::read`",
     "stream": "`EventStream`, on tokio",
     "crossterm": "crossterm's `event::read`",
     "crossterm-stream": "crossterm's `EventStream`, on tokio",
 }
-LAYER_INPUTS, LAYER_BYTES, TYPED_BYTES = ["typed", "keys"], 1 << 13, [1, 512]
+# Inputs of them, and how many bytes are typed at once.
+LAYER_INPUTS = {"one by one": ("typed", 1), "typed text": ("typed", 512), "keys": ("keys", 512)}
+LAYER_BYTES = 1 << 13
 # The tasks of tools/growth/chords.c.
 TASKS = {
     "read name": "to read the name `ctrl+x ctrl+s`",
@@ -251,25 +253,19 @@ class Layers:
     def __init__(self, folder, program):
         (script,), self.program = program
         self.words, self.costs = [PYTHON, "-B", script], {}
-        self.inputs = {name: Input(folder, name, LAYER_BYTES) for name in LAYER_INPUTS}
+        self.inputs = {name: Input(folder, name, LAYER_BYTES) for name, _ in LAYER_INPUTS.values()}
 
     def measure(self):
-        for cell in itertools.product(LAYERS, LAYER_INPUTS, TYPED_BYTES):
-            layer, name, size = cell
+        for layer, (name, size) in itertools.product(LAYERS, LAYER_INPUTS.values()):
             given = self.inputs[name]
-            words = [given.file, str(given.items), str(size), self.program, layer]
-            done = subprocess.run([*self.words, *words], capture_output=True, text=True)
-            if done.returncode:
-                progress(f"left out: a pass of {layer}, {name}, {size} bytes at once: no end")
-                continue
-            cost = int(done.stdout.split()[0]) / given.items
-            self.costs[cell] = min(cost, self.costs.get(cell, cost))
+            words = [given.file, given.items, size, self.program, layer]
+            cost = int(run(*self.words, *map(str, words)).split()[0]) / given.items
+            self.costs[layer, name, size] = min(cost, self.costs.get((layer, name, size), cost))
 
     def rows(self):
-        columns = [*itertools.product(LAYER_INPUTS, TYPED_BYTES)]
         for layer, title in LAYERS.items():
-            found = [self.costs.get((layer, *column)) for column in columns]
-            yield [title, *(figure(cost) if cost is not None else "" for cost in found)]
+            found = [self.costs[layer, *each] for each in LAYER_INPUTS.values()]
+            yield [title, *map(figure, found)]
 
 
 def where(chosen, programs):
@@ -354,8 +350,7 @@ def report(chosen, work):
     for it in tasks:
         parts += ["## Names and bindings", table(["From C", "ns", "bytes of heap"], it.rows())]
     for it in layers:
-        sizes = [f"{TITLES[name]}, {size} at once" for name in LAYER_INPUTS for size in TYPED_BYTES]
-        parts += ["## Layers over a terminal", table(["ns for an event by", *sizes], it.rows())]
+        parts += ["## Layers over a terminal", table(["ns by", *LAYER_INPUTS], it.rows())]
     return "\n\n".join(parts)
 
 

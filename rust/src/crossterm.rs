@@ -8,7 +8,7 @@
 //! ```
 //!
 //! and its terminal is then read by this package. A program that reads a
-//! [`Terminal`](crate::terminal::Terminal) converts its events itself, by [`TryFrom`] or a
+//! [`Terminal`] converts its events itself, by [`TryFrom`] or a
 //! [`Converter`]. What crossterm's type can't say comes back as the error:
 //!
 //! ```
@@ -77,6 +77,15 @@ pub struct Converter {
 
 impl Converter {
     /// Converts an event.
+    ///
+    /// ```
+    /// use crossterm::event::Event;
+    /// use hedrugal::crossterm::Converter;
+    /// use hedrugal::extended::ExtendedEvent;
+    ///
+    /// let mut converter = Converter::default();
+    /// assert_eq!(converter.convert(ExtendedEvent::FocusLost), Ok(Event::FocusLost));
+    /// ```
     ///
     /// # Errors
     ///
@@ -412,6 +421,15 @@ fn wait(reader: &mut Option<Reader>, time: Option<Duration>) -> io::Result<bool>
 /// out. The first call opens the program's terminal, in raw mode; the program turns on what it wants
 /// of it by crossterm's commands, and calls `enable_raw_mode` before.
 ///
+/// ```no_run
+/// use hedrugal::crossterm::event::{self, Event};
+///
+/// if let Event::Key(key) = event::read()? {
+///     println!("{:?}", key.code);
+/// }
+/// # Ok::<(), std::io::Error>(())
+/// ```
+///
 /// # Errors
 ///
 /// If there is no terminal, if it can't be read, or with `UnexpectedEof` where it is gone.
@@ -424,6 +442,16 @@ pub fn read() -> io::Result<theirs::Event> {
 
 /// Waits for an event, at most for so long, as `crossterm::event::poll` does. Returns whether
 /// [`read`] returns one at once.
+///
+/// ```no_run
+/// use hedrugal::crossterm::event;
+/// use std::time::Duration;
+///
+/// while !event::poll(Duration::from_millis(250))? {
+///     println!("still nothing");
+/// }
+/// # Ok::<(), std::io::Error>(())
+/// ```
 ///
 /// # Errors
 ///

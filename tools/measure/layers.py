@@ -1,14 +1,16 @@
 #!/usr/bin/env python3
 """Types a file on a pseudo-terminal to a program that reads so many events of it, and prints the
 nanoseconds of processor time that the program took for them, and their number: layers.py FILE COUNT
-SIZE PROGRAM WORD.. So many bytes are typed at once, and then the next once these were read. It ends
-after a minute, also if the program then still waits."""
+SIZE PROGRAM WORD.. So many bytes are typed at once, and then the next once these were read. With a
+size of 1 the program tells of each event, and the next is typed then. It ends after a minute, even
+if the program still waits."""
 import fcntl
 import os
 import signal
 import struct
 import sys
 import termios
+import time
 from pathlib import Path
 
 
@@ -19,6 +21,12 @@ def unread(terminal):
 def type_text(ours, terminal, text, size):
     for start in range(0, len(text), size):
         os.write(ours, text[start : start + size])
+        if size == 1:
+            os.read(ours, 1)
+            continue
+        # What was written arrives a little later. crossterm waits for a further key if more than a
+        # kilobyte did.
+        time.sleep(0.002)
         while unread(terminal):
             pass
 
@@ -29,9 +37,9 @@ def time_of(words, count, text, size):
     child = os.fork()
     if not child:
         os.login_tty(terminal)
-        os.execv(words[0], [*words, count])
+        os.execv(words[0], [*words, count, "each" if size == 1 else "all"])
     said = b""
-    while b"begun" not in said:
+    while not said.endswith(b"\n"):
         said += os.read(ours, 100)
     type_text(ours, terminal, text, size)
     _, status, used = os.wait4(child, 0)

@@ -37,6 +37,14 @@ pub struct EventDecoder {
 impl EventDecoder {
     /// Makes a decoder for a terminal that was sent [`Modes::on`] of these modes.
     ///
+    /// ```
+    /// use hedrugal::terminal::{EventDecoder, Modes};
+    ///
+    /// let mut decoder = EventDecoder::new(Modes::default())?;
+    /// assert_eq!(decoder.timeout(), None);
+    /// # Ok::<(), std::io::Error>(())
+    /// ```
+    ///
     /// # Errors
     ///
     /// With `OutOfMemory`.
@@ -46,12 +54,28 @@ impl EventDecoder {
     }
 
     /// Returns how long to wait for more bytes. `None` is forever.
+    ///
+    /// ```
+    /// use hedrugal::terminal::{EventDecoder, Modes};
+    ///
+    /// let mut decoder = EventDecoder::new(Modes::default())?;
+    /// assert_eq!(decoder.timeout(), None);
+    /// # Ok::<(), std::io::Error>(())
+    /// ```
     #[must_use]
     pub fn timeout(&mut self) -> Option<Duration> {
         self.events.timeout(Instant::now())
     }
 
     /// Returns the events of what has waited so long: ESC is the Escape key then.
+    ///
+    /// ```
+    /// use hedrugal::terminal::{EventDecoder, Modes};
+    ///
+    /// let mut decoder = EventDecoder::new(Modes::default())?;
+    /// assert!(decoder.expire()?.is_empty());
+    /// # Ok::<(), std::io::Error>(())
+    /// ```
     ///
     /// # Errors
     ///
@@ -67,6 +91,14 @@ impl EventDecoder {
 
     /// Sets how long each kind of bytes may stay buffered.
     ///
+    /// ```
+    /// use hedrugal::terminal::{EventDecoder, Modes};
+    ///
+    /// let mut decoder = EventDecoder::new(Modes::default())?;
+    /// decoder.set_policy(hedrugal::input::Policy::usual())?;
+    /// # Ok::<(), std::io::Error>(())
+    /// ```
+    ///
     /// # Errors
     ///
     /// With `OutOfMemory`. The limits are those from before.
@@ -75,6 +107,14 @@ impl EventDecoder {
     }
 
     /// Sets above how many bytes a paste comes in parts: before that, a megabyte.
+    ///
+    /// ```
+    /// use hedrugal::terminal::{EventDecoder, Modes};
+    ///
+    /// let mut decoder = EventDecoder::new(Modes::default())?;
+    /// decoder.set_paste_limit(4096);
+    /// # Ok::<(), std::io::Error>(())
+    /// ```
     pub fn set_paste_limit(&mut self, limit: usize) {
         self.events.set_paste_limit(limit);
     }

@@ -41,6 +41,10 @@ pub enum Event {
 
 impl Event {
     /// Returns the report of a key, as [`ExtendedEvent::key`] does, and `None` for any other event.
+    ///
+    /// ```
+    /// assert_eq!(hedrugal::terminal::Event::Resumed.key(), None);
+    /// ```
     #[must_use]
     pub fn key(&self) -> Option<KeyReport> {
         match self {
@@ -51,6 +55,10 @@ impl Event {
 
     /// Returns the press of a key, by which a program looks up what the key does. A release and a
     /// modifier alone have none.
+    ///
+    /// ```
+    /// assert_eq!(hedrugal::terminal::Event::Resumed.press(), None);
+    /// ```
     #[must_use]
     pub fn press(&self) -> Option<KeyPress> {
         self.key().and_then(|report| KeyPress::of_report(&report))

@@ -221,6 +221,14 @@ fn terminal_of(standard: impl AsFd + IsTerminal) -> io::Result<File> {
 }
 
 /// What [`RawMode::heed`] found.
+///
+/// ```no_run
+/// use hedrugal::terminal::{Heeded, Modes, RawMode};
+///
+/// let mut guard = RawMode::noting(Modes::default())?;
+/// let is_over = guard.heed()? == Heeded::Ending;
+/// # Ok::<(), std::io::Error>(())
+/// ```
 #[derive(Debug, Clone, Copy, PartialEq, Eq)]
 pub enum Heeded {
     /// No signal that asks for anything.
@@ -290,6 +298,15 @@ impl RawMode {
     /// since nobody reads. Then the terminal is restored but for what can't be written at once, and
     /// the signal ends the program.
     ///
+    /// ```no_run
+    /// use hedrugal::terminal::{Modes, RawMode};
+    ///
+    /// let guard = RawMode::noting(Modes::default())?;
+    /// // The program's loop waits for these two.
+    /// let descriptors = [std::os::fd::AsFd::as_fd(guard.input()), guard.wake()];
+    /// # Ok::<(), std::io::Error>(())
+    /// ```
+    ///
     /// # Errors
     ///
     /// Those of [`RawMode::new`].
@@ -331,6 +348,13 @@ impl RawMode {
 
     /// Returns the terminal's columns and rows.
     ///
+    /// ```no_run
+    /// use hedrugal::terminal::{Modes, RawMode};
+    ///
+    /// let (columns, rows) = RawMode::new(Modes::default())?.size()?;
+    /// # Ok::<(), std::io::Error>(())
+    /// ```
+    ///
     /// # Errors
     ///
     /// If the terminal is gone.
@@ -340,12 +364,30 @@ impl RawMode {
 
     /// Returns the terminal to read from. A program reads it by [`Read`] of `&File`, or by its
     /// descriptor.
+    ///
+    /// ```no_run
+    /// use hedrugal::terminal::{Modes, RawMode};
+    /// use std::io::Read;
+    ///
+    /// let guard = RawMode::new(Modes::default())?;
+    /// let count = guard.input().read(&mut [0; 4096])?;
+    /// # Ok::<(), std::io::Error>(())
+    /// ```
     #[must_use]
     pub fn input(&self) -> &File {
         &self.entered().input
     }
 
     /// Returns the terminal to write to, also if standard output is none.
+    ///
+    /// ```no_run
+    /// use hedrugal::terminal::{Modes, RawMode};
+    /// use std::io::Write;
+    ///
+    /// let guard = RawMode::new(Modes::default())?;
+    /// writeln!(guard.output(), "q ends")?;
+    /// # Ok::<(), std::io::Error>(())
+    /// ```
     #[must_use]
     pub fn output(&self) -> &File {
         &self.entered().output
@@ -353,6 +395,15 @@ impl RawMode {
 
     /// Returns what can be read once a signal was noted, for a loop that waits for several
     /// descriptors. The loop then calls [`RawMode::heed`], and reads nothing of it.
+    ///
+    /// ```no_run
+    /// use hedrugal::terminal::{Modes, RawMode};
+    /// use std::os::fd::AsRawFd;
+    ///
+    /// let guard = RawMode::noting(Modes::default())?;
+    /// println!("{}", guard.wake().as_raw_fd());
+    /// # Ok::<(), std::io::Error>(())
+    /// ```
     #[must_use]
     pub fn wake(&self) -> BorrowedFd<'_> {
         self.wake.as_fd()
@@ -397,6 +448,14 @@ impl RawMode {
     }
 
     /// Returns the signal that ends the program, if one was noted.
+    ///
+    /// ```no_run
+    /// use hedrugal::terminal::{Modes, RawMode};
+    ///
+    /// let guard = RawMode::noting(Modes::default())?;
+    /// assert_eq!(guard.ending(), None);
+    /// # Ok::<(), std::io::Error>(())
+    /// ```
     #[must_use]
     pub fn ending(&self) -> Option<i32> {
         Some(ENDING.load(SeqCst)).filter(|number| *number != 0)

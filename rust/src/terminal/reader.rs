@@ -11,6 +11,17 @@ use std::os::fd::{AsFd, AsRawFd, BorrowedFd};
 use std::time::{Duration, Instant};
 
 /// What [`Terminal::ask`] was answered.
+///
+/// ```no_run
+/// use hedrugal::terminal::Terminal;
+/// use std::time::Duration;
+///
+/// let answers = Terminal::open()?.ask("\x1b[>q", Duration::from_secs(1))?;
+/// if !answers.is_whole {
+///     println!("the terminal answers slowly, or not at all");
+/// }
+/// # Ok::<(), std::io::Error>(())
+/// ```
 #[derive(Debug, Clone, PartialEq, Eq)]
 pub struct Answers {
     /// The replies, in their order: `Csi`, `Osc`, `Dcs`, `Apc`, `StringPart`, `StringCut`,
@@ -55,6 +66,14 @@ pub struct Terminal {
 impl Terminal {
     /// Sets the program's terminal to raw mode with bracketed paste.
     ///
+    /// ```no_run
+    /// use hedrugal::terminal::Terminal;
+    ///
+    /// let mut terminal = Terminal::open()?;
+    /// println!("{:?}", terminal.read()?);
+    /// # Ok::<(), std::io::Error>(())
+    /// ```
+    ///
     /// # Errors
     ///
     /// Those of [`RawMode::new`], or `OutOfMemory`.
@@ -63,6 +82,13 @@ impl Terminal {
     }
 
     /// Sets the program's terminal to raw mode with these modes.
+    ///
+    /// ```no_run
+    /// use hedrugal::terminal::{Modes, Terminal};
+    ///
+    /// let terminal = Terminal::open_with(Modes { focus: true, ..Modes::default() })?;
+    /// # Ok::<(), std::io::Error>(())
+    /// ```
     ///
     /// # Errors
     ///
@@ -77,6 +103,16 @@ impl Terminal {
 
     /// Waits for an event. Returns `None` at the end of the input, where the terminal is gone, and
     /// where a signal ends the program.
+    ///
+    /// ```no_run
+    /// use hedrugal::terminal::Terminal;
+    ///
+    /// let mut terminal = Terminal::open()?;
+    /// while let Some(event) = terminal.read()? {
+    ///     println!("{event:?}");
+    /// }
+    /// # Ok::<(), std::io::Error>(())
+    /// ```
     ///
     /// # Errors
     ///
@@ -171,6 +207,14 @@ impl Terminal {
     /// Lends the terminal as it was to what a function runs, such as an editor, as
     /// [`RawMode::lend`] does. What was typed before and is no event yet no longer counts.
     ///
+    /// ```no_run
+    /// use hedrugal::terminal::Terminal;
+    ///
+    /// let mut terminal = Terminal::open()?;
+    /// let status = terminal.lend(|| std::process::Command::new("vi").status())??;
+    /// # Ok::<(), std::io::Error>(())
+    /// ```
+    ///
     /// # Errors
     ///
     /// If raw mode can't be set again.
@@ -182,6 +226,14 @@ impl Terminal {
 
     /// Returns the terminal's columns and rows.
     ///
+    /// ```no_run
+    /// use hedrugal::terminal::Terminal;
+    ///
+    /// let mut terminal = Terminal::open()?;
+    /// let (columns, rows) = terminal.size()?;
+    /// # Ok::<(), std::io::Error>(())
+    /// ```
+    ///
     /// # Errors
     ///
     /// If the terminal is gone.
@@ -190,6 +242,14 @@ impl Terminal {
     }
 
     /// Returns the signal that ends the program, if one came.
+    ///
+    /// ```no_run
+    /// use hedrugal::terminal::Terminal;
+    ///
+    /// let mut terminal = Terminal::open()?;
+    /// assert_eq!(terminal.ending(), None);
+    /// # Ok::<(), std::io::Error>(())
+    /// ```
     #[must_use]
     pub fn ending(&self) -> Option<i32> {
         self.raw_mode.ending()
@@ -197,6 +257,14 @@ impl Terminal {
 
     /// Returns the guard, by which a program also writes to its terminal where standard output is
     /// none.
+    ///
+    /// ```no_run
+    /// use hedrugal::terminal::Terminal;
+    ///
+    /// let mut terminal = Terminal::open()?;
+    /// std::io::Write::write_all(&mut terminal.raw_mode().output(), b"q ends\n")?;
+    /// # Ok::<(), std::io::Error>(())
+    /// ```
     #[must_use]
     pub fn raw_mode(&self) -> &RawMode {
         &self.raw_mode
@@ -204,6 +272,16 @@ impl Terminal {
 
     /// Sets how long each kind of bytes may stay buffered. Before that, the limits are those of
     /// [`Policy::usual`].
+    ///
+    /// ```no_run
+    /// use hedrugal::input::Policy;
+    /// use hedrugal::terminal::Terminal;
+    /// use std::time::Duration;
+    ///
+    /// let escape = Some(Duration::from_millis(20));
+    /// Terminal::open()?.set_policy(Policy { escape, ..Policy::usual() })?;
+    /// # Ok::<(), std::io::Error>(())
+    /// ```
     ///
     /// # Errors
     ///
@@ -213,6 +291,14 @@ impl Terminal {
     }
 
     /// Sets above how many bytes a paste comes in parts: before that, a megabyte.
+    ///
+    /// ```no_run
+    /// use hedrugal::terminal::Terminal;
+    ///
+    /// let mut terminal = Terminal::open()?;
+    /// terminal.set_paste_limit(4096);
+    /// # Ok::<(), std::io::Error>(())
+    /// ```
     pub fn set_paste_limit(&mut self, limit: usize) {
         self.events.set_paste_limit(limit);
     }
@@ -221,12 +307,28 @@ impl Terminal {
     ///
     /// Such a loop waits until one of [`Terminal::descriptors`] can be read, or this time is over.
     /// Then it calls [`Terminal::poll`] with no time, and [`Terminal::read`], until there is no event.
+    ///
+    /// ```no_run
+    /// use hedrugal::terminal::Terminal;
+    ///
+    /// let mut terminal = Terminal::open()?;
+    /// assert_eq!(terminal.timeout(), None);
+    /// # Ok::<(), std::io::Error>(())
+    /// ```
     #[must_use]
     pub fn timeout(&mut self) -> Option<Duration> {
         self.events.timeout(Instant::now())
     }
 
     /// Returns what a loop of the program's own waits for: the terminal, and the signals that came.
+    ///
+    /// ```no_run
+    /// use hedrugal::terminal::Terminal;
+    ///
+    /// let mut terminal = Terminal::open()?;
+    /// let [input, signals] = terminal.descriptors();
+    /// # Ok::<(), std::io::Error>(())
+    /// ```
     #[must_use]
     pub fn descriptors(&self) -> [BorrowedFd<'_>; 2] {
         [self.raw_mode.input().as_fd(), self.raw_mode.wake()]
