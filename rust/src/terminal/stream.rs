@@ -111,12 +111,14 @@ impl EventStream {
             if self.handle_ready(context)? {
                 continue;
             }
-            let Some(time) = self.terminal.timeout() else {
-                return Poll::Pending;
-            };
-            self.sleep.as_mut().reset(Instant::now() + time);
-            ready!(self.sleep.as_mut().poll(context));
-            self.terminal.expire()?;
+            match self.terminal.timeout() {
+                None => return Poll::Pending,
+                Some(Duration::ZERO) => self.terminal.expire()?,
+                Some(time) => {
+                    self.sleep.as_mut().reset(Instant::now() + time);
+                    ready!(self.sleep.as_mut().poll(context));
+                }
+            }
         }
     }
 
