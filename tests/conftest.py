@@ -92,20 +92,23 @@ def example(compiled, tmp_path_factory):
         if language == "c":
             return [compiled(name, "c99", TOP / f"c/{name}.c", TOP / "c/hedrugal_terminal.c")]
         if language == "rust":
-            return [cargo_build(TOP / "rust/Cargo.toml", "--locked", "--example", name)]
+            target = os.environ.get("CARGO_TARGET_DIR") or tmp_path_factory.mktemp("target")
+            return [cargo_build(TOP / "rust/Cargo.toml", target, name, "--locked")]
         features = ["--features", language, "--config", TOP / "rust/with/system.toml"]
-        return [cargo_build(rust_copy() / "with/Cargo.toml", *features, "--example", name)]
+        return [
+            cargo_build(rust_copy() / "with/Cargo.toml", rust_copy() / "target", name, *features)
+        ]
 
-    def cargo_build(manifest, *words):
-        target = os.environ.get("CARGO_TARGET_DIR") or str(tmp_path_factory.mktemp("target"))
-        env = os.environ | {"HEDRUGAL_LIBRARY": str(LIBRARY), "CARGO_TARGET_DIR": target}
-        words = ["cargo", "build", "--quiet", "--offline", "--manifest-path", manifest, *words]
-        subprocess.run(words, env=env, check=True)
-        return f"{target}/debug/examples/{words[-1]}"
+    def cargo_build(manifest, target, name, *words):
+        env = os.environ | {"HEDRUGAL_LIBRARY": str(LIBRARY), "CARGO_TARGET_DIR": str(target)}
+        words = ["--offline", "--manifest-path", manifest, "--example", name, *words]
+        subprocess.run(["cargo", "build", "--quiet", *words], env=env, check=True)
+        return f"{target}/debug/examples/{name}"
 
     @functools.cache
     def rust_copy():
-        """Cargo writes a lock file beside the manifest of what names other crates."""
+        """Cargo writes a lock file beside the manifest of what names other crates. Each copy is
+        built anew: cargo looks for changes of its sources where an earlier copy lay."""
         copy = tmp_path_factory.mktemp("rust") / "rust"
         return shutil.copytree(TOP / "rust", copy, ignore=shutil.ignore_patterns("target"))
 
