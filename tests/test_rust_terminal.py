@@ -143,7 +143,7 @@ def test_child_that_changes_the_settings(start):
 
 def test_lent(start):
     """A child has the terminal as it was, and changes it. Then it is raw again."""
-    cases = start("", "stty -a; stty erase y; read line; echo got $line")
+    cases = start("", "stty -a; read line; stty erase y; echo got $line")
     cases.play([b"l", "erase = ^H"])
     cases.check_restored()
     cases.play([b"text\n", "got text\r\n", "lent true\r\n"])

@@ -42,6 +42,8 @@ struct Entered {
     raw: Settings,
     on: String,
     off: String,
+    // The signals that are handled, and what each did before.
+    before: Vec<(c_int, Action)>,
 }
 
 impl Entered {
@@ -92,11 +94,11 @@ impl Entered {
             SIGINT | SIGQUIT if IS_LENT.load(SeqCst) => {} // typed for the other program
             SIGTSTP => {
                 self.leave_at_once();
-                stop();
+                self.stop();
             }
             _ => {
                 self.leave_at_once();
-                send_unhandled(number);
+                self.send_as_before(number);
             }
         }
         // A signal that ends the program comes before raw mode, by which a program in the background
@@ -121,6 +123,23 @@ impl Entered {
             None if is_continued => self.act(SIGCONT),
             None => {}
         }
+    }
+
+    // Has a signal do what it did before it was handled.
+    fn send_as_before(&self, number: c_int) {
+        let before = self.before.iter().find(|(it, _)| *it == number);
+        if before.is_some_and(|(_, action)| action.set(number).is_ok()) {
+            unix::send(number);
+            let _ = Action::handled_by(handle).set(number);
+        }
+    }
+
+    // Stops as a program does that handles no SIGTSTP. Returns once it is continued, or at once if no
+    // shell could continue it.
+    fn stop(&self) {
+        self.send_as_before(SIGTSTP);
+        STOPPING.store(false, SeqCst);
+        CONTINUED.store(false, SeqCst);
     }
 }
 
@@ -153,7 +172,7 @@ extern "C" fn handle(number: c_int) {
 fn end_at_once(entered: &Entered) {
     if let Some(number) = take_ending() {
         entered.leave_at_once();
-        send_unhandled(number);
+        entered.send_as_before(number);
     }
 }
 
@@ -179,22 +198,6 @@ fn take_ending() -> Option<c_int> {
         unix::set_alarm(0);
         number
     })
-}
-
-// Has a signal do what it does in a program that doesn't handle it.
-fn send_unhandled(number: c_int) {
-    if let Ok(handled) = Action::DEFAULT.set(number) {
-        unix::send(number);
-        let _ = handled.set(number);
-    }
-}
-
-// Stops as a program does that handles no SIGTSTP. Returns once it is continued, or at once if no
-// shell could continue it.
-fn stop() {
-    send_unhandled(SIGTSTP);
-    STOPPING.store(false, SeqCst);
-    CONTINUED.store(false, SeqCst);
 }
 
 // What can be read once a signal was noted.
@@ -247,8 +250,8 @@ pub enum Heeded {
 /// Each byte arrives at once and as it is: ^C, ^Z and ^\ are keys like any other, and Enter is CR. A
 /// line that is written still ends with LF. What [`Modes`] says is turned on, and off again.
 ///
-/// The terminal is restored too before SIGHUP, SIGINT, SIGQUIT or SIGTERM ends the program, and
-/// before SIGTSTP stops it. After SIGCONT it is in raw mode again, also if SIGSTOP had stopped the
+/// The terminal is restored too before SIGHUP, SIGINT, SIGQUIT or SIGTERM does what it did before the
+/// guard, which ends most programs, and before SIGTSTP stops it. After SIGCONT it is in raw mode again, also if SIGSTOP had stopped the
 /// program. A guard of [`RawMode::new`] does all this in the handler of the signal. That of
 /// [`RawMode::noting`] is for a program with a loop, which hears of signals by [`RawMode::heed`].
 /// Once the guard is dropped, these signals do what they did before, and one that was noted is sent
@@ -267,8 +270,6 @@ pub enum Heeded {
 /// ```
 pub struct RawMode {
     wake: &'static UnixStream,
-    // What each signal did before.
-    actions: Vec<(c_int, Action)>,
 }
 
 impl RawMode {
@@ -316,29 +317,16 @@ impl RawMode {
 
     fn begin(modes: Modes, has_loop: bool) -> io::Result<RawMode> {
         let wake = wake()?;
-        claim(Entered::find(modes)?)?;
+        claim(Entered::find(modes, has_loop)?)?;
         IS_BUSY.store(true, SeqCst);
         HAS_LOOP.store(has_loop, SeqCst);
-        let mut guard = RawMode {
-            wake,
-            actions: Vec::new(),
-        };
-        guard.handle_signals(has_loop)?;
+        let guard = RawMode { wake };
+        for (number, _) in &guard.entered().before {
+            Action::handled_by(handle).set(*number)?;
+        }
         guard.entered().enter()?;
         guard.entered().settle();
         Ok(guard)
-    }
-
-    fn handle_signals(&mut self, has_loop: bool) -> io::Result<()> {
-        for number in HANDLED.into_iter().chain(has_loop.then_some(SIGWINCH)) {
-            let before = Action::handled_by(handle).set(number)?;
-            if before.is_ignored() {
-                before.set(number)?;
-            } else {
-                self.actions.push((number, before));
-            }
-        }
-        Ok(())
     }
 
     fn entered(&self) -> &Entered {
@@ -431,7 +419,7 @@ impl RawMode {
         let is_stopping = STOPPING.load(SeqCst) && self.ending().is_none();
         if is_stopping {
             self.entered().leave();
-            stop();
+            self.entered().stop();
         }
         if self.ending().is_some() {
             return Ok(Heeded::Ending); // before raw mode is set once more
@@ -493,11 +481,18 @@ impl RawMode {
 
 impl Entered {
     // The terminal of this program, as it is before raw mode.
-    fn find(modes: Modes) -> io::Result<Entered> {
+    fn find(modes: Modes, has_loop: bool) -> io::Result<Entered> {
         let input = terminal_of(io::stdin())?;
         let output = terminal_of(io::stdout())?;
         let saved = Settings::of(input.as_raw_fd())?;
+        let signals = HANDLED.into_iter().chain(has_loop.then_some(SIGWINCH));
+        let actions: io::Result<Vec<_>> = signals
+            .map(|number| Action::of(number).map(|action| (number, action)))
+            .collect();
+        let mut before = actions?;
+        before.retain(|(_, action)| !action.is_ignored());
         Ok(Entered {
+            before,
             input,
             output,
             saved,
@@ -544,7 +539,7 @@ impl Drop for RawMode {
     fn drop(&mut self) {
         IS_BUSY.store(true, SeqCst);
         self.entered().leave();
-        for (number, before) in &self.actions {
+        for (number, before) in &self.entered().before {
             let _ = before.set(*number);
         }
         let entered = ENTERED.swap(ptr::null_mut(), SeqCst);

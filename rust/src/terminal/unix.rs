@@ -3,6 +3,7 @@
 use std::ffi::{c_int, c_short, c_uint, c_ulong, c_void};
 use std::io;
 use std::os::fd::RawFd;
+use std::ptr;
 use std::time::Duration;
 
 #[cfg(not(all(
@@ -238,13 +239,19 @@ impl Action {
         self.handler == SIG_IGN
     }
 
-    /// Has the signal do this, and returns what it did. A handler of a signal may call it.
-    pub fn set(&self, number: c_int) -> io::Result<Action> {
-        let mut old = Action::DEFAULT;
-        // SAFETY: both are a `struct sigaction`, and the handlers of this module do only what a
-        // handler may.
-        checked(unsafe { sigaction(number, self, &mut old) })?;
-        Ok(old)
+    /// Returns what the signal does.
+    pub fn of(number: c_int) -> io::Result<Action> {
+        let mut action = Action::DEFAULT;
+        // SAFETY: there is room for a `struct sigaction`.
+        checked(unsafe { sigaction(number, ptr::null(), &mut action) })?;
+        Ok(action)
+    }
+
+    /// Has the signal do this. A handler of a signal may call it.
+    pub fn set(&self, number: c_int) -> io::Result<()> {
+        // SAFETY: it is a `struct sigaction`, and the handlers of this module do only what a handler
+        // may.
+        checked(unsafe { sigaction(number, self, ptr::null_mut()) }).map(|_| ())
     }
 }
 
