@@ -212,3 +212,27 @@ def test_terminal_of_the_session(program, redirected):
         cases.play(["q ends\r\n"])
         cases.check_raw()
         cases.quit()
+
+
+@pytest.fixture
+def tui(example):
+    """A program over crossterm whose terminal is read by this package."""
+    with Terminal(example("crossterm", "tui")) as terminal:
+        terminal.expect_exact("q")
+        yield terminal
+
+
+def test_crossterm(tui):
+    tui.play([b"\033[1;5A", "Up", b"\033", "Esc"])
+    tui.resize(60, 20)
+    tui.play(["Resize", b"q"])
+    assert tui.wait_for_end() == 0
+    assert tui.settings() == tui.settings_before
+
+
+def test_crossterm_ended_by_a_signal(tui):
+    """The settings are those from before crossterm set them."""
+    tui.play([b"x", "Char"])
+    tui.kill(signal.SIGTERM)
+    assert tui.wait_for_end() == -signal.SIGTERM
+    assert tui.settings() == tui.settings_before

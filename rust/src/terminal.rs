@@ -20,7 +20,7 @@
 //! }
 //! ```
 //!
-//! Everything else in this package does no input of its own: this module calls the system.
+//! No other module of this package does input of its own.
 #[cfg(feature = "tokio")]
 mod decoder;
 mod events;
