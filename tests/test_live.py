@@ -1,4 +1,5 @@
-"""The live programs, c/live.c and that in rust/examples/live, on a pseudo-terminal.
+"""The live programs on a pseudo-terminal: c/live.c, that in rust/examples/live, and those in
+rust/examples/with, which do the same on tokio's runtime and in a loop of mio.
 
 However it ends or stops, a program has to print the right lines, leave the terminal's settings as
 they were, and switch off the modes that it switched on."""
@@ -63,9 +64,12 @@ class Live(Terminal):
         self.check_end(0, *lines, "Char U+0071")
 
 
-@pytest.fixture(scope="session", params=["c", "rust"])
+PROGRAMS = {"c": "live", "rust": "live", "tokio": "stream", "mio": "mio"}
+
+
+@pytest.fixture(scope="session", params=PROGRAMS.items(), ids=PROGRAMS)
 def program(request, example):
-    return example(request.param, "live")
+    return example(*request.param)
 
 
 @pytest.fixture
@@ -211,12 +215,13 @@ def test_signal_while_nobody_reads(example, name, number):
 
 
 REFUSED = {
-    "no terminal": ([], 1, b"live: standard input and output have to be a terminal\n"),
-    "an unknown word": (["--foo"], 2, b"usage: live [--mouse]\n"),
+    "no terminal": ([], 1, b"live: standard input and output have to be a terminal"),
+    "an unknown word": (["--foo"], 2, b"usage: live [--mouse]"),
 }
 
 
 @pytest.mark.parametrize("words, status, says", REFUSED.values(), ids=REFUSED)
 def test_without_terminal(program, words, status, says):
     done = run_without_terminal([*program, *words])
-    assert (done.returncode, done.stderr, done.stdout) == (status, says, b"")
+    assert (done.returncode, done.stdout) == (status, b"") and done.stderr.startswith(says)
+    assert done.stderr.count(b"\n") == 1

@@ -308,7 +308,7 @@ SAME = [
     ("HED_VERSION", "debian/changelog", rf"^hedrugal \({VERSION}-"),
     ("HED_VERSION", "rust/Cargo.toml", rf'^version = "{VERSION}"$'),
     ("HED_VERSION", "rust/Cargo.lock", rf'^name = "hedrugal"\nversion = "{VERSION}"$'),
-    ("HED_VERSION", "rust/serde/Cargo.toml", rf'^version = "{VERSION}"$'),
+    ("HED_VERSION", "rust/with/Cargo.toml", rf'^version = "{VERSION}"$'),
     ("HED_VERSION", "python/hedrugal/__init__.py", rf'^__version__ = "{VERSION}"$'),
     ("HED_VERSION", "README.md", rf"^Version {VERSION};"),
     *(

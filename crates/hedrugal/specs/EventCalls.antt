@@ -1,5 +1,5 @@
 -- Which event the numbers and the bytes of one stand for, and what it is written as; and what a terminal replies.
-use Rattle.std.specs.Prelude.{◌≡◌, ⊥, ℕ, Bool, List, length, Some}
+use Rattle.std.specs.Prelude.{◌≡◌, ℕ, Bool, List, length, Some}
 use Rattle.std.specs.Str.{IsUtf8}
 use Rattle.termwiz_keys.specs.declared.types.InputEvent.TheVariants as input
 use Rattle.termwiz_extended_events.specs.declared.types.ExtendedEvent.{ExtendedEvent}
