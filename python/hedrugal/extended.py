@@ -75,6 +75,7 @@ from . import (
     _key,
     _library,
     _Named,
+    _number,
     _number_and_detail,
     _PARSER as _INPUT_PARSER,
     _PARSER_FIELDS,
@@ -138,10 +139,15 @@ class Protocol(_Named):
     entries of the sequence table."""
 
     # numbers.txt: protocol member
-    LEGACY = 0  # For programs that leave Kitty's keyboard protocol off: each entry keeps its key.
-    # For programs that turn it on: an entry that reports a key or the cursor's position is read as
-    # that report.
-    KITTY = 1
+    LEGACY = _number(
+        0,
+        "For programs that leave Kitty's keyboard protocol off: each entry keeps its key.",
+    )
+    KITTY = _number(
+        1,
+        "For programs that turn it on: an entry that reports a key or the cursor's position is "
+        "read as that report.",
+    )
     # numbers.txt: end
 
 
@@ -162,9 +168,9 @@ class SideButtonKind(_Named):
     """What happened to a side button of the mouse."""
 
     # numbers.txt: side_button member
-    PRESS = 1  # It was pressed.
-    RELEASE = 2  # It was released. Only SGR reports (mode 1006) tell which button was.
-    DRAG = 3  # The mouse was moved while it was down.
+    PRESS = _number(1, "It was pressed.")
+    RELEASE = _number(2, "It was released. Only SGR reports (mode 1006) tell which button was.")
+    DRAG = _number(3, "The mouse was moved while it was down.")
     # numbers.txt: end
 
 
@@ -172,9 +178,9 @@ class KeyEventKind(_Named):
     """What happened to a key."""
 
     # numbers.txt: key_event_kind member
-    PRESS = 1  # It was pressed.
-    REPEAT = 2  # It was held down so long that it repeats.
-    RELEASE = 3  # It was released.
+    PRESS = _number(1, "It was pressed.")
+    REPEAT = _number(2, "It was held down so long that it repeats.")
+    RELEASE = _number(3, "It was released.")
     # numbers.txt: end
 
 
@@ -183,15 +189,15 @@ class KittyModifiers(_Flags):
     that are on."""
 
     # numbers.txt: kitty_mod member
-    NONE = 0  # No modifier.
-    SHIFT = 1  # Shift.
-    ALT = 2  # Alt.
-    CTRL = 4  # Ctrl.
-    SUPER = 8  # Super: the key with the Windows logo, or Command.
-    HYPER = 16  # Hyper.
-    META = 32  # Meta.
-    CAPS_LOCK = 64  # Caps Lock is on.
-    NUM_LOCK = 128  # Num Lock is on.
+    NONE = _number(0, "No modifier.")
+    SHIFT = _number(1, "Shift.")
+    ALT = _number(2, "Alt.")
+    CTRL = _number(4, "Ctrl.")
+    SUPER = _number(8, "Super: the key with the Windows logo, or Command.")
+    HYPER = _number(16, "Hyper.")
+    META = _number(32, "Meta.")
+    CAPS_LOCK = _number(64, "Caps Lock is on.")
+    NUM_LOCK = _number(128, "Num Lock is on.")
     # numbers.txt: end
 
 
@@ -285,7 +291,7 @@ class KeyPress:
     held: KittyModifiers = KittyModifiers.NONE
 
     @staticmethod
-    def of_event(event: ExtendedEvent) -> Optional[KeyPress]:
+    def of_event(event: object) -> Optional[KeyPress]:
         """Returns the press of a KeyEvent or a KeyReport, and None for any other event. A modifier
         or a lock by itself has none. Of the modifiers of a KeyEvent SHIFT, ALT, CTRL and SUPER
         count: not LEADER, nor which of two keys is held."""
@@ -336,20 +342,29 @@ class KeyPress:
 class KeyNameErrorKind(_Named):
     """What is wrong with a text that should name keys. Its text says so in words."""
 
-    CONTROL_CHARACTER = _NAMED_CONTROL_CHARACTER  # A control character but the tab is in the text.
-    MODIFIER_TWICE = _NAMED_MODIFIER_TWICE  # A modifier is there twice, as in M-A-x.
-    UNKNOWN_MODIFIER = _NAMED_UNKNOWN_MODIFIER  # A word before + or - is no modifier.
-    MISSING_KEY = _NAMED_MISSING_KEY  # No key stands behind the modifiers, as in ctrl+.
-    BAD_NUMBER = _NAMED_BAD_NUMBER  # A number names no key, as in f256 and f01.
-    UNKNOWN_NAME = _NAMED_UNKNOWN_NAME  # No key has this name.
-    # DEL in capitals is Backspace to Emacs, and Delete to others: write backspace or delete.
-    AMBIGUOUS = _NAMED_AMBIGUOUS
-    NOT_A_KEY = _NAMED_NOT_A_KEY  # The key makes no press by itself, as a modifier or a lock.
-    # Shift with a character that isn't a letter of ASCII: write what it types, as ! for shift+1.
-    SHIFTED_CHARACTER = _NAMED_SHIFTED_CHARACTER
-    TOO_LONG = _NAMED_TOO_LONG  # The text has more than 32 keys.
-    EMPTY = _NAMED_EMPTY  # No key is in the text.
-    BAD_TEXT = _NAMED_BAD_TEXT  # The text has a surrogate, which UTF-8 can't have.
+    CONTROL_CHARACTER = _number(
+        _NAMED_CONTROL_CHARACTER, "A control character but the tab is in the text."
+    )
+    MODIFIER_TWICE = _number(_NAMED_MODIFIER_TWICE, "A modifier is there twice, as in M-A-x.")
+    UNKNOWN_MODIFIER = _number(_NAMED_UNKNOWN_MODIFIER, "A word before + or - is no modifier.")
+    MISSING_KEY = _number(_NAMED_MISSING_KEY, "No key stands behind the modifiers, as in ctrl+.")
+    BAD_NUMBER = _number(_NAMED_BAD_NUMBER, "A number names no key, as in f256 and f01.")
+    UNKNOWN_NAME = _number(_NAMED_UNKNOWN_NAME, "No key has this name.")
+    AMBIGUOUS = _number(
+        _NAMED_AMBIGUOUS,
+        "DEL in capitals is Backspace to Emacs, and Delete to others: write backspace or delete.",
+    )
+    NOT_A_KEY = _number(
+        _NAMED_NOT_A_KEY, "The key makes no press by itself, as a modifier or a lock."
+    )
+    SHIFTED_CHARACTER = _number(
+        _NAMED_SHIFTED_CHARACTER,
+        "Shift with a character that isn't a letter of ASCII: write what it types, as ! for "
+        "shift+1.",
+    )
+    TOO_LONG = _number(_NAMED_TOO_LONG, "The text has more than 32 keys.")
+    EMPTY = _number(_NAMED_EMPTY, "No key is in the text.")
+    BAD_TEXT = _number(_NAMED_BAD_TEXT, "The text has a surrogate, which UTF-8 can't have.")
 
     def __str__(self) -> str:
         return _faults[self]
@@ -812,9 +827,9 @@ class Apc:
 class StringKind(_Named):
     """The kind of a string, by what introduces it."""
 
-    OSC = _KIND_OSC  # An operating system command, after ESC ].
-    DCS = _KIND_DCS  # A device control string, after ESC P.
-    APC = _KIND_APC  # An application program command, after ESC _.
+    OSC = _number(_KIND_OSC, "An operating system command, after ESC ].")
+    DCS = _number(_KIND_DCS, "A device control string, after ESC P.")
+    APC = _number(_KIND_APC, "An application program command, after ESC _.")
 
 
 @dataclass(frozen=True)
@@ -1330,7 +1345,7 @@ _REPORTED = [
 ]
 
 
-def key_report(event: ExtendedEvent) -> Optional[KeyReport]:
+def key_report(event: object) -> Optional[KeyReport]:
     r"""Returns the report of a key, so that a program needs one case for keys: a KeyReport as it
     is, and for a KeyEvent a press of its key with its SHIFT, ALT and CTRL. Returns None for any
     other event.
