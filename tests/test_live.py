@@ -63,7 +63,7 @@ class Live(Terminal):
         self.check_end(0, *lines, "Char U+0071")
 
 
-@pytest.fixture(scope="session", params=["c", "rust"])
+@pytest.fixture(scope="session", params=["c", "rust", "python"])
 def program(request, example):
     return example(request.param, "live")
 
