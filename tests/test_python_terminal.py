@@ -523,6 +523,28 @@ def test_ask_in_vain(asking):
     program.ends_with(ANSWERS[0], "asked", "a", "Csi(data=b'?62c')", "q")
 
 
+def test_ask_that_is_interrupted(run):
+    """What came until then is an event."""
+    program = run(
+        """
+def interrupt(*_):
+    raise KeyError
+signal.signal(signal.SIGUSR1, interrupt)
+with Terminal() as terminal:
+    ready()
+    try:
+        terminal.ask(b"", 60)
+    except KeyError:
+        show("interrupted")
+    show_until_q(terminal)
+"""
+    )
+    program.play(["\033[c", b"\033[?1;2$y\033[200~", 0.1])
+    program.kill(signal.SIGUSR1)
+    program.play(["interrupted\r\n", END + b"q"])
+    program.ends_with("interrupted", "Csi(data=b'?1;2$y')", "Paste(text='')", "q")
+
+
 ASYNC = """
 async def main():
     async def tick():

@@ -417,6 +417,10 @@ class Terminal:
         try:
             self.write(question + _ATTRIBUTES)
             yield replies
+        except BaseException:
+            # Nobody gets the list, so they are events.
+            self._events.extend(replies)
+            raise
         finally:
             self._replies = None
             self.parser.forget_positions()
