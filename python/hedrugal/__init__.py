@@ -963,6 +963,16 @@ def _key_event(number: int, detail: int, modifiers: int) -> KeyEvent:
     return KeyEvent(_key(number, detail), _modifiers(modifiers))
 
 
+def _key_or_mouse(raw: Any, offset: int) -> Union[KeyEvent, MouseEvent, None]:
+    """The key or mouse event that has its struct at this place, if it is one."""
+    kind, buttons, modifiers, key, x, y, detail, _ = _fields_of(raw, offset)
+    if kind == _KIND_KEY:
+        return _key_event(key, detail, modifiers)
+    if kind == _KIND_MOUSE:
+        return MouseEvent(x, y, _buttons(buttons), _modifiers(modifiers))
+    return None
+
+
 # The idle parser whose sequence table all parsers share. It is never freed, so the table stays
 # until the process ends.
 _idle = _RawParser()
@@ -1070,6 +1080,7 @@ class _EventParser(_Closable, Generic[_AnyEvent]):
     events."""
 
     _calls: ClassVar[_ParserCalls]
+    _has_front: bool
 
     def __init__(self, raw: Any, front: Any, init: Any, free: Any) -> None:
         super().__init__("parser", raw, init, free)
@@ -1159,7 +1170,7 @@ class _EventParser(_Closable, Generic[_AnyEvent]):
         with self._alone():
             self._check_open()
             # What was refused memory comes before what is buffered.
-            if self._kept or self._has_front:
+            if self._holds_events():
                 return None
             if not _is_event(self._calls.flush_escape(self._raw, self._front)):
                 return None
@@ -1209,7 +1220,7 @@ class _EventParser(_Closable, Generic[_AnyEvent]):
         _not_negative(limit)
         with self._alone():
             self._check_open()
-            if self._kept or self._has_front:
+            if self._holds_events():
                 return None
             if not self._part and not self._find_part(min(limit, sys.maxsize)):
                 return None
@@ -1226,7 +1237,7 @@ class _EventParser(_Closable, Generic[_AnyEvent]):
         count = ctypes.c_size_t()
         with self._alone():
             self._check_open()
-            if self._kept or self._has_front:
+            if self._holds_events():
                 return None
             if not self._calls.skip_paste(self._raw, count):
                 return None
@@ -1317,7 +1328,7 @@ class _EventParser(_Closable, Generic[_AnyEvent]):
         with self._alone():
             self._check_open()
             # What was refused memory waits no longer.
-            if self._kept or self._has_front:
+            if self._holds_events():
                 return 0.0
             return _wait_of(self._calls.timeout(self._raw, millis()))
 
@@ -1342,7 +1353,7 @@ class _EventParser(_Closable, Generic[_AnyEvent]):
             self._check_open()
             events = self._kept
             # What was refused memory comes first, and what is decided behind it.
-            if events or self._has_front:
+            if self._holds_events():
                 self._move_events(events, True)
             due = millis()
             while self._find_due(due):
@@ -1357,8 +1368,7 @@ class _EventParser(_Closable, Generic[_AnyEvent]):
         Call it where earlier bytes no longer count, as after another program had the terminal."""
         with self._alone():
             self._check_open()
-            self._kept.clear()
-            self._has_front, self._part = False, b""
+            self._forget_events()
             self._calls.drop_text(self._raw)
             return cast(int, self._calls.reset(self._raw))
 
@@ -1391,6 +1401,15 @@ class _EventParser(_Closable, Generic[_AnyEvent]):
         self._leave_front()
         return event
 
+    def _holds_events(self) -> bool:
+        """Whether there are events that were taken from the buffer, and then refused memory."""
+        return bool(self._kept) or self._has_front
+
+    def _forget_events(self) -> None:
+        """Forgets these events."""
+        self._kept.clear()
+        self._has_front, self._part = False, b""
+
     def _find_front(self, maybe_more: bool) -> bool:
         """Whether there is an event at the front. It stays there until `_leave_front`."""
         if not self._has_front:
@@ -1414,9 +1433,9 @@ class _EventParser(_Closable, Generic[_AnyEvent]):
         raise NotImplementedError
 
     def _leave_front(self) -> None:
-        self._has_front = False
+        self._has_front, self._part = False, b""
         if self._has_text:
-            self._has_text, self._part = False, b""
+            self._has_text = False
             self._calls.drop_text(self._raw)
 
     def _find_part(self, limit: int) -> bool:
@@ -1435,19 +1454,16 @@ class _EventParser(_Closable, Generic[_AnyEvent]):
         self._calls.drop_text(self._raw)
         return True
 
-    def _input_event(self, offset: int = 0) -> Event:
-        """The key, mouse event or paste of which the front has the struct at this place."""
-        kind, buttons, modifiers, key, x, y, detail, paste_len = _fields_of(self._front, offset)
-        if kind == _KIND_KEY:
-            return _key_event(key, detail, modifiers)
-        if kind == _KIND_MOUSE:
-            return MouseEvent(x, y, _buttons(buttons), _modifiers(modifiers))
-        if kind == _KIND_PASTE:
-            return Paste(str(self._part, "utf-8") + self._text(paste_len).decode("utf-8"))
-        _fault()
+    def _paste(self, event: _RawEvent) -> Paste:
+        if event.kind != _KIND_PASTE:
+            _fault()
+        return Paste(str(self._part, "utf-8") + self._text(event.paste_len).decode("utf-8"))
 
     def _text(self, length: int) -> bytearray:
         """The text of the event at the front, which the library keeps until `_leave_front`."""
+        # Without a text of its own, the library may keep that of another event.
+        if not length:
+            return bytearray()
         self._has_text = True
         room = bytearray(length)
         pointer, _ = _borrowed(room)
@@ -1496,13 +1512,15 @@ class InputParser(_EventParser[Event]):
         reset=_library.hed_parser_reset,
         shrink_to=_library.hed_parser_shrink_to,
     )
-    _front_event = _EventParser._input_event
 
     def __init__(self) -> None:
         def init(raw: _RawParser) -> bool:
             return bool(_library.hed_parser_init_sharing(raw, _parser_with_table()))
 
         super().__init__(_RawParser(), _RawEvent(), init, _library.hed_parser_free)
+
+    def _front_event(self) -> Event:
+        return _key_or_mouse(self._front, 0) or self._paste(self._front)
 
     def entry(self, place: int) -> Optional[Entry]:
         r"""Returns the entry of the sequence table at a place, in the order of the entries' bytes.

@@ -58,6 +58,7 @@ from . import (
     _KIND_SIDE_BUTTON,
     _KIND_STRING_CUT,
     _KIND_STRING_PART,
+    _NEXT_EVENT,
     EncodeError,
     Event,
     Key,
@@ -72,7 +73,9 @@ from . import (
     _EventParser,
     _fault,
     _Flags,
+    _is_event,
     _key,
+    _key_or_mouse,
     _library,
     _Named,
     _number,
@@ -965,6 +968,10 @@ _CALLS: Dict[str, Tuple[Any, List[Any]]] = {
     "hed_extended_free": (None, [_PARSER]),
     "hed_extended_feed": (ctypes.c_bool, [_PARSER, _BYTES, ctypes.c_size_t]),
     "hed_extended_next": (ctypes.c_uint32, [_PARSER, ctypes.c_bool, _EVENT]),
+    "hed_extended_next_events": (
+        ctypes.c_uint32,
+        [_PARSER, ctypes.c_bool, _EVENT, ctypes.c_size_t, _BYTES, ctypes.c_size_t, _COUNT],
+    ),
     "hed_extended_text": (ctypes.c_size_t, [_PARSER, _BYTES, ctypes.c_size_t]),
     "hed_extended_drop_text": (None, [_PARSER]),
     "hed_extended_shrink_to": (None, [_PARSER, ctypes.c_size_t]),
@@ -1248,6 +1255,10 @@ class ExtendedParser(_EventParser[ExtendedEvent]):
             )
 
         super().__init__(_RawExtended(), _RawExtendedEvent(), init, _library.hed_extended_free)
+        # The library wrote so many events to the array, of which those from this place on are left.
+        self._array, self._count, self._at = (_RawExtendedEvent * _ARRAY)(), ctypes.c_size_t(), 0
+        self._next_events = _library.hed_extended_next_events
+        self._plain_event = _events.__getitem__
 
     @property
     def protocol(self) -> Protocol:
@@ -1309,32 +1320,122 @@ class ExtendedParser(_EventParser[ExtendedEvent]):
             self._check_open()
             _library.hed_extended_forget_positions(self._raw)
 
+    # Events are taken in arrays, but for those that bring a text.
+
+    def _holds_events(self) -> bool:
+        return super()._holds_events() or self._at < self._count.value
+
+    def _forget_events(self) -> None:
+        super()._forget_events()
+        self._at = self._count.value
+
+    def _find_front(self, maybe_more: bool) -> bool:
+        if not self._has_front and self._at < self._count.value:
+            self._leave_array()
+        return super()._find_front(maybe_more)
+
+    def _move_events(self, events: List[ExtendedEvent], more: bool) -> None:
+        answer = _NEXT_EVENT
+        while True:
+            if self._has_front:
+                events.append(self._front_event())
+                self._leave_front()
+            elif self._at < self._count.value:
+                if not self._move_array(events):
+                    self._leave_array()
+            elif _is_event(answer):
+                answer = self._next_events(
+                    self._raw, more, self._array, _ARRAY, None, 0, self._count
+                )
+                self._at = 0
+            else:
+                return
+
+    def _move_array(self, events: List[ExtendedEvent]) -> bool:
+        """Moves the events of the array to a list, up to the first one that brings a text. Returns
+        whether there was one before that. What memory is refused for stays in the array."""
+        before, records = len(events), _records(self._count.value - self._at)
+        try:
+            events.extend(map(self._plain_event, records(self._array, self._at * _RECORD)))
+        except _BringsText:
+            pass
+        finally:
+            moved = len(events) - before
+            self._at += moved
+        return moved > 0
+
+    def _leave_array(self) -> None:
+        """Moves the next event of the array to the front."""
+        self._front = self._array[self._at]
+        self._at, self._has_front = self._at + 1, True
+
     def _front_event(self) -> ExtendedEvent:
         front = self._front
         kind = front.kind
-        if kind in (_KIND_KEY, _KIND_MOUSE, _KIND_PASTE):
-            return self._input_event(_INPUT_AT)
-        if kind == _KIND_REPORT:
-            text = self._text(front.text_len).decode("utf-8") if front.text_len else ""
+        if kind == _KIND_PASTE:
+            return self._paste(front.input)
+        if kind == _KIND_REPORT and front.text_len:
+            text = self._text(front.text_len).decode("utf-8")
             return _key_report(*_report_fields_of(front, _REPORT_AT), text)
         if kind in _of_data:
             return _of_data[kind](bytes(self._text(front.text_len)))
         if kind in _of_string:
             of = _string_kinds.get(front.flags) or _fault()
             return _of_string[kind](of, bytes(self._text(front.text_len)))
-        if kind == _KIND_CURSOR_POSITION:
-            return CursorPosition(front.row, front.column)
-        if kind == _KIND_SIDE_BUTTON:
-            return _side_button(front.flags, front.input)
-        if kind == _KIND_RESIZE:
-            return Resize(front.rows, front.columns, front.height, front.width)
-        if kind == _KIND_KEYBOARD_FLAGS:
-            return _keyboard_flags(front.flags)
-        if kind == _KIND_FOCUS_GAINED:
-            return _focus_gained
-        if kind == _KIND_FOCUS_LOST:
-            return _focus_lost
-        _fault()
+        return _event_without_text(front)
+
+
+def _event_without_text(raw: _RawExtendedEvent) -> ExtendedEvent:
+    kind = raw.kind
+    if kind in (_KIND_KEY, _KIND_MOUSE):
+        return _key_or_mouse(raw, _INPUT_AT) or _fault()
+    if kind == _KIND_REPORT:
+        return _key_report(*_report_fields_of(raw, _REPORT_AT), "")
+    if kind == _KIND_CURSOR_POSITION:
+        return CursorPosition(raw.row, raw.column)
+    if kind == _KIND_SIDE_BUTTON:
+        return _side_button(raw.flags, raw.input)
+    if kind == _KIND_RESIZE:
+        return Resize(raw.rows, raw.columns, raw.height, raw.width)
+    if kind == _KIND_KEYBOARD_FLAGS:
+        return _keyboard_flags(raw.flags)
+    if kind == _KIND_FOCUS_GAINED:
+        return _focus_gained
+    if kind == _KIND_FOCUS_LOST:
+        return _focus_lost
+    _fault()
+
+
+class _BringsText(Exception):
+    """An event has a text, which is not in its struct."""
+
+
+class _Events(Dict[bytes, ExtendedEvent]):
+    """The events of structs that bring no text. Those of keys are found again."""
+
+    def __missing__(self, record: bytes) -> ExtendedEvent:
+        raw = _RawExtendedEvent.from_buffer_copy(record)
+        if raw.kind in _WITH_TEXT or raw.text_len:
+            raise _BringsText
+        event = _event_without_text(raw)
+        if raw.kind in (_KIND_KEY, _KIND_REPORT):
+            if len(self) >= _MOST_KEYS:
+                self.clear()
+            self[record] = event
+        return event
+
+
+_events = _Events()
+_WITH_TEXT = frozenset((_KIND_PASTE, *_of_data, *_of_string))
+# How many events of keys are found again, the structs of an array, and the bytes of one.
+_MOST_KEYS, _ARRAY = 4096, 64
+_RECORD = ctypes.sizeof(_RawExtendedEvent)
+
+
+@functools.lru_cache(maxsize=None)
+def _records(count: int) -> Callable[[Any, int], Tuple[bytes, ...]]:
+    """What unpacks so many structs of an array, from a place in bytes on."""
+    return struct.Struct(f"{_RECORD}s" * count).unpack_from
 
 
 # The modifiers of a key event, and what they are in a report.
