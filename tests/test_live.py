@@ -1,16 +1,16 @@
-"""The live programs on a pseudo-terminal: c/live.c, that in rust/examples/live, and those in
-rust/examples/with, which do the same on tokio's runtime and in a loop of mio.
+"""The live programs on a pseudo-terminal: c/live.c, those in rust/examples/live and
+python/examples, and those in rust/examples/with, which do the same on tokio's runtime and in a
+loop of mio.
 
 However it ends or stops, a program has to print the right lines, leave the terminal's settings as
 they were, and switch off the modes that it switched on."""
 import re
 import signal
-import sys
 import termios
 import time
 
 import pytest
-from conftest import HEDRUGAL_KEYS, TOP, run_without_terminal
+from conftest import HEDRUGAL_KEYS, run_without_terminal
 from terminal import END, ENDING_SIGNALS, LONG_PAUSE, PAUSE, START, Terminal
 
 LIMIT = 1 << 20
@@ -64,7 +64,7 @@ class Live(Terminal):
         self.check_end(0, *lines, "Char U+0071")
 
 
-PROGRAMS = {"c": "live", "rust": "live", "tokio": "stream", "mio": "mio"}
+PROGRAMS = {"c": "live", "rust": "live", "python": "live", "tokio": "stream", "mio": "mio"}
 
 
 @pytest.fixture(scope="session", params=PROGRAMS.items(), ids=PROGRAMS)
@@ -198,14 +198,15 @@ def test_sigtstp_where_no_shell_could_continue_it(start):
     live.quit(SIZE)
 
 
-OTHERS = {"python": [sys.executable, TOP / "python/examples/ask.py"], "keys": [HEDRUGAL_KEYS]}
+PROGRAMS = ["c live", "c ask", "rust live", "rust ask", "python live", "python ask", "keys"]
 
 
-@pytest.mark.parametrize("name", ["c live", "c ask", "rust live", "rust ask", *OTHERS])
+@pytest.mark.parametrize("name", PROGRAMS)
 @pytest.mark.parametrize("number", [signal.SIGHUP, signal.SIGTERM], ids=lambda it: it.name)
 def test_signal_while_nobody_reads(example, name, number):
     """Each program on a terminal ends soon, although its output blocks."""
-    with Terminal(OTHERS.get(name) or example(*name.split()), is_stopped=True) as terminal:
+    words = [HEDRUGAL_KEYS] if name == "keys" else example(*name.split())
+    with Terminal(words, is_stopped=True) as terminal:
         while not terminal.is_raw():
             time.sleep(0.02)
         time.sleep(PAUSE)

@@ -335,6 +335,16 @@ def test_faults_of_notations(page):
         assert page.run("$('text').ariaInvalid") == "true"
 
 
+def test_half_a_pair(page):
+    """What begins with pairs of digits isn't taken for text because the last one lacks a digit."""
+    for text in ("1b 5b 4", "1b5b4", "0x1b, 0x5b, 0x4"):
+        page.enter(text)
+        page.check([], "ESC [")
+        assert page.text("fault") == "‘4’ is no pair of hexadecimal digits."
+        assert page.text("written-as").startswith("Written as hexadecimal")
+    page.reads("1b 5b 4 1", typed("1b 5b 4 1"))
+
+
 def test_chosen_notations(page):
     page.reads("1b 5b 41", ["key UpArrow NONE"])
     page.click("input[name=notation][value=text]")

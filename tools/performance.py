@@ -14,7 +14,8 @@ turn, and of each the least time counts. What is printed is what docs/PERFORMANC
   crossterm's
 
 The parsers are C (InputParser), Legacy and Kitty (the extended parser under that protocol, from C),
-Rust and Python (InputParser), libtermkey, crossterm and prompt_toolkit. The last three are those of
+Rust and Python (InputParser), Python Legacy (the extended parser), Python Keys (the parser for
+prompt_toolkit), libtermkey, crossterm and prompt_toolkit. The last three are those of
 Debian's packages. If one can't be built its column says why; `tools/needs.sh --install performance`
 installs them. To compare two commits there is tools/measure.sh."""
 import argparse
@@ -140,6 +141,8 @@ PARSERS = {
     "Kitty": lambda it: it.from_c("-DPROTOCOL=HED_PROTOCOL_KITTY"),
     "Rust": Builder.rust,
     "Python": lambda it: it.in_python("hedrugal"),
+    "Python Legacy": lambda it: it.in_python("legacy"),
+    "Python Keys": lambda it: it.in_python("keys"),
     "libtermkey": lambda it: it.linked(f"{TOOLS}/libtermkey.c", "-ltermkey"),
     "crossterm": Builder.crossterm,
     "prompt_toolkit": lambda it: it.in_python("prompt_toolkit"),

@@ -133,14 +133,15 @@ function bytesOfWords(text, wrong) {
 
 const NOTATIONS = {
   text: { read: bytesOfText, name: 'text and escapes', why: '' },
-  hex: { read: bytesOfHex, name: 'hexadecimal', why: ', since all of it is pairs of hexadecimal digits' },
+  hex: { read: bytesOfHex, name: 'hexadecimal', why: ', since all of it is hexadecimal digits, in pairs' },
   names: { read: bytesOfWords, name: 'words', why: ', since it begins with ESC' },
 };
 
 function notationOf(text) {
   if (/^\s*ESC(?![A-Za-z])/.test(text)) return 'names';
-  if (/^\s*(0x)?[0-9a-f]{2}([\s,]+(0x)?[0-9a-f]{2})+[\s,]*$/i.test(text) || /^\s*1b([0-9a-f]{2})+\s*$/i.test(text)) return 'hex';
-  return 'text';
+  // A last pair may lack a digit: it is on its way, or a fault.
+  const isHex = [/^\s*(0x)?[0-9a-f]{2}([\s,]+(0x)?[0-9a-f]{2})+([\s,]+(0x)?[0-9a-f])?[\s,]*$/i, /^\s*1b([0-9a-f]{2})+[0-9a-f]?\s*$/i];
+  return isHex.some((it) => it.test(text)) ? 'hex' : 'text';
 }
 
 function bytesOf(text, notation) {
