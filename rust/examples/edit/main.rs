@@ -24,6 +24,7 @@ use hedrugal::extended::{typed_text, Bindings, ExtendedEvent, ExtendedParser};
 use hedrugal::extended::{KeyPress, KeyReport, Protocol, Reading};
 use hedrugal::input::InputEvent;
 use screen::Screen;
+use std::borrow::Cow;
 use std::io::{self, Read};
 use std::path::Path;
 use std::process::ExitCode;
@@ -35,8 +36,8 @@ const PASTE_LIMIT: usize = 1 << 20;
 
 /// The last of these asks for the flags of Kitty's protocol. A terminal replies if it has it.
 const MODES: Modes = Modes {
-    on: "\x1b[?2004h\x1b[>4;2m\x1b[>5u\x1b[?u",
-    off: "\x1b[<u\x1b[>4m\x1b[?2004l",
+    on: Cow::Borrowed("\x1b[?2004h\x1b[>4;2m\x1b[>5u\x1b[?u"),
+    off: Cow::Borrowed("\x1b[<u\x1b[>4m\x1b[?2004l"),
 };
 
 /// The program. Its functions return whether it goes on.

@@ -14,6 +14,7 @@ mod terminal;
 mod unix;
 
 use hedrugal::input::{InputEvent, InputParser, KeyCode, KeyEvent, Modifiers, MouseEvent};
+use std::borrow::Cow;
 use std::io::{self, Read};
 use std::process::ExitCode;
 use std::time::Instant;
@@ -22,8 +23,8 @@ use unix::signals;
 
 const PASTE_LIMIT: usize = 1 << 20;
 const PASTE_AND_MOUSE: Modes = Modes {
-    on: "\x1b[?2004h\x1b[?1003h\x1b[?1006h",
-    off: "\x1b[?1006l\x1b[?1003l\x1b[?2004l",
+    on: Cow::Borrowed("\x1b[?2004h\x1b[?1003h\x1b[?1006h"),
+    off: Cow::Borrowed("\x1b[?1006l\x1b[?1003l\x1b[?2004l"),
 };
 
 fn with_modifiers(mut line: String, modifiers: Modifiers) -> String {
@@ -157,9 +158,9 @@ impl Live {
     }
 
     fn print_size(&self) -> io::Result<bool> {
-        let (columns, rows) = self.terminal.size()?;
+        let size = self.terminal.size()?;
         self.terminal
-            .print_line(&format!("size {columns} x {rows}"))?;
+            .print_line(&format!("size {} x {}", size.columns, size.rows))?;
         Ok(true)
     }
 }
@@ -171,7 +172,7 @@ fn main() -> ExitCode {
         eprintln!("usage: live [--mouse]");
         return ExitCode::from(2);
     }
-    let modes = [Modes::PASTE, PASTE_AND_MOUSE][usize::from(mouse)];
+    let modes = if mouse { PASTE_AND_MOUSE } else { Modes::PASTE };
     let ended = Live::new(modes).and_then(|mut live| live.run());
     signals::end_by_signal();
     match ended {
