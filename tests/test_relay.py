@@ -145,7 +145,7 @@ KITTY_TO_LEGACY = {
     "function keys": (b"", b"\033[P\033[13~\033[15;2~", b"\033OP\033OR\033[15;2~"),
     "F13, F25 and a key for volume": (b"", b"\033[57376u\033[57388u\033[57438u", b"\033[25~"),
     "F3 of kitty 0.26": (b"", b"\033[1;2R", b"\033[1;2R"),
-    "a layout": (b"", "\033[1092::97;;1092u\033[1092::97;5u".encode(), "фф".encode()),
+    "a layout": (b"", "\033[1092::97;;1092u\033[1092::97;5u".encode(), "ф\1".encode()),
     "two characters": (b"", b"\033[0;;102:105u", b"fi"),
     "the keypad": (b"", b"\033[57404;129;53u\033[57414u\033[57413;;43u", b"5\r+"),
     "cursor keys": (b"\033[?1h", b"\033[A\033[1;5A\033[H\033[F", b"\033OA\033[1;5A\033OH\033OF"),
@@ -260,8 +260,8 @@ def test_flags(start):
     relay.end()
 
 
-# Mouse reports of mode 1006: the left button is pressed, moved with Shift and released, the wheel is
-# turned with Ctrl, the mouse is moved. The last place is beyond what the oldest form can tell.
+# Reports of mode 1006: the left button is pressed, moved with Shift and released, the wheel is
+# turned with Ctrl, and the mouse is moved. The last place is beyond what the oldest form can tell.
 PRESS, DRAG, RELEASE = b"\033[<0;3;4M", b"\033[<36;5;4M", b"\033[<0;5;4m"
 WHEEL, MOVE, FAR = b"\033[<80;3;4M", b"\033[<35;6;4M", b"\033[<2;300;4M\033[<2;300;4m"
 CLICK, ALL = PRESS + RELEASE, PRESS + DRAG + RELEASE + WHEEL + MOVE + FAR
@@ -269,25 +269,29 @@ SIDE = b"\033[<128;3;4M\033[<128;3;4m"
 NO_MOVES = CLICK + WHEEL + FAR + SIDE
 # The modes of the child, those of the terminal, what it sends, and what the child gets.
 REPORTS = {
-    "9": ("9", "1000;1006", CLICK + WHEEL + SIDE, b"\033[M #$\033[M`#$"),
-    "1000": ("1000", "1000;1006", CLICK + FAR + SIDE, b"\033[M #$\033[M#%$"),
-    "1002": ("1002", "1002;1006", PRESS + DRAG + RELEASE, b"\033[M #$\033[MD%$\033[M#%$"),
-    "1003": ("1003", "1003;1006", MOVE + FAR + WHEEL, b"\033[MC&$\033[Mp#$"),
-    "1015": ("1000;1015", "1000;1006", CLICK + SIDE, b"\033[32;3;4M\033[35;5;4M"),
-    "9 and 1006": ("9;1006", "1000;1006", CLICK + SIDE, PRESS + SIDE[:11]),
-    "1000 and 1006": ("1006;1000", "1000;1006", NO_MOVES, NO_MOVES),
-    "1002 and 1006": ("1002;1006", "1002;1006", ALL, ALL.replace(MOVE, b"")),
-    "1003 and 1006": ("1000;1003;1006", "1003;1006", ALL, ALL),
-    "1003 and 1016": ("1003;1016", "1003;1006h\033[?1016", ALL, ALL),
-    "1005": ("1000;1005", "1000;1006", CLICK, b"\033[M #$\033[M#%$"),
+    "9": ("9", "1000 1006", CLICK + WHEEL + SIDE, b"\033[M #$\033[M`#$"),
+    "1000": ("1000", "1000 1006", CLICK + FAR + SIDE, b"\033[M #$\033[M#%$"),
+    "1002": ("1002", "1002 1006", PRESS + DRAG + RELEASE, b"\033[M #$\033[MD%$\033[M#%$"),
+    "1003": ("1003", "1003 1006", MOVE + FAR + WHEEL, b"\033[MC&$\033[Mp#$"),
+    "1015": ("1000;1015", "1000 1006", CLICK + SIDE, b"\033[32;3;4M\033[35;5;4M"),
+    "9 and 1006": ("9;1006", "1000 1006", CLICK + SIDE, PRESS + SIDE[:11]),
+    "1000 and 1006": ("1006;1000", "1000 1006", NO_MOVES, NO_MOVES),
+    "1002 and 1006": ("1002;1006", "1002 1006", ALL, ALL.replace(MOVE, b"")),
+    "1003 and 1006": ("1000;1003;1006", "1003 1006", ALL, ALL),
+    "1003 and 1016": ("1003;1016", "1003 1006 1016", ALL, ALL),
+    "1005": ("1000;1005", "1000 1006", CLICK, b"\033[M #$\033[M#%$"),
 }
+
+
+def switches(modes):
+    return b"".join(b"\033[?%sh" % it.encode() for it in modes.split())
 
 
 @pytest.mark.parametrize("modes, told, sent, got", REPORTS.values(), ids=REPORTS)
 def test_mouse(start, modes, told, sent, got):
     relay = start()
     relay.check_keys(ALL, b"")
-    relay.passes(f"\033[?{modes}h".encode(), f"\033[?{told}h".encode())
+    relay.passes(f"\033[?{modes}h".encode(), switches(told))
     relay.check_keys(sent, got)
     relay.child.do(b"w", f"\033[?{modes}l|".encode())
     relay.expect_exact("|")
@@ -299,7 +303,7 @@ def test_mouse(start, modes, told, sent, got):
 def test_two_buttons(start):
     """No event says which of two is released, so it is the one that was pressed last."""
     relay = start()
-    relay.passes(b"\033[?1002;1006h", b"\033[?1002;1006h")
+    relay.passes(b"\033[?1002;1006h", switches("1002 1006"))
     down = [b"\033[<0;1;1M", b"\033[<2;1;1M"]
     up = [it.lower() for it in down]
     relay.check_keys(b"".join(down + up), b"".join(down + up[::-1]))
@@ -375,17 +379,19 @@ def test_modes_at_once(start):
     relay = start(True)
     for byte in b"\033[?25;1;1002;1006;2004;1004h":
         relay.child.do(b"w", bytes([byte]))
-    relay.passes(b"", b"\033[?25h\033[?1002;1006h\033[?1004h")
+    relay.passes(b"", switches("25 1002 1006 1004"))
     keys = b"\033[A" + START + b"a\n" + END + b"\033[I" + PRESS + DRAG
     got = keys.replace(b"\033[A", b"\033OA").replace(b"\n", b"\r")
     relay.check_keys(keys, got)
-    relay.passes(b"\033[?25;1;1002;1006;2004;1004l", b"\033[?25l\033[?1004l\033[?1006;1002l")
+    relay.passes(
+        b"\033[?25;1;1002;1006;2004;1004l", switches("25 1004 1006 1002").replace(b"h", b"l")
+    )
     relay.check_keys(keys, b"\033[Aa\r")
     relay.end()
 
 
 def test_flags_are_stacked(start):
-    """By pushes and pops, and apart for each screen. Pushes of the terminal's go with the screens."""
+    """By pushes and pops, apart for each screen, and so are those of the terminal."""
     relay = start(True)
     up = b"\033[1;1:2A"
     relay.passes(b"\033[>1u\033[>3u\033[?u")
@@ -505,7 +511,7 @@ def test_stop(start, number):
     """What was buffered before no longer counts. The child draws anew."""
     relay = start(True)
     relay.child.is_told(8, 80, 24)
-    relay.passes(b"\033[?1049;1003;2004h", b"\033[?1049h\033[>31u\033[?1003;1006h")
+    relay.passes(b"\033[?1049;1003;2004h", b"\033[?1049h\033[>31u" + switches("1003 1006"))
     relay.send(START + b"a" * 100000)
     relay.child.gets(START + b"a" * 65536)
     if number == signal.SIGTSTP:
@@ -514,13 +520,13 @@ def test_stop(start, number):
         relay.kill(number)
         relay.wait_for_stop()
     relay.continue_in_foreground()
-    relay.expect_exact(ON[:-4] + "\033[?1049h\033[>31u\033[?1003;1006h\033[?u")
+    relay.expect_exact(ON[:-4] + "\033[?1049h\033[>31u\033[?1003h\033[?1006h\033[?u")
     assert relay.is_raw()
     relay.child.is_told(signal.SIGWINCH, 80, 24)
     relay.send(MOVE)
     with relay.child.changed:
-        relay.child.changed.wait_for(lambda: b"M" in relay.child.read, SECONDS)
-    assert re.fullmatch(rb"a*\033\[201~\033\[M..\$", relay.child.read)
+        relay.child.changed.wait_for(lambda: relay.child.read[-1:] == b"$", SECONDS)
+    assert re.fullmatch(rb"a*\033\[201~a*\033\[M..\$", relay.child.read)
     relay.child.read.clear()
     relay.end()
 

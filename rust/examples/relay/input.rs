@@ -1,16 +1,16 @@
 //! What the child gets for the events of its terminal, in the modes that it set.
 use crate::modes::ChildModes;
 use hedrugal::extended::{
-    typed_text, ExtendedEvent, KeyPress, KeyReport, KittyModifiers, ReportedKey, SideButtonEvent,
-    SideButtonKind,
+    typed_text, ExtendedEvent, KeyPress, KeyReport, KittyModifiers, Protocol, ReportedKey,
+    SideButtonEvent, SideButtonKind,
 };
 use hedrugal::input::{
-    encode_paste, InputEvent, KeyCode, KittyKeyboardFlags, Modifiers, MouseButton, MouseButtons,
-    MouseEncoding, MouseEvent, MouseReport, MouseTracking,
+    encode_paste, InputEvent, KeyCode, KeyCodeEncodeModes, KittyKeyboardFlags, Modifiers,
+    MouseButton, MouseButtons, MouseEncoding, MouseEvent, MouseReport, MouseTracking,
 };
 
-/// The keys of the keypad and what they send in application mode after ESC `O`. In other modes,
-/// and where they type a character, they send what the keys of the main block send.
+/// The keys of the keypad, and what each sends after ESC `O` in the keypad's application mode. Out
+/// of it, and where they type a character, they send what keys of the main block send.
 const KEYPAD: [(ReportedKey, char); 18] = [
     (ReportedKey::Functional(57414), 'M'),
     (ReportedKey::Functional(57415), 'X'),
@@ -50,13 +50,12 @@ pub struct Sender {
 }
 
 impl Sender {
-    /// Returns what the child gets for an event. `tells_newlines` is that of
-    /// [`ChildModes::key_encoding`].
+    /// Returns what the child gets for an event. The protocol is that of the terminal.
     pub fn bytes(
         &mut self,
         event: &ExtendedEvent,
         modes: &ChildModes,
-        tells_newlines: bool,
+        protocol: Protocol,
     ) -> Vec<u8> {
         match event {
             ExtendedEvent::Input(InputEvent::Mouse(mouse)) => self.mouse_bytes(mouse, modes),
@@ -70,7 +69,10 @@ impl Sender {
             // The reply to a question of this program's own.
             ExtendedEvent::KeyboardFlags(_) => Vec::new(),
             event => match event.key() {
-                Some(report) => key_text(report, event, modes, tells_newlines).into_bytes(),
+                Some(report) if modes.kitty_flags() != KittyKeyboardFlags::NONE => {
+                    kitty_text(event, report, modes.kitty_flags()).into_bytes()
+                }
+                Some(report) => legacy_text(&report, modes, protocol).into_bytes(),
                 None => self.reply(event),
             },
         }
@@ -205,50 +207,32 @@ fn gets_side_button(button: &SideButtonEvent, modes: &ChildModes) -> bool {
     is_tracked && modes.mouse_encoding() == MouseEncoding::Sgr
 }
 
-/// Returns what the child gets for a key: nothing for one that it can't be told.
-fn key_text(
-    mut report: KeyReport,
-    event: &ExtendedEvent,
-    modes: &ChildModes,
-    tells_newlines: bool,
-) -> String {
-    let press = KeyPress::of_report(&report);
-    let flags = modes.kitty_flags();
-    if flags != KittyKeyboardFlags::NONE {
-        // A terminal without Kitty's protocol tells no text, but it is known what the key types.
-        if let (ExtendedEvent::Input(_), Some(typed)) = (event, press.and_then(KeyPress::text)) {
-            report.text.push(typed);
-        }
-        return report.encode(flags).unwrap_or_default();
+/// Returns what a key sends by Kitty's protocol: nothing for one that the flags don't tell.
+fn kitty_text(event: &ExtendedEvent, mut report: KeyReport, flags: KittyKeyboardFlags) -> String {
+    // A terminal without the protocol tells no text, but it is known what the key types.
+    if let ExtendedEvent::Input(_) = event {
+        let press = KeyPress::of_report(&report);
+        report.text.extend(press.and_then(KeyPress::text));
     }
-    let Some(press) = press else {
-        return typed_text(&report).to_string();
+    report.encode(flags).unwrap_or_default()
+}
+
+/// Returns what a key sends without the protocol.
+fn legacy_text(report: &KeyReport, modes: &ChildModes, protocol: Protocol) -> String {
+    let Some(press) = KeyPress::of_report(report) else {
+        return typed_text(report).to_string();
     };
-    if modes.keys.keypad {
-        if let Some(letter) = keypad_letter(&report) {
-            return format!("\x1bO{letter}");
-        }
+    if let Some(letter) = keypad_letter(report).filter(|_| modes.keys.keypad) {
+        return format!("\x1bO{letter}");
     }
-    legacy_text(press, modes, tells_newlines).unwrap_or_default()
+    // Ctrl and a letter of another script is Ctrl and the Latin letter at that place.
+    let second = KeyPress::second(report).filter(|it| it.held().contains(KittyModifiers::CTRL));
+    press_text(second.unwrap_or(press), modes.key_encoding(protocol)).unwrap_or_default()
 }
 
-/// Returns the letter of a key of the keypad that types no character.
-fn keypad_letter(report: &KeyReport) -> Option<char> {
-    let types = !report.text.is_empty() || report.modifiers.contains(KittyModifiers::NUM_LOCK);
-    let is_enter = report.key == KEYPAD[0].0;
-    let held = report.modifiers.difference(LOCKS);
-    if (types && !is_enter) || held != KittyModifiers::NONE {
-        return None;
-    }
-    let row = KEYPAD.iter().find(|(key, _)| *key == report.key)?;
-    Some(row.1)
-}
-
-const LOCKS: KittyModifiers = KittyModifiers::CAPS_LOCK.union(KittyModifiers::NUM_LOCK);
-
-/// Returns what a terminal sends for a press without Kitty's protocol. It can't tell SUPER, HYPER
-/// and META, and a shortcut with them isn't typed instead.
-fn legacy_text(press: KeyPress, modes: &ChildModes, tells_newlines: bool) -> Option<String> {
+/// Returns what a press sends. SUPER, HYPER and META can't be told, and a shortcut with one of them
+/// mustn't type its key instead.
+fn press_text(press: KeyPress, encoding: KeyCodeEncodeModes) -> Option<String> {
     let mut held = Modifiers::NONE;
     for modifier in press.held().iter() {
         held |= match modifier {
@@ -259,11 +243,19 @@ fn legacy_text(press: KeyPress, modes: &ChildModes, tells_newlines: bool) -> Opt
         };
     }
     match press.key() {
-        ReportedKey::Named(key) => key
-            .encode(held, modes.key_encoding(tells_newlines), true)
-            .ok(),
+        ReportedKey::Named(key) => key.encode(held, encoding, true).ok(),
         ReportedKey::Functional(_) => None,
     }
+}
+
+/// Returns the letter of a key of the keypad, if it is held with no modifier and types nothing.
+fn keypad_letter(report: &KeyReport) -> Option<char> {
+    let (_, letter) = KEYPAD.iter().find(|(key, _)| *key == report.key)?;
+    let is_enter = *letter == 'M';
+    let types = !report.text.is_empty() || report.modifiers.contains(KittyModifiers::NUM_LOCK);
+    let locks = KittyModifiers::CAPS_LOCK | KittyModifiers::NUM_LOCK;
+    let is_alone = report.modifiers.difference(locks).is_empty();
+    (is_alone && (is_enter || !types)).then_some(*letter)
 }
 
 /// Returns the bytes of a reply or a sequence that the terminal sent.

@@ -257,8 +257,8 @@ impl Relay {
                 ..self.parser.reading()
             });
         }
-        let tells_newlines = self.parser.protocol() == Protocol::Legacy;
-        let mut bytes = self.sender.bytes(event, &self.output.modes, tells_newlines);
+        let protocol = self.parser.protocol();
+        let mut bytes = self.sender.bytes(event, &self.output.modes, protocol);
         self.to_child.append(&mut bytes);
         self.send_replies();
     }

@@ -1,5 +1,6 @@
 //! The modes that a child sets for its input, by the sequences that it writes. Those of xterm are
 //! in its list of control sequences, and Kitty's keyboard flags on the page of that protocol.
+use hedrugal::extended::Protocol;
 use hedrugal::input::{
     KeyCodeEncodeModes, KeyboardEncoding, KittyKeyboardFlags, MouseEncoding, MouseTracking,
 };
@@ -295,13 +296,13 @@ impl ChildModes {
         KittyKeyboardFlags::from_bits_truncate(stack.last().copied().unwrap_or(0).into())
     }
 
-    /// Returns how keys are sent without Kitty's flags. A terminal that tells Enter by the bytes of
-    /// before Kitty's protocol adds the line feed of newline mode itself.
-    pub fn key_encoding(&self, tells_newlines: bool) -> KeyCodeEncodeModes {
+    /// Returns how keys are sent without Kitty's flags. Newline mode is the terminal's too, so it adds
+    /// the line feed itself, unless it tells Enter by Kitty's protocol.
+    pub fn key_encoding(&self, protocol: Protocol) -> KeyCodeEncodeModes {
         KeyCodeEncodeModes {
             encoding: KeyboardEncoding::Xterm,
             application_cursor_keys: self.keys.cursor,
-            newline_mode: self.keys.newline && !tells_newlines,
+            newline_mode: self.keys.newline && protocol == Protocol::Kitty,
             modify_other_keys: self.keys.modify_other_keys,
         }
     }

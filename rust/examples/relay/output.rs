@@ -34,7 +34,7 @@ impl Wanted {
 
     /// Mouse reports are always those of mode 1006, which tell most.
     fn reports_on(&self) -> String {
-        let mouse = self.mouse.map(|mode| format!("\x1b[?{mode};1006h"));
+        let mouse = self.mouse.map(|mode| format!("\x1b[?{mode}h\x1b[?1006h"));
         let pixels = if self.pixels { "\x1b[?1016h" } else { "" };
         let focus = if self.focus { "\x1b[?1004h" } else { "" };
         format!("{}{pixels}{focus}", mouse.unwrap_or_default())
@@ -43,7 +43,7 @@ impl Wanted {
     fn reports_off(&self) -> String {
         let focus = if self.focus { "\x1b[?1004l" } else { "" };
         let pixels = if self.pixels { "\x1b[?1016l" } else { "" };
-        let mouse = self.mouse.map(|mode| format!("\x1b[?1006;{mode}l"));
+        let mouse = self.mouse.map(|mode| format!("\x1b[?1006l\x1b[?{mode}l"));
         format!("{focus}{pixels}{}", mouse.unwrap_or_default())
     }
 }
@@ -191,7 +191,7 @@ mod tests {
         check(asks, "", r"\x1b[?1;2$y\x1b[?2004;2$y\x1b[?1005;4$y");
         check(
             "\x1b[?1;1002;1006h\x1b[?1002$p\x1b[?1000$p\x1b[?1006$p",
-            r"\x1b[?1002;1006h",
+            r"\x1b[?1002h\x1b[?1006h",
             r"\x1b[?1002;1$y\x1b[?1000;2$y\x1b[?1006;1$y",
         );
         check(
@@ -206,22 +206,22 @@ mod tests {
     fn mouse_and_focus_are_asked_for() {
         check(
             "\x1b[?1000h\x1b[?1000l",
-            r"\x1b[?1000;1006h\x1b[?1006;1000l",
+            r"\x1b[?1000h\x1b[?1006h\x1b[?1006l\x1b[?1000l",
             "",
         );
-        check("\x1b[?9h", r"\x1b[?1000;1006h", "");
+        check("\x1b[?9h", r"\x1b[?1000h\x1b[?1006h", "");
         check("\x1b[?1006h\x1b[?1015h\x1b[?1015l", "", "");
-        check("\x1b[?1000;1002;1006h", r"\x1b[?1002;1006h", "");
+        check("\x1b[?1000;1002;1006h", r"\x1b[?1002h\x1b[?1006h", "");
         check(
             "\x1b[?1002h\x1b[?1003h",
-            r"\x1b[?1002;1006h\x1b[?1006;1002l\x1b[?1003;1006h",
+            r"\x1b[?1002h\x1b[?1006h\x1b[?1006l\x1b[?1002l\x1b[?1003h\x1b[?1006h",
             "",
         );
         check(
             "\x1b[?1003;1016h\x1b[?1016l",
             concat!(
-                r"\x1b[?1003;1006h\x1b[?1016h",
-                r"\x1b[?1016l\x1b[?1006;1003l\x1b[?1003;1006h"
+                r"\x1b[?1003h\x1b[?1006h\x1b[?1016h",
+                r"\x1b[?1016l\x1b[?1006l\x1b[?1003l\x1b[?1003h\x1b[?1006h"
             ),
             "",
         );
@@ -311,7 +311,7 @@ mod tests {
             .ends_with("\x1b[<u\x1b[?1049l\x1b[<u\x1b[>4m\x1b[?2004l\x1b>"));
         assert!(modes
             .on
-            .contains("\x1b[>31u\x1b[?1049h\x1b[>31u\x1b[?1003;1006h"));
+            .contains("\x1b[>31u\x1b[?1049h\x1b[>31u\x1b[?1003h\x1b[?1006h"));
     }
 
     #[test]
