@@ -71,10 +71,11 @@ class Child:
         assert got == data
 
     def is_told(self, *numbers):
-        """The next signal and the size of its terminal are these."""
+        """It is sent this signal, and its terminal has this size."""
         with self.changed:
-            assert self.changed.wait_for(lambda: self.signals, SECONDS)
-            assert self.signals.pop(0) == [*numbers]
+            told = self.changed.wait_for(lambda: [*numbers] in self.signals, SECONDS)
+            assert told, self.signals
+            self.signals.remove([*numbers])
 
 
 class Relay(Terminal):
@@ -482,11 +483,10 @@ def test_new_size(start):
 def test_signal(start, number):
     """The child gets it too. Of both screens nothing is left."""
     relay = start()
-    relay.child.is_told(8, 80, 24)
     relay.child.do(b"w", b"\033[?1049h\033[?1003;1004h|")
     relay.expect_exact("|")
     relay.kill(number)
-    relay.child.is_told(number, 80, 24)
+    relay.child.is_told(number)
     relay.check_end(-number)
     assert relay.output.endswith(b"\033[<u\033[?1049l" + OFF.encode())
 
@@ -510,7 +510,6 @@ def test_child_that_a_signal_ends(start, number):
 def test_stop(start, number):
     """What was buffered before no longer counts. The child draws anew."""
     relay = start(True)
-    relay.child.is_told(8, 80, 24)
     relay.passes(b"\033[?1049;1003;2004h", b"\033[?1049h\033[>31u" + switches("1003 1006"))
     relay.send(START + b"a" * 100000)
     relay.child.gets(START + b"a" * 65536)
@@ -541,10 +540,9 @@ def test_sigtstp_where_no_shell_could_continue_it(start):
 
 def test_terminal_that_is_gone(start):
     relay = start()
-    relay.child.is_told(8, 80, 24)
     relay.hang_up()
     relay.wait_for_end()
-    relay.child.is_told(signal.SIGHUP, 80, 24)
+    relay.child.is_told(signal.SIGHUP)
 
 
 @pytest.mark.parametrize("number", [signal.SIGHUP, signal.SIGTERM], ids=lambda it: it.name)

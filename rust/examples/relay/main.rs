@@ -48,6 +48,8 @@ const O_NONBLOCK_NOCTTY: i32 = 0o4400;
 const PASTE_LIMIT: usize = 1 << 16;
 /// Nothing more is read for a side that hasn't taken so many bytes yet.
 const MOST_PENDING: usize = 1 << 16;
+/// A child that asks on and on, and reads nothing, gets no more replies than that.
+const MOST_REPLIES: usize = 1 << 18;
 /// The child has written less before its end. What it left running may write on for ever.
 const MOST_LEFT: usize = 1 << 20;
 
@@ -195,7 +197,7 @@ impl Relay {
 
     fn handle_signals(&mut self) -> io::Result<Next> {
         if signals::STOPPING.load(SeqCst) || signals::ending().is_some() {
-            // The terminal is left between two sequences, if it is there and takes them.
+            // So the terminal isn't left within a sequence. It may be gone.
             let _ = io::stdout().write_all(&self.to_terminal);
             self.to_terminal.clear();
         }
@@ -274,8 +276,7 @@ impl Relay {
         for _ in 0..passed.questions {
             self.parser.expect_position();
         }
-        // A child that asks on and on, and reads nothing, gets no more replies.
-        if self.replies.len() + self.to_child.len() < MOST_PENDING {
+        if self.replies.len() + self.to_child.len() < MOST_REPLIES {
             self.replies.append(&mut passed.to_child);
         }
         self.send_replies();
