@@ -82,11 +82,13 @@ class Relay(Terminal):
     """A relay with the child."""
 
     def __init__(self, program, folder, has_kitty=False, words=(), **how):
+        path = folder / "socket"
+        path.unlink(missing_ok=True)
         self.listener = socket.socket(socket.AF_UNIX, socket.SOCK_SEQPACKET)
-        self.listener.bind(str(folder / "socket"))
+        self.listener.bind(str(path))
         self.listener.listen()
         self.listener.settimeout(SECONDS)
-        super().__init__([*program, *words, sys.executable, CHILD, folder / "socket"], **how)
+        super().__init__([*program, *words, sys.executable, CHILD, path], **how)
         self.child = Child(self.listener.accept()[0])
         self.expect_exact(ON)
         if has_kitty:
@@ -198,11 +200,11 @@ def test_newline_mode(start):
     relay.end()
 
 
-def recorded(name, mode):
+def recorded(name, mode, kind="press"):
     """The presses of a terminal in a mode, and the bytes that it sent for each."""
     _, lines = load(FOLDER / f"{name}.tsv")
-    told = [it for it in lines if it.kind == "press" and mode in it.modes.split(",")]
-    return {press: it.bytes for it in told for press in it.what.split() if press != "none"}
+    told = [it for it in lines if it.kind == kind and mode in it.modes.split(",")]
+    return {press: it.bytes for it in told for press in it.what.split()}
 
 
 def one_key(data):
@@ -233,22 +235,25 @@ def relayed(relay, texts):
     return got
 
 
+# tmux has other codes for Home and End, and sends Tab without modifiers, and any key without Super.
+OTHERS = r"home|end|(ctrl|alt)\+.*tab|super\+.*"
+
+
+@pytest.mark.timed
 def test_recorded_kitty(start):
-    """For what kitty sends by its protocol, the child gets what xterm sends without it."""
-    from_kitty, from_xterm = recorded("kitty", "kitty31"), recorded("xterm", "default")
-    presses = sorted({*from_kitty} & {*from_xterm})
-    relay = start(True)
-    got = relayed(relay, [from_kitty[press] for press in presses])
-    others = [
-        (press, text, from_xterm[press])
-        for press, text in zip(presses, got)
-        if text != from_xterm[press]
-    ]
-    print(len(presses), *others, sep="\n")
-    assert others == []
+    """For what kitty sends by its protocol the child gets what another multiplexer, tmux, sends."""
+    relay, sent = start(True), recorded("kitty", "kitty31")
+    got = dict(zip(sent, relayed(relay, sent.values())))
+    wanted = recorded("tmux-xterm", "default")
+    told = [press for press in sent if press in wanted and not re.fullmatch(OTHERS, press)]
+    assert [it for it in told if got[it] != wanted[it]] == [] and len(told) > 600
+    assert {got[press] for press in sent if press.startswith("super")} == {b""}
+    released = recorded("kitty", "kitty31", "release").values()
+    assert {*relayed(relay, released)} == {b""}
     relay.end()
 
 
+@pytest.mark.timed
 def test_flags(start):
     """From a terminal without the protocol the child gets what `encode_kitty` writes."""
     presses = [it for it in recorded("xterm", "default").values() if one_key(it)]
