@@ -415,6 +415,20 @@ def test_flags_are_stacked(start):
     relay.end()
 
 
+@pytest.mark.parametrize("has_kitty", [True, False])
+def test_relay_in_a_relay(start, program, has_kitty):
+    """The inner one is a child as any other, and gets all that its terminal tells."""
+    relay = start(has_kitty, words=program)
+    relay.passes(b"\033[?1h\033[?2004;1002;1006h", switches("1002 1006"))
+    keys = b"\033[A\r\x03" + START + b"a\033b" + END + PRESS + DRAG + RELEASE
+    relay.check_keys(keys, keys.replace(b"\033[A", b"\033OA").replace(b"\033b", "␛b".encode()))
+    relay.passes(b"\033[>31u\033[?u")
+    relay.check_keys(b"\033[97;5u", b"\033[?31u\033[97;5u")
+    if has_kitty:
+        relay.check_keys(b"\033[97;5:3u\033[1;1:2A", b"\033[97;5:3u\033[1;1:2A")
+    relay.end()
+
+
 @pytest.mark.parametrize("reset", [b"\033c", b"\033[!p"])
 def test_reset(start, reset):
     """The terminal goes on to tell what it told before."""
@@ -568,7 +582,7 @@ def screen(relay, count):
     """So many bytes that the terminal gets."""
     got = bytearray()
     while len(got) < count and select.select([relay.child_fd], [], [], SECONDS)[0]:
-        got += os.read(relay.child_fd, 1 << 16)
+        got += os.read(relay.child_fd, min(count - len(got), 1 << 16))
     return bytes(got)
 
 
