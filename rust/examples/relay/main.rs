@@ -12,7 +12,9 @@
 //! relay alone until SIGCONT, and the program then draws anew. The terminal is restored whenever
 //! relay ends or stops in one of these ways.
 mod input;
+mod keys;
 mod modes;
+mod mouse;
 mod output;
 mod pty;
 mod scanner;
@@ -101,7 +103,10 @@ impl Relay {
         let terminal = Terminal::find(wanted.switches())?;
         let mut options = OpenOptions::new();
         options.write(true).custom_flags(O_NONBLOCK_NOCTTY);
-        let screen = options.open("/proc/self/fd/1")?;
+        let screen = options.open("/proc/self/fd/1").map_err(|error| Failure {
+            status: 1,
+            says: format!("the terminal can't be opened: {error}"),
+        })?;
         let parser = ExtendedParser::try_new(Protocol::Legacy).map_err(io::Error::other)?;
         let child = PtyChild::start(words, &terminal.saved, terminal.size()?);
         Ok(Relay {
