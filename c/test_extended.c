@@ -1423,12 +1423,17 @@ static void refuses_events(void) {
   static char long_text[65536];
   hed_extended_event report = { .kind = HED_KIND_REPORT,
                                 .report = { HED_KEY_EVENT_KIND_PRESS, 0, HED_KEY_COPY, 0, HED_NO_CODE, HED_NO_CODE } };
+  hed_extended_event caps_lock = { .kind = HED_KIND_REPORT, .report = { HED_KEY_EVENT_KIND_PRESS, 0, 0, 57358, HED_NO_CODE, HED_NO_CODE } };
+  hed_extended_event released = { .kind = HED_KIND_REPORT,
+                                  .report = { HED_KEY_EVENT_KIND_RELEASE, 0, HED_KEY_CHAR, 57344, HED_NO_CODE, HED_NO_CODE } };
   hed_extended_event key = { .kind = HED_KIND_KEY, .input = { .key = HED_KEY_UP_ARROW } };
   hed_extended_event cut = { .kind = HED_KIND_STRING_CUT, .flags = HED_KIND_OSC };
   hed_extended_event side = { .kind = HED_KIND_SIDE_BUTTON, .flags = HED_SIDE_BUTTON_PRESS, .input = { .detail = 7 } };
   memset(long_text, 'a', sizeof long_text);
   memcpy(long_text, "52;", 3);
   refuses_event(report, NULL, 0, HED_PROTOCOL_LEGACY, HED_ENCODED_NO_TEXT);
+  refuses_event(caps_lock, NULL, 0, HED_PROTOCOL_KITTY, HED_ENCODED_NO_TEXT);
+  refuses_event(released, NULL, 0, HED_PROTOCOL_KITTY, HED_ENCODED_NO_TEXT);
   refuses_event(key, NULL, 0, HED_PROTOCOL_KITTY, HED_ENCODED_NO_TEXT);
   refuses_event(cut, TEXT("11;a"), HED_PROTOCOL_LEGACY, HED_ENCODED_NO_TEXT);
   refuses_event(side, NULL, 0, HED_PROTOCOL_LEGACY, HED_ENCODED_NO_TEXT);
