@@ -1,5 +1,5 @@
-"""What is written for a paste, a mouse report or a change of the focus is what real terminals sent for
-it: the recordings of tests/terminals. The rule for pastes is VTE's."""
+"""What is written for a paste, a mouse report or a change of the focus is what real terminals sent
+for it: the recordings of tests/terminals. The rule for pastes is VTE's."""
 import re
 from collections import Counter
 
@@ -104,7 +104,7 @@ FOCUS = {"gained": FocusGained(), "lost": FocusLost()}
 
 
 def test_focus():
-    """Seven terminals told that they have the focus again. One more, foot, told only that it lost it."""
+    """Seven terminals told of both changes, and foot only that it lost the focus."""
     lines = [line for path in data_files() for line in load(path)[1] if line.kind == "focus"]
     assert Counter(line.what for line in lines) == {"gained": 7, "lost": 8}
     for line in lines:
