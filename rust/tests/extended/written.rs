@@ -40,7 +40,7 @@ fn is_written(event: &ExtendedEvent, reading: Reading, bytes: &[u8]) {
         let events: Vec<_> = pieces
             .flat_map(|it| parser.parse_as_vec(it, true))
             .collect();
-        assert_eq!(events, [event.clone()]);
+        assert_eq!(events, std::slice::from_ref(event));
     }
 }
 
