@@ -1356,8 +1356,10 @@ struct written {
 
 static const struct written written[] = {
   { HED_PROTOCOL_LEGACY, TEXT("\033[A"), "\033[A" },
-  { HED_PROTOCOL_LEGACY, TEXT("\033[9;1u"), "\t" },
-  { HED_PROTOCOL_LEGACY, TEXT("a"), "a" },
+  { HED_PROTOCOL_LEGACY, TEXT("\033[9u"), "\033[9;1u" },
+  { HED_PROTOCOL_LEGACY, TEXT("\033[27;1;9~"), "\t" },
+  { HED_PROTOCOL_LEGACY, TEXT("a"), "\033[27;1;97~" },
+  { HED_PROTOCOL_KITTY, TEXT("a"), "a" },
   { HED_PROTOCOL_LEGACY, TEXT("\033\303\251"), "\033\303\251" },
   { HED_PROTOCOL_KITTY, TEXT("\033[A"), "\033[1;1:1A" },
   { HED_PROTOCOL_KITTY, TEXT("\033[97;5u"), "\033[97;5:1u" },

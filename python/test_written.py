@@ -126,8 +126,12 @@ def test_rows(event, sent, reading):
 def test_rows_of_one_reading():
     up = KeyEvent(KeyCode.UP_ARROW, CTRL)
     assert encode_event(up, LEGACY) == b"\x1b[1;5A"
+    assert encode_event(up, KITTY) == b"\x1bOa"
     with pytest.raises(EncodeError, match="no bytes are read as this KeyEvent"):
-        encode_event(up, KITTY)
+        encode_event(KeyEvent(KeyCode.UP_ARROW), KITTY)
+    # A character of ASCII has rows, which are key reports by Kitty's protocol.
+    assert encode_event(KeyEvent("a"), LEGACY) == b"\x1b[27;1;97~"
+    assert encode_event(KeyEvent("a"), KITTY) == b"a"
     # While a reply is expected, this row is the position of the cursor.
     asked = Reading(Protocol.LEGACY, questions=1)
     assert encode_event(KeyEvent(hedrugal.Function(3), CTRL), asked) != b"\x1b[1;5R"

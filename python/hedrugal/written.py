@@ -66,6 +66,7 @@ from .extended import (
     KeyboardFlags,
     KeyReport,
     Osc,
+    Protocol,
     Reading,
     Resize,
     SideButton,
@@ -80,7 +81,7 @@ from .extended import (
 from .replies import ColourScheme
 
 
-def encode_event(event: ExtendedEvent, reading: Reading = Reading()) -> bytes:
+def encode_event(event: ExtendedEvent, reading: Reading = Reading(Protocol.LEGACY)) -> bytes:
     """Returns bytes that an ExtendedParser with this reading reads as the event, whatever the
     terminal sent. A multiplexer passes replies on by it, and a test writes what it feeds to a
     parser.

@@ -45,11 +45,14 @@ fn is_written(event: &ExtendedEvent, reading: Reading, bytes: &[u8]) {
 }
 
 // What a terminal sent, how it is read, and what its event is written as.
-const WRITTEN: [(Reading, &[u8], &[u8]); 31] = [
+const WRITTEN: [(Reading, &[u8], &[u8]); 34] = [
     (LEGACY, b"\x1b[A", b"\x1b[A"),
     (LEGACY, b"\x1b[1;5A", b"\x1b[1;5A"),
-    (LEGACY, b"\x1b[9;1u", b"\t"),
-    (LEGACY, b"a", b"a"),
+    (KITTY, b"\x1bOa", b"\x1bOa"),
+    (LEGACY, b"\x1b[27;1;9~", b"\t"),
+    (LEGACY, b"\x1b[9u", b"\x1b[9;1u"),
+    (LEGACY, b"a", b"\x1b[27;1;97~"),
+    (KITTY, b"a", b"a"),
     (KITTY, b"\xc3\xa9", b"\xc3\xa9"),
     (LEGACY, b"\x1b\xc3\xa9", b"\x1b\xc3\xa9"),
     (LEGACY, b"\x1b", b"\x1b"),
@@ -201,7 +204,7 @@ fn what_no_bytes_are_read_as() {
         refuses(&event, KITTY, EncodeEventError::NoText);
     }
     refuses(
-        &key(KeyCode::UpArrow, Modifiers::CTRL),
+        &key(KeyCode::UpArrow, Modifiers::NONE),
         KITTY,
         EncodeEventError::NoText,
     );
