@@ -1,7 +1,7 @@
 r"""Events to the bytes that a parser reads as them, and what a terminal replies.
 
-    >>> from hedrugal import KeyEvent, Modifiers, NamedKey
-    >>> encode_event(KeyEvent(NamedKey.UP_ARROW, Modifiers.CTRL))
+    >>> from hedrugal import KeyCode, KeyEvent, Modifiers
+    >>> encode_event(KeyEvent(KeyCode.UP_ARROW, Modifiers.CTRL))
     b'\x1b[1;5A'
     >>> encode_event(Csi(b"?62;22c"))
     b'\x1b[?62;22c'
