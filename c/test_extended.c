@@ -1356,6 +1356,9 @@ struct written {
 
 static const struct written written[] = {
   { HED_PROTOCOL_LEGACY, TEXT("\033[A"), "\033[A" },
+  { HED_PROTOCOL_LEGACY, TEXT("\033[1;5A"), "\033[1;5A" },
+  { HED_PROTOCOL_LEGACY, TEXT("\r"), "\r" },
+  { HED_PROTOCOL_LEGACY, TEXT("\033["), "\033[" },
   { HED_PROTOCOL_LEGACY, TEXT("\033[9u"), "\033[9;1u" },
   { HED_PROTOCOL_LEGACY, TEXT("\033[27;1;9~"), "\t" },
   { HED_PROTOCOL_LEGACY, TEXT("a"), "\033[27;1;97~" },
@@ -1365,17 +1368,24 @@ static const struct written written[] = {
   { HED_PROTOCOL_KITTY, TEXT("\033[97;5u"), "\033[97;5:1u" },
   { HED_PROTOCOL_KITTY, TEXT("\033[97:65:99;2:3u"), "\033[97:65:99;2:3u" },
   { HED_PROTOCOL_KITTY, TEXT("\033[097;1:2;097u"), "\033[97;:2;97u" },
+  { HED_PROTOCOL_KITTY, TEXT("\033[97::99;;97u"), "\033[97::99;;97u" },
+  { HED_PROTOCOL_KITTY, TEXT("\033[1;9:2A"), "\033[1;9:2A" },
+  { HED_PROTOCOL_KITTY, TEXT("\033[13~"), "\033[13;1:1~" },
+  { HED_PROTOCOL_KITTY, TEXT("\033[57414u"), "\033[57414;1:1u" },
   { HED_PROTOCOL_KITTY, TEXT("\033[27;5;57344~"), "\033[27;5;57344~" },
   { HED_PROTOCOL_KITTY, TEXT("\033[1;5R"), "\033[?1;5R" },
+  { HED_PROTOCOL_LEGACY, TEXT("\033[<4;3;4M"), "\033[<4;3;4M" },
   { HED_PROTOCOL_LEGACY, TEXT("\033[<64;3;4M"), "\033[<64;3;4M" },
   { HED_PROTOCOL_LEGACY, TEXT("\033[<0;3;4m"), "\033[<35;3;4M" },
   { HED_PROTOCOL_LEGACY, TEXT("\033[<145;3;4M"), "\033[<145;3;4M" },
   { HED_PROTOCOL_LEGACY, TEXT(START "a\377" END), START "a" REPLACED END },
+  { HED_PROTOCOL_LEGACY, TEXT("\033[I"), "\033[I" },
   { HED_PROTOCOL_LEGACY, TEXT("\033[O"), "\033[O" },
   { HED_PROTOCOL_LEGACY, TEXT("\033[48;24;80;480;800t"), "\033[48;24;80;480;800t" },
   { HED_PROTOCOL_LEGACY, TEXT("\033[?05u"), "\033[?5u" },
   { HED_PROTOCOL_LEGACY, TEXT("\033[?62;22c"), "\033[?62;22c" },
   { HED_PROTOCOL_LEGACY, TEXT("\033]11;#fff\007"), "\033]11;#fff\033\\" },
+  { HED_PROTOCOL_LEGACY, TEXT("\033]lab\033\\"), "\033]lab\033\\" },
   { HED_PROTOCOL_LEGACY, TEXT("\033P1$r0m\033\\"), "\033P1$r0m\033\\" },
   { HED_PROTOCOL_LEGACY, TEXT("\033_Gi=1;OK\033\\"), "\033_Gi=1;OK\033\\" },
 };
@@ -1415,12 +1425,17 @@ static void refuses_events(void) {
   static char long_text[65536];
   hed_extended_event report = { .kind = HED_KIND_REPORT,
                                 .report = { HED_KEY_EVENT_KIND_PRESS, 0, HED_KEY_COPY, 0, HED_NO_CODE, HED_NO_CODE } };
+  hed_extended_event caps_lock = { .kind = HED_KIND_REPORT, .report = { HED_KEY_EVENT_KIND_PRESS, 0, 0, 57358, HED_NO_CODE, HED_NO_CODE } };
+  hed_extended_event released = { .kind = HED_KIND_REPORT,
+                                  .report = { HED_KEY_EVENT_KIND_RELEASE, 0, HED_KEY_CHAR, 57344, HED_NO_CODE, HED_NO_CODE } };
   hed_extended_event key = { .kind = HED_KIND_KEY, .input = { .key = HED_KEY_UP_ARROW } };
   hed_extended_event cut = { .kind = HED_KIND_STRING_CUT, .flags = HED_KIND_OSC };
   hed_extended_event side = { .kind = HED_KIND_SIDE_BUTTON, .flags = HED_SIDE_BUTTON_PRESS, .input = { .detail = 7 } };
   memset(long_text, 'a', sizeof long_text);
   memcpy(long_text, "52;", 3);
   refuses_event(report, NULL, 0, HED_PROTOCOL_LEGACY, HED_ENCODED_NO_TEXT);
+  refuses_event(caps_lock, NULL, 0, HED_PROTOCOL_KITTY, HED_ENCODED_NO_TEXT);
+  refuses_event(released, NULL, 0, HED_PROTOCOL_KITTY, HED_ENCODED_NO_TEXT);
   refuses_event(key, NULL, 0, HED_PROTOCOL_KITTY, HED_ENCODED_NO_TEXT);
   refuses_event(cut, TEXT("11;a"), HED_PROTOCOL_LEGACY, HED_ENCODED_NO_TEXT);
   refuses_event(side, NULL, 0, HED_PROTOCOL_LEGACY, HED_ENCODED_NO_TEXT);

@@ -97,8 +97,8 @@ def assert_prints(text, wanted, **env):
 
 
 def listings():
-    """The listings in Python of docs/python.md, each with what it prints: an event loop, a key map,
-    the extended parser and the encoder of key reports."""
+    """The listings in Python of docs/python.md, each with what it prints. The first three are on a
+    terminal: a loop, asyncio and prompt_toolkit."""
     pattern = r"^```python\n(.*?)^```\n.*?<!-- prints -->\n```\n(.*?)^```"
     return re.findall(pattern, read("docs/python.md"), flags=re.M | re.S)
 

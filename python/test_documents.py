@@ -10,20 +10,26 @@ from pathlib import Path
 import pytest
 
 import hedrugal
-from hedrugal import ExtendedParser, InputParser, KeyMap, extended, replies
+from hedrugal import ExtendedParser, InputParser, KeyMap, extended, replies, terminal
+from hedrugal import prompt_toolkit as for_prompt_toolkit
 from helpers import HERE, LIBRARY, SECONDS, TOP, assert_prints, listings
 
 
-@pytest.mark.parametrize("module", [hedrugal, extended, replies])
+@pytest.mark.parametrize("module", [hedrugal, extended, replies, terminal])
 def test_docstrings(module):
     failed, tried = doctest.testmod(module)
     assert (failed, tried > 0) == (0, True)
 
 
 def test_every_call_says_what_it_does():
-    for it in (hedrugal, InputParser, KeyMap, ExtendedParser):
-        names = hedrugal.__all__ if it is hedrugal else [name for name in dir(it) if name[0] != "_"]
-        for name in {*names} - {"Event", "ExtendedEvent", "Found", "Key", "Reply", "ReportedKey"}:
+    types = {"Event", "ExtendedEvent", "Found", "Key", "Reply", "ReportedKey", "TerminalEvent"}
+    classes = InputParser, KeyMap, ExtendedParser, terminal.Terminal, for_prompt_toolkit.Parser
+    for it in (hedrugal, terminal, for_prompt_toolkit, *classes, for_prompt_toolkit.Input):
+        ours = [
+            base for base in getattr(it, "__mro__", ()) if base.__module__.startswith("hedrugal")
+        ]
+        names = {name for base in ours for name in vars(base) if name[0] != "_"}
+        for name in {*getattr(it, "__all__", names)} - types:
             said = getattr(it, name).__doc__
             assert said and said[0].isupper(), name
 
@@ -53,7 +59,7 @@ with ExtendedParser() as parser:
     "words",
     [
         ["python/hedrugal"],
-        ["python/examples/ask.py", "python/examples/edit.py"],
+        ["python/examples/ask.py", "python/examples/edit.py", "python/examples/live.py"],
         ["-c", ANSWERS_TOLD_APART],
         ["-c", LIMITS_IN_TIME],
     ],
@@ -74,7 +80,7 @@ def test_types(words):
 
 @pytest.mark.parametrize(
     "text, wanted",
-    listings()[1:],
+    listings()[3:],
     ids=["key map", "extended parser", "replies", "key report", "presses", "names", "bindings"],
 )
 def test_listings(text, wanted):

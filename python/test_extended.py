@@ -870,12 +870,13 @@ def test_a_character(parser):
 
 
 def check_report(parser, data):
-    (event,) = parser.parse(data, False)
+    parser.feed(data)
+    event = parser.next_event(False)
     wanted = extended._key_report(
         *extended._report_fields_of(parser._front, extended._REPORT_AT), ""
     )
     report = key_report(event)
-    assert report == wanted
+    assert report == wanted and parser.next_event(False) is None
     return report
 
 

@@ -3,6 +3,7 @@ import copy
 import gc
 import pickle
 import random
+import re
 import weakref
 from unittest import mock
 
@@ -161,6 +162,50 @@ def test_maps_and_dicts_agree():
     assert replaced > 100
 
 
+def test_it_is_a_mapping(keys):
+    """As a dict, but for the order of its keys."""
+    pick, entries = random.Random(2), {}
+    for _ in range(300):
+        key, value = letters(pick), object()
+        if pick.random() < 0.4 and key in entries:
+            assert keys.pop(key) is entries.pop(key)
+        elif pick.random() < 0.3:
+            assert keys.get(key) is entries.get(key)
+        else:
+            keys[key] = entries[key] = value
+        assert [*keys.items()] == sorted(entries.items())
+        assert (key in keys) == (key in entries) and keys == entries
+        assert_alike(keys, pick, letters, entries)
+    keys.clear()
+    assert (len(keys), [*keys], keys.lookup(b"a")) == (0, [], Nothing())
+    keys[b"a"] = 1
+    assert keys == {b"a": 1}
+
+
+def test_keys_that_are_not_there(keys):
+    keys.insert(b"ab", 1)
+    for missing in (b"a", b"abc", b"", b"x"):
+        assert missing not in keys and keys.get(missing, 2) == 2
+        for use in (
+            lambda: keys[missing],
+            lambda: keys.pop(missing),
+            lambda: keys.__delitem__(missing),
+        ):
+            with pytest.raises(KeyError, match=re.escape(repr(missing))):
+                use()
+    assert [*keys] == [b"ab"]
+
+
+def test_keys_of_other_types(keys):
+    for make in (bytes, bytearray, memoryview):
+        keys[make(b"ab")] = make
+        assert keys[make(b"ab")] is make and make(b"ab") in keys
+        del keys[make(b"ab")]
+        assert len(keys) == 0
+    with pytest.raises(TypeError):
+        keys["ab"] = 1
+
+
 def test_many_keys(keys):
     for number in range(3000):
         keys.insert(number.to_bytes(2, "big"), number)
@@ -206,6 +251,14 @@ def test_replaced_values_are_let_go(keys, seen):
     assert len(keys) == 3
 
 
+def test_deleted_values_are_let_go(keys, seen):
+    del keys[b"ab"]
+    assert_alive(seen, True, False, True)
+    assert keys.lookup(b"ab") == Exact(1, seen[0]())
+    keys.clear()
+    assert_alive(seen, False, False, False)
+
+
 def test_close_lets_them_go(keys, seen):
     found = keys.lookup(b"x")
     keys.close()
@@ -240,6 +293,11 @@ USES = [
     lambda keys: keys.insert(bytearray(), 1),
     lambda keys: keys.lookup(b"q"),
     lambda keys: keys.lookup(b"", False),
+    lambda keys: keys[b"q"],
+    lambda keys: keys.__delitem__(b"q"),
+    lambda keys: keys.clear(),
+    lambda keys: b"q" in keys,
+    lambda keys: iter(keys),
     lambda keys: len(keys),
     lambda keys: bool(keys),
     lambda keys: keys.__enter__(),
@@ -384,18 +442,18 @@ def test_new():
 
 
 def test_a_place_for_the_value():
-    class Short(list):
-        """A list that is refused memory once, when it has so many values."""
+    class Short(dict):
+        """A dict that is refused memory once, when it has so many values."""
 
-        def append(self, value):
+        def __setitem__(self, number, entry):
             if len(self) == count and not refused:
-                refused.append(value)
+                refused.append(count)
                 raise MemoryError
-            super().append(value)
+            super().__setitem__(number, entry)
 
     for count in range(4):
         refused, keys = [], KeyMap()
-        keys._values = Short()
+        keys._entries = Short()
         for length in range(4):
             if length == count:
                 with pytest.raises(MemoryError):
@@ -407,3 +465,30 @@ def test_a_place_for_the_value():
             keys.insert(bytes(length), length)
         assert (keys.lookup(bytes(9)), len(keys), refused) == (Exact(3, 3), 4, [count])
         keys.close()
+
+
+@pytest.mark.parametrize("call, at", [("init", 0), ("insert", 0), ("insert", 1)])
+def test_refused_delete(keys, call, at):
+    """The map stays as it is, and what was made of the other is freed."""
+    for key in (b"a", b"ab", b"abc"):
+        keys[key] = key
+    of_library, made, freed = getattr(hedrugal._library, f"hed_keymap_{call}"), [], []
+    free = hedrugal._library.hed_keymap_free
+
+    def refuse(raw, *words):
+        made.append(raw)
+        return len(made) <= at and of_library(raw, *words)
+
+    def note(raw):
+        freed.append(raw)
+        free(raw)
+
+    with mock.patch.object(hedrugal._library, f"hed_keymap_{call}", refuse), mock.patch.object(
+        hedrugal._library, "hed_keymap_free", note
+    ), pytest.raises(MemoryError):
+        del keys[b"ab"]
+    assert [*keys.items()] == [(key, key) for key in (b"a", b"ab", b"abc")]
+    assert keys.lookup(b"ab", False) == Exact(2, b"ab")
+    assert len(freed) == (call == "insert") and keys._raw not in freed
+    del keys[b"ab"]
+    assert [*keys] == [b"a", b"abc"]

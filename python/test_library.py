@@ -1,6 +1,9 @@
 """The numbers, layouts and calls are those of C, and the library is found."""
 import ctypes
+import enum
+import inspect
 import os
+import pydoc
 import re
 import shutil
 
@@ -30,7 +33,7 @@ from helpers import HERE, LIBRARY, constants, read, run_python
 
 
 @pytest.mark.parametrize(
-    "enum, prefix",
+    "kind, prefix",
     [
         (Modifiers, "HED_TERMWIZ_MOD_"),
         (KittyModifiers, "HED_KITTY_MOD_"),
@@ -47,10 +50,23 @@ from helpers import HERE, LIBRARY, constants, read, run_python
         (ColourScheme, "HED_COLOUR_SCHEME_"),
     ],
 )
-def test_enums(enum, prefix):
+def test_enums(kind, prefix):
     """Each enum has the header's names and numbers, and no others."""
-    members = {name: member.value for name, member in enum.__members__.items()}
+    members = {name: member.value for name, member in kind.__members__.items()}
     assert members == constants(prefix) and len(members) > 1
+
+
+def test_docstrings_of_members():
+    """Each member has one of its own, which help shows."""
+    modules = (hedrugal, extended, replies, sending)
+    enums = {it for module in modules for it in vars(module).values() if inspect.isclass(it)}
+    enums = [it for it in enums if issubclass(it, enum.Enum) and it.__members__]
+    assert len(enums) == 20
+    for it in enums:
+        said = {member.__doc__ for member in it.__members__.values()}
+        assert len(said) == len(it.__members__) and it.__doc__ not in said
+    assert "Menu, Windows' name for Alt" in pydoc.render_doc(KeyCode.MENU)
+    assert (Modifiers.CTRL | Modifiers.ALT).__doc__ == Modifiers.__doc__
 
 
 def keys_of_header():
@@ -259,25 +275,29 @@ def test_another_library():
     )
 
 
-def test_another_version(tmp_path):
-    """A module is loaded with the library of its own version alone."""
+def import_of_version(folder, version):
+    """What an import of the module prints, if it is of another version."""
     line, text = f'__version__ = "{hedrugal.__version__}"\n', read("python/hedrugal/__init__.py")
     assert text.count(line) == 1
+    shutil.rmtree(folder / "hedrugal", ignore_errors=True)
+    shutil.copytree(os.path.join(HERE, "hedrugal"), folder / "hedrugal")
+    changed = text.replace(line, f'__version__ = "{version}"\n')
+    (folder / "hedrugal/__init__.py").write_text(changed, encoding="utf-8")
+    return import_it({"PYTHONPATH": str(folder), "HEDRUGAL_LIBRARY": LIBRARY}, cwd=folder)
+
+
+def test_another_version(tmp_path):
+    """A module is loaded with no older library, and with none of another major version."""
     major, minor, patch = map(int, hedrugal.__version__.split("."))
     for other in (
-        f"{major + 1}.{minor}.{patch}",
-        f"{major}.{minor + 1}.{patch}",
+        f"{major + 1}.0.0",
+        f"{major}.{minor + 1}.0",
         f"{major}.{minor}.{patch + 1}",
     ):
-        (tmp_path / "hedrugal.py").write_text(
-            text.replace(line, f'__version__ = "{other}"\n'), encoding="utf-8"
-        )
-        printed = import_it(
-            {"PYTHONPATH": str(tmp_path), "HEDRUGAL_LIBRARY": LIBRARY}, cwd=tmp_path
-        )
-        assert_message(
-            printed, LIBRARY, f"is version {hedrugal.__version__} of", f"is for version {other}\n"
-        )
+        printed = import_of_version(tmp_path, other)
+        words = f"is version {hedrugal.__version__} of", f"is for version {other} or a later one"
+        assert_message(printed, LIBRARY, *words)
+    assert import_of_version(tmp_path, f"{major}.0.0") == f"{LIBRARY}\n"
 
 
 @pytest.mark.parametrize(

@@ -184,28 +184,38 @@ def test_refused_parsers(make):
 
 
 def refuse_after(parser, count):
-    """Lets the parser make so many events, and refuses the next."""
-    made, real = [], parser._front_event
+    """Lets the parser make so many events, and refuses the next. Returns what ends that."""
+    made, makers = [], [it for it in ("_front_event", "_plain_event") if hasattr(parser, it)]
+    real = {name: getattr(parser, name) for name in makers}
 
-    def front_event():
-        if len(made) == count:
-            raise MemoryError
-        made.append(real())
-        return made[-1]
+    def refusing(make):
+        def made_event(*words):
+            if len(made) == count:
+                raise MemoryError
+            event = make(*words)
+            made.append(event)
+            return event
 
-    parser._front_event = front_event
-    return real
+        return made_event
+
+    def grant():
+        for name in makers:
+            setattr(parser, name, real[name])
+
+    for name in makers:
+        setattr(parser, name, refusing(real[name]))
+    return grant
 
 
 def test_parse_goes_on(parser):
     for count in range(len(EVENTS)):
         for after in (lambda: parser.flush(), lambda: [parser.next_event(False) for _ in EVENTS]):
-            real = refuse_after(parser, count)
+            grant = refuse_after(parser, count)
             with pytest.raises(ParseError) as caught:
                 parser.parse(STREAM, False)
             assert caught.value.taken
             assert parser.flush_escape() is None
-            parser._front_event = real
+            grant()
             assert after() == EVENTS
             assert_rest(parser, 0, Waiting.NOTHING)
 
@@ -220,6 +230,10 @@ def test_places_in_the_list(parser):
                 raise MemoryError
             super().append(event)
 
+        def extend(self, events):
+            for event in events:
+                self.append(event)
+
     for count in range(len(EVENTS)):
         refused = []
         parser._kept = Short()
@@ -229,28 +243,28 @@ def test_places_in_the_list(parser):
 
 
 def test_kept_events_come_first(parser):
-    real = refuse_after(parser, 2)
+    grant = refuse_after(parser, 2)
     with pytest.raises(ParseError):
         parser.parse(b"abc\x1b[200~d")
-    parser._front_event = real
+    grant()
     assert parser.end_paste() is None
     assert parser.flush_escape() is None
     assert parser.parse(b"") == [KeyEvent("a"), KeyEvent("b"), KeyEvent("c")]
     assert parser.end_paste() == Paste("d")
-    real = refuse_after(parser, 1)
+    grant = refuse_after(parser, 1)
     with pytest.raises(ParseError):
         parser.parse(b"a\x1b[200~b\x1b[201~c")
-    parser._front_event = real
+    grant()
     assert parser.end_paste() is None
     assert parser.parse(b"d") == [KeyEvent("a"), Paste("b"), KeyEvent("c"), KeyEvent("d")]
 
 
 def test_end_paste_takes_pastes_alone(parser):
     parser.feed(b"a\x1b[200~b")
-    real = refuse_after(parser, 0)
+    grant = refuse_after(parser, 0)
     with pytest.raises(MemoryError):
         parser.next_event()
-    parser._front_event = real
+    grant()
     assert parser.end_paste() is None
     assert parser.take_paste() is None and parser.skip_paste() is None
     assert [*parser, parser.end_paste()] == [KeyEvent("a"), Paste("b")]
@@ -274,20 +288,20 @@ def test_a_refused_part_is_not_lost(parser):
 
 
 def test_reset_forgets_them(parser):
-    real = refuse_after(parser, 1)
+    grant = refuse_after(parser, 1)
     with pytest.raises(ParseError):
         parser.parse(b"a\x1b[200~b\x1b[201~c")
-    parser._front_event = real
+    grant()
     parser.reset()
     assert parser.parse(b"q") == [KeyEvent("q")]
 
 
 def test_escape_stays(parser):
     assert parser.parse(b"\x1b") == []
-    real = refuse_after(parser, 0)
+    grant = refuse_after(parser, 0)
     with pytest.raises(MemoryError):
         parser.flush_escape()
-    parser._front_event = real
+    grant()
     assert parser.parse(b"q") == [KeyEvent(KeyCode.ESCAPE), KeyEvent("q")]
 
 
@@ -302,11 +316,11 @@ def test_what_is_due_goes_on(parser):
         ]:
             assert [parser.timeout(0), *parser.parse(b"\x1b[1;5")] == [None]
             assert parser.timeout(5) == 1
-            real = refuse_after(parser, count)
+            grant = refuse_after(parser, count)
             with pytest.raises(MemoryError) as caught:
                 parser.expire(6)
             assert not isinstance(caught.value, ParseError)
-            parser._front_event = real
+            grant()
             assert parser.flush_escape() is None and parser.timeout(6) == 0
             assert after() == wanted + more
             assert parser.timeout(7) is None
@@ -315,10 +329,10 @@ def test_what_is_due_goes_on(parser):
 
 def test_what_was_refused_is_due(parser):
     """So are the events behind it."""
-    real = refuse_after(parser, 1)
+    grant = refuse_after(parser, 1)
     with pytest.raises(ParseError):
         parser.parse(b"ab\x1b[200~c\x1b[201~d\x1b")
-    parser._front_event = real
+    grant()
     assert parser.timeout(0) == 0
     assert parser.expire(0) == [KeyEvent("a"), KeyEvent("b"), Paste("c"), KeyEvent("d")]
     assert (parser.timeout(0), parser.expire(1)) == (0.05, [KeyEvent(KeyCode.ESCAPE)])

@@ -1,6 +1,7 @@
-"""Programs on a pseudo-terminal, of which the tests play the terminal: the first listing of
-docs/python.md, and the example that asks its terminal."""
+"""Programs on a pseudo-terminal, of which the tests play the terminal: the listings of
+docs/python.md that use one, and the example that asks its terminal."""
 import os
+import re
 import signal
 import sys
 import termios
@@ -22,26 +23,47 @@ def start(*words):
     return child
 
 
-def test_the_first_listing():
-    """Each text is typed once the line of the one before was printed."""
-    text, wanted = listings()[0]
+def check_listing(listing, *typed):
+    """What it prints. Each of the functions is called once the line of the one before was
+    printed."""
+    text, wanted = listing
     child = start("-c", text)
     child.sendline()
     child.expect_exact("\r\n")
     printed = b""
-    typed = [b"\x1b", b"\x1b[", b"\x1b[1;", b"\x1bx", "é".encode(), b"\x1b[15;2~", b"q"]
-    for line, data in zip(wanted.splitlines(), typed):
+    for line, act in zip(wanted.splitlines(), typed):
         child.expect_exact("\r\n")
         printed += child.before + b"\n"
-        assert printed.decode().endswith(f"{line}\n")
-        child.send(data)
-        if data == b"\x1b[1;":
-            time.sleep(0.5)
-            child.send(b"2A")
+        assert MODES.sub(b"", printed).decode().endswith(f"{line}\n")
+        act(child)
     child.expect(pexpect.EOF)
     child.wait()
     child.close()
-    assert ((printed + child.before).decode(), child.exitstatus) == (wanted, 0)
+    printed += child.before.replace(b"\r\n", b"\n")
+    assert (MODES.sub(b"", printed).decode(), child.exitstatus) == (wanted, 0)
+
+
+MODES = re.compile(rb"\x1b\[\?\d+[hl]")
+
+
+def types(data):
+    return lambda child: child.send(data)
+
+
+def types_slowly(child):
+    child.send(b"\x1b[1;")
+    time.sleep(0.5)
+    child.send(b"2A")
+
+
+def test_the_first_listing():
+    typed = [b"\x1bx", "é".encode(), b"\x1b[15;2~", b"\x1b[200~text\x1b[201~", b"q"]
+    acts = types(b"\x1b"), types(b"\x1b["), types_slowly, *map(types, typed)
+    check_listing(listings()[0], *acts)
+
+
+def test_the_listing_for_asyncio():
+    check_listing(listings()[1], lambda child: child.setwinsize(40, 100), types(b"q"))
 
 
 ASK = os.path.join(HERE, "examples", "ask.py")

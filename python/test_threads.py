@@ -99,7 +99,7 @@ def test_map(often):
                 assert (found.len, found.value[0]) == (len(str(number)) + 1, number)
 
         assert run_all(work) == [None] * THREADS
-        assert len(keys) == len(keys._values) == 500
+        assert len(keys) == len(keys._entries) == 500
 
 
 def test_close_in_any_thread(make, often):

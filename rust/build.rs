@@ -15,11 +15,25 @@ const VARIABLES: &[&str] = &[
     "PKG_CONFIG_SYSROOT_DIR",
 ];
 
+const ADVICE: &str =
+    "Install the library, or set HEDRUGAL_LIBRARY to its file or folder, absolute \
+                      or from where cargo runs.";
+
 // Ends the build with a message of two lines.
 fn stop(fault: &str, advice: &str) -> ! {
     eprintln!("hedrugal: {fault}");
     eprintln!("{advice}");
     process::exit(1)
+}
+
+// Goes on without a library, which documentation and `cargo check` don't need: a program fails where
+// it is linked. The script runs again by the next command, since this file isn't there.
+fn go_on_without(fault: &str) -> ! {
+    println!("cargo:warning={fault}: no program can be linked");
+    println!("cargo:warning={ADVICE}");
+    println!("cargo:rustc-link-lib=dylib=hedrugal");
+    println!("cargo:rerun-if-changed=libhedrugal.a");
+    process::exit(0)
 }
 
 // A processor for which there is a library.
@@ -212,8 +226,12 @@ fn prebuilt_library(processor: Processor) -> Result<Library, String> {
         .ancestors()
         .skip(1)
         .take(2)
-        .find_map(|folder| library_in(&folder.join(&name)))
-        .ok_or_else(|| format!("pkg-config finds no hedrugal, and there is no {name}"))?;
+        .find_map(|folder| library_in(&folder.join(&name)));
+    let Some(library) = library else {
+        go_on_without(&format!(
+            "pkg-config finds no hedrugal, and there is no {name}"
+        ))
+    };
     if !library.is_whole() {
         let shown = library.path();
         return Err(format!(
@@ -263,13 +281,7 @@ fn main() {
             "Build for such a target, as x86_64-unknown-linux-gnu.",
         );
     };
-    let library = library(processor).unwrap_or_else(|fault| {
-        stop(
-            &fault,
-            "Install the library, or set HEDRUGAL_LIBRARY to its file or folder, absolute or from \
-             where cargo runs.",
-        )
-    });
+    let library = library(processor).unwrap_or_else(|fault| stop(&fault, ADVICE));
     // cargo shows what was printed if the build is stopped, so these lines come last.
     for name in VARIABLES {
         println!("cargo:rerun-if-env-changed={name}");

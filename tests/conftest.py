@@ -7,6 +7,7 @@ import contextlib
 import functools
 import os
 import re
+import shutil
 import signal
 import subprocess
 import sys
@@ -47,6 +48,7 @@ def entries_after(start):
 
 def run_without_terminal(words, **how):
     how |= {"stdin": subprocess.DEVNULL, "capture_output": True, "timeout": 60}
+    how |= {"start_new_session": True}  # or /dev/tty would be one
     return subprocess.run(words, **how)
 
 
@@ -80,8 +82,8 @@ def compiled(tmp_path_factory):
 
 @pytest.fixture(scope="session")
 def example(compiled, tmp_path_factory):
-    """Builds the example of a name in a language, and returns the words that run it. `-k "not
-    rust"` leaves out those in Rust."""
+    """Builds the example of a name in a language, or in Rust by a feature of rust/with, and returns
+    the words that run it. `-k "not rust"` leaves out those in Rust."""
 
     @functools.cache
     def build_example(language, name):
@@ -89,11 +91,26 @@ def example(compiled, tmp_path_factory):
             return [sys.executable, str(TOP / f"python/examples/{name}.py")]
         if language == "c":
             return [compiled(name, "c99", TOP / f"c/{name}.c", TOP / "c/hedrugal_terminal.c")]
-        target = os.environ.get("CARGO_TARGET_DIR") or str(tmp_path_factory.mktemp("target"))
-        words = f"cargo build --quiet --locked --offline --example {name} --manifest-path".split()
-        env = os.environ | {"HEDRUGAL_LIBRARY": str(LIBRARY), "CARGO_TARGET_DIR": target}
-        subprocess.run([*words, TOP / "rust/Cargo.toml"], env=env, check=True)
-        return [f"{target}/debug/examples/{name}"]
+        if language == "rust":
+            target = os.environ.get("CARGO_TARGET_DIR") or tmp_path_factory.mktemp("target")
+            return [cargo_build(TOP / "rust/Cargo.toml", target, name, "--locked")]
+        features = ["--features", language, "--config", TOP / "rust/with/system.toml"]
+        return [
+            cargo_build(rust_copy() / "with/Cargo.toml", rust_copy() / "target", name, *features)
+        ]
+
+    def cargo_build(manifest, target, name, *words):
+        env = os.environ | {"HEDRUGAL_LIBRARY": str(LIBRARY), "CARGO_TARGET_DIR": str(target)}
+        words = ["--offline", "--manifest-path", manifest, "--example", name, *words]
+        subprocess.run(["cargo", "build", "--quiet", *words], env=env, check=True)
+        return f"{target}/debug/examples/{name}"
+
+    @functools.cache
+    def rust_copy():
+        """Cargo writes a lock file beside the manifest of what names other crates. Each copy is
+        built anew: cargo looks for changes of its sources where an earlier copy lay."""
+        copy = tmp_path_factory.mktemp("rust") / "rust"
+        return shutil.copytree(TOP / "rust", copy, ignore=shutil.ignore_patterns("target"))
 
     return build_example
 

@@ -1,5 +1,6 @@
 """A program on a pseudo-terminal, as the job of a shell."""
 import contextlib
+import fcntl
 import io
 import multiprocessing
 import os
@@ -20,6 +21,8 @@ PAUSE, LONG_PAUSE = 0.2, 1.3
 START, END = b"\033[200~", b"\033[201~"
 ENDING_SIGNALS = [signal.SIGHUP, signal.SIGINT, signal.SIGQUIT, signal.SIGTERM]
 IFLAG, LFLAG, CC = 0, 3, 6
+# Linux's request that opens the other end of a pseudo-terminal.
+TIOCGPTPEER = 0x5441
 
 
 def change_settings(terminal, characters, on=0, off=0):
@@ -120,6 +123,12 @@ class Terminal(fdspawn):
     def let_end_input(self):
         """Sets the terminal so that ^D ends the input."""
         change_settings(self.child_fd, {termios.VEOF: b"\x04"}, on=termios.ICANON)
+
+    def stop_output(self):
+        """Nothing of what the program writes is taken from now on."""
+        terminal = fcntl.ioctl(self.child_fd, TIOCGPTPEER, os.O_RDWR | os.O_NOCTTY)
+        termios.tcflow(terminal, termios.TCOOFF)
+        os.close(terminal)
 
     def resize(self, columns, rows):
         termios.tcsetwinsize(self.child_fd, (rows, columns))

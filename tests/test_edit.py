@@ -123,7 +123,7 @@ REFUSED = {
     "two files": ([KEYS, KEYS], 2, "usage: edit FILE\n"),
     "a file that isn't there": ([TOP / "nothing"], 2, "No such file or directory"),
     "a folder": ([TOP], 2, "Is a directory"),
-    "no terminal": ([KEYS], 1, "edit: standard input and output have to be a terminal\n"),
+    "no terminal": ([KEYS], 1, "edit: standard input and output have to be a terminal"),
 }
 
 

@@ -1,15 +1,16 @@
-"""The live programs, c/live.c and that in rust/examples/live, on a pseudo-terminal.
+"""The live programs on a pseudo-terminal: c/live.c, those in rust/examples/live and
+python/examples, and those in rust/examples/with, which do the same on tokio's runtime and in a
+loop of mio.
 
 However it ends or stops, a program has to print the right lines, leave the terminal's settings as
 they were, and switch off the modes that it switched on."""
 import re
 import signal
-import sys
 import termios
 import time
 
 import pytest
-from conftest import HEDRUGAL_KEYS, TOP, run_without_terminal
+from conftest import HEDRUGAL_KEYS, run_without_terminal
 from terminal import END, ENDING_SIGNALS, LONG_PAUSE, PAUSE, START, Terminal
 
 LIMIT = 1 << 20
@@ -63,9 +64,12 @@ class Live(Terminal):
         self.check_end(0, *lines, "Char U+0071")
 
 
-@pytest.fixture(scope="session", params=["c", "rust"])
+PROGRAMS = {"c": "live", "rust": "live", "python": "live", "tokio": "stream", "mio": "mio"}
+
+
+@pytest.fixture(scope="session", params=PROGRAMS.items(), ids=PROGRAMS)
 def program(request, example):
-    return example(request.param, "live")
+    return example(*request.param)
 
 
 @pytest.fixture
@@ -194,14 +198,15 @@ def test_sigtstp_where_no_shell_could_continue_it(start):
     live.quit(SIZE)
 
 
-OTHERS = {"python": [sys.executable, TOP / "python/examples/ask.py"], "keys": [HEDRUGAL_KEYS]}
+PROGRAMS = ["c live", "c ask", "rust live", "rust ask", "python live", "python ask", "keys"]
 
 
-@pytest.mark.parametrize("name", ["c live", "c ask", "rust live", "rust ask", *OTHERS])
+@pytest.mark.parametrize("name", PROGRAMS)
 @pytest.mark.parametrize("number", [signal.SIGHUP, signal.SIGTERM], ids=lambda it: it.name)
 def test_signal_while_nobody_reads(example, name, number):
     """Each program on a terminal ends soon, although its output blocks."""
-    with Terminal(OTHERS.get(name) or example(*name.split()), is_stopped=True) as terminal:
+    words = [HEDRUGAL_KEYS] if name == "keys" else example(*name.split())
+    with Terminal(words, is_stopped=True) as terminal:
         while not terminal.is_raw():
             time.sleep(0.02)
         time.sleep(PAUSE)
@@ -211,12 +216,13 @@ def test_signal_while_nobody_reads(example, name, number):
 
 
 REFUSED = {
-    "no terminal": ([], 1, b"live: standard input and output have to be a terminal\n"),
-    "an unknown word": (["--foo"], 2, b"usage: live [--mouse]\n"),
+    "no terminal": ([], 1, b"live: standard input and output have to be a terminal"),
+    "an unknown word": (["--foo"], 2, b"usage: live [--mouse]"),
 }
 
 
 @pytest.mark.parametrize("words, status, says", REFUSED.values(), ids=REFUSED)
 def test_without_terminal(program, words, status, says):
     done = run_without_terminal([*program, *words])
-    assert (done.returncode, done.stderr, done.stdout) == (status, says, b"")
+    assert (done.returncode, done.stdout) == (status, b"") and done.stderr.startswith(says)
+    assert done.stderr.count(b"\n") == 1

@@ -293,6 +293,32 @@ def test_first_sight(page):
     page.picture("page", "#waits")
 
 
+# Bytes, and what is said below each of their events.
+WRITTEN = {
+    "table": ("\\e[1;5Aq\\eOA", ["as it is", "as it is", "as it is"]),
+    "extended": (
+        "\\e[24;80R\\e]11;#fff^G\\e[I\\e[200~ab\\e[201~",
+        ["as ESC [ ? 2 4 ; 8 0 R", "as ESC ] 1 1 ; # f f f ESC \\", "as it is", "as it is"],
+    ),
+    "kitty": ("\\e[97;5u\\e[<0;3;4m", ["as ESC [ 9 7 ; 5 : 1 u", "as ESC [ < 3 5 ; 3 ; 4 M"]),
+}
+
+
+def test_written(page):
+    """What each event is written as, if these aren't the bytes that were read, or why it isn't."""
+    for reading, (text, wanted) in WRITTEN.items():
+        page.read_as(reading)
+        page.enter(text)
+        assert page.texts("#items .written") == [f"written {it}" for it in wanted]
+    page.enter("\\e]11;ab")
+    page.flush("osc cut 5:31313b6162")
+    [why] = page.texts("#items .written")
+    assert why.startswith("isn’t written: ")
+    page.enter("\\e[200~" + 40 * "a" + "\\e[201~")
+    [long] = page.texts("#items .written")
+    assert long == "written as ESC [ 2 0 0 ~ " + "a " * 18 + "… 28 bytes more"
+
+
 def test_typing(page):
     page.enter("")
     assert page.text("count") == "Type bytes, press keys, or try an example."
@@ -333,6 +359,16 @@ def test_faults_of_notations(page):
         page.enter(text)
         assert f"{fault} is no escape" in page.text("fault")
         assert page.run("$('text').ariaInvalid") == "true"
+
+
+def test_half_a_pair(page):
+    """What begins with pairs of digits isn't taken for text because the last one lacks a digit."""
+    for text in ("1b 5b 4", "1b5b4", "0x1b, 0x5b, 0x4"):
+        page.enter(text)
+        page.check([], "ESC [")
+        assert page.text("fault") == "‘4’ is no pair of hexadecimal digits."
+        assert page.text("written-as").startswith("Written as hexadecimal")
+    page.reads("1b 5b 4 1", typed("1b 5b 4 1"))
 
 
 def test_chosen_notations(page):

@@ -348,7 +348,9 @@ def test_at_one_time(client):
     def work(letter):
         for length in range(1, 20):
             items = client.told("/api/read", letter.encode() * length)["items"]
-            assert items == [[1, f"key U+{ord(letter):04X} NONE", letter, letter]] * length
+            written = {"bytes": letter.encode().hex(), "length": 1}
+            shown = [1, f"key U+{ord(letter):04X} NONE", letter, letter, written]
+            assert items == [shown] * length
 
     with client.connect() as slow, ThreadPoolExecutor(2 * AT_ONCE) as threads:
         head = f"POST /api/read HTTP/1.1\r\nHost: {client.host}\r\nContent-Length: 5\r\n\r\nq"

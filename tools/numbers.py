@@ -56,8 +56,8 @@ def read_list() -> Numbers:
         if not found:
             sys.exit(f"{LIST}:{at}: isn't a group, a name, a number and what it is")
         it = Number(found[1], found[2], int(found[3]), found[4], at)
-        if "*/" in it.meaning:
-            sys.exit(f"{LIST}:{at}: would end a comment of the header")
+        if "*/" in it.meaning or '"' in it.meaning:
+            sys.exit(f"{LIST}:{at}: would end a comment of the header, or a text in Python")
         for other in groups[it.group]:
             if other.name == it.name or other.value == it.value:
                 sys.exit(f"{LIST}:{at}: repeats the name or the number of line {other.line}")
@@ -115,7 +115,7 @@ FORMS = {
     "of": "{value} => KeyCode::{name}{made},",
     "named": '("{name}", {rust_type}::{name}),',
     "plain": "KeyCode::{name},",
-    "member": "{snake} = {value}  # {meaning}",
+    "member": '{snake} = _number({value}, "{meaning}")',
     "private": "_{capitals}_{snake} = {value}",
 }
 
@@ -159,10 +159,11 @@ def lines_of(form: str, it: Number, is_last: bool) -> List[str]:
         any_carried=carried and "(_)",
         made=made,
     )
-    # In Python a comment is before its line if the two are too long at four more columns.
+    # In Python what is too long at four more columns has a line for each part, as black has it.
     if form == "member" and len(text) > 96:
-        comment = textwrap.wrap(it.meaning, 96, initial_indent="# ", subsequent_indent="# ")
-        return [*comment, text.partition("  # ")[0]]
+        parts = textwrap.wrap(it.meaning, 88, drop_whitespace=False)
+        said = [f'    "{part}"' for part in parts]
+        return [f"{snake} = _number(", f"    {it.value},", *said[:-1], f"{said[-1]},", ")"]
     return text.split("\n")
 
 
@@ -308,7 +309,7 @@ SAME = [
     ("HED_VERSION", "debian/changelog", rf"^hedrugal \({VERSION}-"),
     ("HED_VERSION", "rust/Cargo.toml", rf'^version = "{VERSION}"$'),
     ("HED_VERSION", "rust/Cargo.lock", rf'^name = "hedrugal"\nversion = "{VERSION}"$'),
-    ("HED_VERSION", "rust/serde/Cargo.toml", rf'^version = "{VERSION}"$'),
+    ("HED_VERSION", "rust/with/Cargo.toml", rf'^version = "{VERSION}"$'),
     ("HED_VERSION", "python/hedrugal/__init__.py", rf'^__version__ = "{VERSION}"$'),
     ("HED_VERSION", "README.md", rf"^Version {VERSION};"),
     *(

@@ -39,9 +39,9 @@ make_dist() { # folder of the sources, folder of the packages
 make_again() {
     local copy="$work/a copy" again="$work/over another"
     mkdir "$copy" "$again" && tar --exclude=.git --exclude=out --exclude=target -c . | tar -C "$copy" -x || return
-    mkdir -p "$copy"/python/hedrugal/{,page/}__pycache__ "$copy"/rust/{target/debug,serde/target}
+    mkdir -p "$copy"/python/hedrugal/{,page/}__pycache__ "$copy"/rust/{target/debug,with/target}
     touch "$copy"/python/hedrugal/{,page/}__pycache__/old.pyc \
-        "$copy"/rust/{target/debug,serde/target}/old "$again"/another \
+        "$copy"/rust/{target/debug,with/target}/old "$again"/another \
         "$again"/{libhedrugal0,libhedrugal-dev,hedrugal}_0.0.1-1_{amd64,arm64}.deb \
         "$again"/hedrugal-0.0.1-{{x86_64,aarch64}-linux.tar.gz,py3-none-manylinux_2_5_{x86_64,aarch64}.whl}
     chmod -R go= "$copy" && (cd / && umask 077 && TZ=Asia/Tokyo make_dist "$copy" "$again") &&

@@ -10,9 +10,12 @@ turn, and of each the least time counts. What is printed is what docs/PERFORMANC
 - how many events each parser makes of an input, where these aren't its items
 - what many parsers cost that get reads in turn
 - what names of keys, bindings and a matcher cost, from C
+- processor time for an event through each layer over a terminal: those of the Rust package, and
+  crossterm's
 
 The parsers are C (InputParser), Legacy and Kitty (the extended parser under that protocol, from C),
-Rust and Python (InputParser), libtermkey, crossterm and prompt_toolkit. The last three are those of
+Rust and Python (InputParser), Python Legacy (the extended parser), Python Keys (the parser for
+prompt_toolkit), libtermkey, crossterm and prompt_toolkit. The last three are those of
 Debian's packages. If one can't be built its column says why; `tools/needs.sh --install performance`
 installs them. To compare two commits there is tools/measure.sh."""
 import argparse
@@ -106,6 +109,14 @@ class Builder:
         built = self.cargo("rust/Cargo.toml", "--locked", "--example", "measure")
         return [f"{built}/examples/measure"]
 
+    def layers(self):
+        """The layers of rust/with. Cargo writes a lock file there, so this is a copy."""
+        copy, config = f"{self.work}/rust", f"{TOP}/rust/with/system.toml"
+        shutil.copytree(f"{TOP}/rust", copy, ignore=shutil.ignore_patterns("target"))
+        words = ["--example", "layers", "--features", "tokio,crossterm", "--config", config]
+        built = self.cargo(f"{copy}/with/Cargo.toml", *words)
+        return [f"{TOOLS}/layers.py"], f"{built}/examples/layers"
+
     def crossterm(self):
         """Its parser is private. So a copy of the crate gets functions that call it."""
         (crate,), copy = glob.glob(f"{CRATES}/crossterm-[0-9]*"), f"{self.work}/crossterm"
@@ -130,6 +141,8 @@ PARSERS = {
     "Kitty": lambda it: it.from_c("-DPROTOCOL=HED_PROTOCOL_KITTY"),
     "Rust": Builder.rust,
     "Python": lambda it: it.in_python("hedrugal"),
+    "Python Legacy": lambda it: it.in_python("legacy"),
+    "Python Keys": lambda it: it.in_python("keys"),
     "libtermkey": lambda it: it.linked(f"{TOOLS}/libtermkey.c", "-ltermkey"),
     "crossterm": Builder.crossterm,
     "prompt_toolkit": lambda it: it.in_python("prompt_toolkit"),
@@ -138,6 +151,16 @@ PARSERS = {
 OWN = "C with a table each"
 MANY = ["C", OWN, "Legacy", "Kitty", "libtermkey", "crossterm"]
 MANY_INPUTS, MANY_BYTES = ["keys", "csiu"], 1 << 15
+# The layers of rust/examples/with/layers.rs.
+LAYERS = {
+    "terminal": "`Terminal::read`",
+    "stream": "`EventStream`, on tokio",
+    "crossterm": "crossterm's `event::read`",
+    "crossterm-stream": "crossterm's `EventStream`, on tokio",
+}
+# Inputs of them, and how many bytes are typed at once.
+LAYER_INPUTS = {"one by one": ("typed", 1), "typed text": ("typed", 512), "keys": ("keys", 512)}
+LAYER_BYTES = 1 << 13
 # The tasks of tools/growth/chords.c.
 TASKS = {
     "read name": "to read the name `ctrl+x ctrl+s`",
@@ -170,7 +193,9 @@ def build(chosen, work):
             missing[name] = reason
     if "C" in programs:
         programs[OWN] = builder.from_c("-DOWN_TABLES")
-    return programs, missing, [Tasks(builder.tasks())] if "C" in programs else []
+    progress("building the layers")
+    layers = [Layers(work, builder.layers())] if {"Rust", "crossterm"} <= {*programs} else []
+    return programs, missing, [Tasks(builder.tasks())] if "C" in programs else [], layers
 
 
 class Input:
@@ -225,6 +250,27 @@ class Tasks:
             yield [title, figure(time), f"{heap:.0f}" if task.startswith("bind") else ""]
 
 
+class Layers:
+    """The least nanoseconds for an event through each layer."""
+
+    def __init__(self, folder, program):
+        (script,), self.program = program
+        self.words, self.costs = [PYTHON, "-B", script], {}
+        self.inputs = {name: Input(folder, name, LAYER_BYTES) for name, _ in LAYER_INPUTS.values()}
+
+    def measure(self):
+        for layer, (name, size) in itertools.product(LAYERS, LAYER_INPUTS.values()):
+            given = self.inputs[name]
+            words = [given.file, given.items, size, self.program, layer]
+            cost = int(run(*self.words, *map(str, words)).split()[0]) / given.items
+            self.costs[layer, name, size] = min(cost, self.costs.get((layer, name, size), cost))
+
+    def rows(self):
+        for layer, title in LAYERS.items():
+            found = [self.costs[layer, *each] for each in LAYER_INPUTS.values()]
+            yield [title, *map(figure, found)]
+
+
 def where(chosen, programs):
     commit = run("git", "rev-parse", "--short", "HEAD")
     if run("git", "status", "--porcelain", "--untracked-files=no", "--", ".", ":!docs"):
@@ -276,7 +322,7 @@ def costs(many):
 
 def report(chosen, work):
     """Builds and measures, and returns the text."""
-    programs, missing, tasks = build(chosen, work)
+    programs, missing, tasks, layers = build(chosen, work)
     size = chosen.kilobytes << 10
     inputs = {name: Input(work, name, size) for name in chosen.inputs or TITLES}
     cells = {}
@@ -289,7 +335,7 @@ def report(chosen, work):
         many[it, count] = [Cell(programs[it], each, chosen.read, count) for each in given]
     for number in range(chosen.runs):
         progress(f"pass {number + 1} of {chosen.runs}")
-        for cell in [*cells.values(), *sum(many.values(), []), *tasks]:
+        for cell in [*cells.values(), *sum(many.values(), []), *tasks, *layers]:
             cell.measure()
 
     columns = chosen.only
@@ -306,6 +352,8 @@ def report(chosen, work):
     ]
     for it in tasks:
         parts += ["## Names and bindings", table(["From C", "ns", "bytes of heap"], it.rows())]
+    for it in layers:
+        parts += ["## Layers over a terminal", table(["ns by", *LAYER_INPUTS], it.rows())]
     return "\n\n".join(parts)
 
 

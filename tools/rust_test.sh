@@ -2,14 +2,13 @@
 # Tests the Rust package over the library: `make check-rust`. HEDRUGAL_LIBRARY names the library's folder, else it is out/lib; KEYSHOW names
 # the program, else it is out/bin/keyshow.
 #
-# The package is built with its tests, with the examples of its documentation, and with serde. It has to find the library in each way that
-# docs/rust.md names, and to say so if there is none. All tests but the longest also run under valgrind, and one refuses every request for
-# memory in turn. cargo asks no registry. The last line is 'N passed, N failed', the status 1 if a case failed.
+# The package is built with its tests, with the examples of its documentation, and with each feature that names other crates, alone and
+# with the others. It has to find the library in each way that docs/rust.md names, and to say so if there is none. All tests but the longest
+# also run under valgrind, and one refuses every request for memory in turn. cargo asks no registry. The last line is 'N passed, N failed',
+# the status 1 if a case failed.
 . "$(dirname "$0")/common.sh"
 start_cases "$@"
 export KEYSHOW=$keyshow
-# Where Debian's packages have the sources of Rust crates.
-system_crates=/usr/share/cargo/registry
 
 # cargo on the package. The lock file stays as it is.
 rust() { # command words..
@@ -34,12 +33,21 @@ rust_documentation() {
     rust doc --no-deps && rust doc --no-deps --document-private-items
 }
 
-# cargo writes a lock file beside the manifest, so these tests are a copy's.
-rust_serde_tests() {
-    mkdir "$work/rust" && cp -r rust/build.rs rust/src rust/tests rust/serde "$work/rust/" || return
-    HEDRUGAL_LIBRARY="$library" CARGO_TARGET_DIR="$work/serde" \
-        cargo test --quiet --offline --manifest-path "$work/rust/serde/Cargo.toml" --features use_serde --test serde \
-        --config 'source.crates-io.replace-with="system"' --config "source.system.directory=\"$system_crates\""
+# cargo on the manifest of what names other crates, with Debian's. It writes a lock file beside that, so this is a copy's.
+rust_with() { # command words..
+    HEDRUGAL_LIBRARY="$library" CARGO_TARGET_DIR="$work/with" cargo "$1" --quiet --offline \
+        --manifest-path "$work/rust/with/Cargo.toml" --config rust/with/system.toml "${@:2}"
+}
+
+# A feature alone: its tests, examples and documentation.
+rust_feature() { # name
+    rust_with test --features "$1" --tests --examples && rust_with clippy --features "$1" --all-targets -- -D warnings
+}
+
+rust_features() {
+    export RUSTDOCFLAGS='-D warnings'
+    rust_with test --all-features --tests --examples && rust_with clippy --all-features --all-targets -- -D warnings &&
+        rust_with test --all-features --doc -- terminal crossterm && rust_with doc --all-features --no-deps
 }
 
 # Builds a program over a copy of the package in a new folder, with these variables in place of the one that names the library, beside
@@ -80,11 +88,23 @@ rust_stops() { # text NAME=VALUE..
     [ "$(wc -l < "$work/said")" = 2 ] && head -n 1 "$work/said" | grep -F "hedrugal: $1"
 }
 
+# Without a library documentation is built, and no program.
+rust_links_nothing() {
+    local without=(env -u HEDRUGAL_LIBRARY PKG_CONFIG=false CARGO_TARGET_DIR="$work/nothing" cargo)
+    "${without[@]}" doc --locked --offline --no-deps --manifest-path "$work/copy/rust/Cargo.toml" 2> "$work/message" || return
+    cat "$work/message"
+    grep 'pkg-config finds no hedrugal' "$work/message" && ! rust_builds PKG_CONFIG=false
+}
+
 check 'tests' rust_tests
 check 'examples of the documentation' rust test --doc
 check 'documentation' rust_documentation
 check 'clippy' rust clippy --all-targets -- -D warnings
-check 'tests with serde' rust_serde_tests
+mkdir "$work/rust" && cp -r rust/{build.rs,src,tests,examples,with} "$work/rust/" || exit
+for feature in use_serde tokio mio crossterm; do
+    check "feature $feature" rust_feature "$feature"
+done
+check 'all features' rust_features
 if command -v valgrind > /dev/null; then
     check 'tests under valgrind' rust_memcheck --test parser --test keymap -- \
         --skip streams --skip recorded --skip generated --skip undecided --skip long::reads
@@ -116,7 +136,7 @@ done
 echo damage >> "$prebuilt/libhedrugal.a"
 check 'damaged prebuilt library' rust_stops "$prebuilt/libhedrugal.a isn't what PROVENANCE beside it says" PKG_CONFIG=false
 rm -r "$prebuilt"
-check 'no library' rust_stops 'pkg-config finds no hedrugal, and there is no prebuilt' PKG_CONFIG=false
+check 'no library' rust_links_nothing
 check 'folder without a library' rust_stops "there is no libhedrugal.a in $work/no" HEDRUGAL_LIBRARY="$work/no"
 check 'file that is no library' rust_stops "$work/keys isn't a libhedrugal.a" HEDRUGAL_LIBRARY="$work/keys"
 chmod o+w "$work/shared" && check 'folder of others' rust_stops 'another user may write to' HEDRUGAL_LIBRARY="$work/shared"

@@ -10,18 +10,13 @@ The last question is the one for the terminal's attributes (DA1). Every terminal
 answers in order, so what wasn't answered before won't be. The program ends with that answer, or
 after so many seconds, one if none are named. What is typed meanwhile is counted, and what is pasted
 forgotten."""
-import os
-import select
-import signal
 import sys
-import time
-from typing import List, Optional
+from typing import Iterator, Optional
 
 from hedrugal import (
     Csi,
     CursorPosition,
     ExtendedEvent,
-    ExtendedParser,
     KeyboardFlags,
     KeyEvent,
     KeyReport,
@@ -29,37 +24,14 @@ from hedrugal import (
     Osc,
     Paste,
 )
-from raw_mode import raw_mode, run
+from hedrugal.terminal import Terminal, TerminalEvent
 
-CURSOR, BACKGROUND, KEYBOARD, ATTRIBUTES = b"\x1b[6n", b"\x1b]11;?\x1b\\", b"\x1b[?u", b"\x1b[c"
+CURSOR, BACKGROUND, KEYBOARD = b"\x1b[6n", b"\x1b]11;?\x1b\\", b"\x1b[?u"
 
 
 def is_attributes(event: ExtendedEvent) -> bool:
     """Whether an event is the answer to the last question."""
     return isinstance(event, Csi) and event.data.startswith(b"?") and event.data.endswith(b"c")
-
-
-def ask(terminal: int, seconds: float) -> List[ExtendedEvent]:
-    """Asks all questions at once. Returns the events until the last answer, or until the time is
-    over."""
-    events: List[ExtendedEvent] = []
-    end = time.monotonic() + seconds
-    with ExtendedParser() as parser:
-        parser.expect_position()
-        os.write(terminal, CURSOR + BACKGROUND + KEYBOARD + ATTRIBUTES)
-        while not any(is_attributes(event) for event in events):
-            left, wait = end - time.monotonic(), parser.timeout()
-            if left <= 0:
-                break
-            if not select.select([terminal], [], [], left if wait is None else min(left, wait))[0]:
-                events += parser.expire()
-                continue
-            data = os.read(terminal, 4096)
-            if not data:
-                break
-            events += parser.parse(data)
-            parser.skip_paste()
-        return events + parser.flush()
 
 
 def described(event: ExtendedEvent) -> Optional[str]:
@@ -77,26 +49,29 @@ def described(event: ExtendedEvent) -> Optional[str]:
     return None
 
 
+def typed(terminal: Terminal) -> Iterator[TerminalEvent]:
+    """Returns what was typed or pasted meanwhile."""
+    while event := terminal.read(0):
+        if isinstance(event, (KeyEvent, KeyReport, MouseEvent, Paste)):
+            yield event
+
+
 def main() -> int:
     seconds = float(sys.argv[1]) if len(sys.argv) > 1 else 1
     try:
-        terminal = os.open("/dev/tty", os.O_RDWR | os.O_NOCTTY)
+        with Terminal(paste=False) as terminal:
+            replies = terminal.ask(CURSOR + BACKGROUND + KEYBOARD, seconds)
+            count = len([*typed(terminal)])
     except OSError as error:
         sys.exit(f"ask: {error}")
-    try:
-        with raw_mode(terminal):
-            events = ask(terminal, seconds)
-    finally:
-        os.close(terminal)
-    for line in filter(None, map(described, events)):
+    for line in filter(None, map(described, replies)):
         print(line)
-    typed = [it for it in events if isinstance(it, (KeyEvent, KeyReport, MouseEvent, Paste))]
-    print(f"typed: {len(typed)}")
-    if not any(is_attributes(event) for event in events):
+    print(f"typed: {count}")
+    if not replies or not is_attributes(replies[-1]):
         print(f"no answer to the last question in {seconds:g} s")
         return 1
     return 0
 
 
 if __name__ == "__main__":
-    run(main, signal.SIGHUP, signal.SIGTERM)
+    sys.exit(main())

@@ -10,41 +10,33 @@ chord when no further key of it comes. The program waits for the shorter one.
 
 The terminal is restored whenever the program ends, also by SIGHUP, SIGINT, SIGQUIT and SIGTERM, and
 while it is stopped by SIGTSTP."""
-import contextlib
-import dataclasses
 import enum
 import os
 import re
-import select
 import signal
 import sys
-from typing import Iterator, List, NoReturn, Optional, Set, Tuple, Union
+from typing import List, NoReturn, Optional, Tuple, Union
 
 from hedrugal import (
     Bindings,
     Bound,
     Chord,
-    ExtendedEvent,
-    ExtendedParser,
-    KeyboardFlags,
     KeyNameError,
     KeyPress,
     KeyReport,
+    KittyKeyboardFlags,
     Matcher,
     Paste,
-    Protocol,
     Timer,
     Unbound,
     key_report,
     typed_text,
 )
-from raw_mode import raw_mode, run
+from hedrugal.terminal import Terminal, TerminalEvent
 
 # How many seconds a chord waits for its next key.
 PAUSE = 1.0
-PASTE_LIMIT = 1 << 20
-# The last of these asks for the flags of Kitty's protocol. A terminal replies if it has it.
-ON, OFF = b"\x1b[?2004h\x1b[>4;2m\x1b[>5u\x1b[?u", b"\x1b[<u\x1b[>4m\x1b[?2004l"
+FLAGS = KittyKeyboardFlags.DISAMBIGUATE_ESCAPE_CODES | KittyKeyboardFlags.REPORT_ALTERNATE_KEYS
 # A terminal would obey some control characters of a paste. They are shown as in a literal of Rust.
 SHOWN = {
     **{code: f"\\x{code:02x}" for code in (*range(0x20), 0x7F)},
@@ -107,70 +99,34 @@ def read_bindings(path: str) -> Tuple[Bindings[Command], List[str]]:
     return bindings, errors
 
 
-def write(data: bytes) -> None:
-    while data:
-        data = data[os.write(1, data) :]
-
-
-def print_line(line: str) -> None:
-    """Prints a line. In raw mode the terminal doesn't return the cursor by itself."""
-    write(f"{line}\r\n".encode())
-
-
 class Edit:
     """The program. Its functions raise SystemExit once it ends."""
 
-    def __init__(self, parser: ExtendedParser, bindings: Bindings[Command]) -> None:
-        self.parser = parser
+    def __init__(self, terminal: Terminal, bindings: Bindings[Command]) -> None:
+        self.terminal = terminal
         self.matcher = Matcher(bindings)
         self.timer = Timer()
         # The text, before the cursor and behind it.
         self.before, self.after = "", ""
 
-    def step(self, wake: int) -> None:
-        """Waits for the next input, pause or signal, and handles it."""
-        limits = [it for it in (self.parser.timeout(), self.timer.timeout()) if it is not None]
-        ready = select.select([0, wake], [], [], min(limits, default=None))[0]
-        if wake in ready:
-            os.read(wake, 64)
-        elif ready:
-            self.handle_input()
-        else:
-            self.handle_pause()
-
-    def handle_input(self) -> None:
-        data = os.read(0, 4096)
-        if not data:
-            self.handle_end()
-        self.parser.feed(data)
-        # One at a time, since an event may change how the next is read.
-        for event in self.parser:
+    def step(self) -> None:
+        """Waits for the next event or the end of a pause, and handles it."""
+        event = self.terminal.read(self.timer.timeout())
+        if event:
             self.handle(event)
-        self.insert_text(self.parser.take_paste(PASTE_LIMIT) or "")
-
-    def handle_end(self) -> NoReturn:
-        """Nothing more can come: what is buffered is flushed, and what is pending is given up."""
-        for event in self.parser.flush():
-            self.handle(event)
-        self.run(self.matcher.give_up())
-        sys.exit()
-
-    def handle_pause(self) -> None:
-        """No byte came in time: that may mean a key to the parser, or the end of a chord."""
-        for event in self.parser.expire():
-            self.handle(event)
-        if self.timer.is_due():
+        elif self.terminal.ended:
+            # Nothing more can come, so what is pending is given up.
+            self.run(self.matcher.give_up())
+            sys.exit()
+        elif self.timer.is_due():
             self.run(self.matcher.give_up())
 
-    def handle(self, event: ExtendedEvent) -> None:
+    def handle(self, event: TerminalEvent) -> None:
+        if isinstance(event, Paste):
+            self.insert_text(event.text)
         report = key_report(event)
         if report:
             self.handle_key(report)
-        elif isinstance(event, Paste):
-            self.insert_text(event.text)
-        elif isinstance(event, KeyboardFlags):
-            reading = dataclasses.replace(self.parser.reading, protocol=Protocol.KITTY)
-            self.parser.reading = reading
 
     def handle_key(self, report: KeyReport) -> None:
         press = KeyPress.of_report(report)
@@ -191,14 +147,14 @@ class Edit:
             elif outcome.press.text:
                 self.insert(outcome.press.text)
             else:
-                print_line(f"unbound: {outcome.press}")
+                self.print(f"unbound: {outcome.press}")
 
     def run_command(self, command: Command) -> None:
         text = self.before + self.after
         if command is Command.QUIT:
             sys.exit()
         elif command is Command.SAVE:
-            print_line(f"saved {len(text)} characters")
+            self.print(f"saved {len(text)} characters")
         elif command is Command.TOP:
             self.change("", text)
         elif command is Command.BOTTOM:
@@ -221,86 +177,31 @@ class Edit:
         """Sets the text before the cursor and behind it, and shows it if it is another."""
         if (before, after) != (self.before, self.after):
             self.before, self.after = before, after
-            print_line(f"text: {before.translate(SHOWN)}|{after.translate(SHOWN)}")
+            self.print(f"text: {before.translate(SHOWN)}|{after.translate(SHOWN)}")
+
+    def print(self, line: str) -> None:
+        self.terminal.write(f"{line}\n")
 
     def show_pending(self) -> None:
         """Shows what is pending, and each chord that continues it."""
         if not self.matcher.pending:
             return
         pending = Chord(self.matcher.pending)
-        print_line(f"pending: {pending}")
+        self.print(f"pending: {pending}")
         for chord, command in self.matcher.bindings.continuations(pending).items():
-            print_line(f"  {Chord(chord.presses[len(pending):])}  {command.value}")
-
-
-# The signals that came of SIGTSTP and SIGCONT.
-noted: Set[int] = set()
-
-
-def note(number: int, _: object) -> None:
-    noted.add(number)
-
-
-def note_job_signals() -> None:
-    """Begins to note what a shell sends that stops and continues jobs. A call that such a signal
-    interrupts goes on."""
-    for number in (signal.SIGTSTP, signal.SIGCONT):
-        signal.signal(number, note)
-        signal.siginterrupt(number, False)
-
-
-def stop_if_asked() -> None:
-    """Stops as a program does that handles no SIGTSTP. Goes on once it is continued, or at once if
-    no shell could continue it."""
-    if signal.SIGTSTP in noted:
-        signal.signal(signal.SIGTSTP, signal.SIG_DFL)
-        os.kill(os.getpid(), signal.SIGTSTP)
-        noted.discard(signal.SIGTSTP)
-        note_job_signals()
-    noted.discard(signal.SIGCONT)
-
-
-@contextlib.contextmanager
-def modes() -> Iterator[None]:
-    """Switches modes on, and then off, unless nobody reads what is written."""
-    try:
-        write(ON)
-        yield
-    finally:
-        if select.select([], [1], [], 1)[1]:
-            with contextlib.suppress(OSError):
-                write(OFF)
-
-
-def first_lines(bindings: Bindings[Command]) -> List[str]:
-    """Returns a line of the first chord that ends the program, if there is one."""
-    return [f"{chord} ends" for chord, command in bindings.items() if command is Command.QUIT][:1]
-
-
-def edit_until_noted(program: Edit, wake: int, lines: List[str]) -> None:
-    """Prints lines, and runs the program until a signal that stops or continues it."""
-    with raw_mode(0), modes():
-        for line in lines:
-            print_line(line)
-        while not noted:
-            program.step(wake)
+            self.print(f"  {Chord(chord.presses[len(pending):])}  {command.value}")
 
 
 def edit(bindings: Bindings[Command]) -> NoReturn:
     """Runs the program. It raises SystemExit at the end."""
-    wake, handlers = os.pipe()
-    os.set_blocking(handlers, False)
-    signal.set_wakeup_fd(handlers, warn_on_full_buffer=False)
-    note_job_signals()
-    lines = first_lines(bindings)
-    with ExtendedParser() as parser:
-        program = Edit(parser, bindings)
+    with Terminal(kitty=FLAGS, modify_other_keys=2) as terminal:
+        program = Edit(terminal, bindings)
+        for chord, command in bindings.items():
+            if command is Command.QUIT:
+                program.print(f"{chord} ends")
+                break
         while True:
-            edit_until_noted(program, wake, lines)
-            stop_if_asked()
-            # Another program had the terminal: what was buffered before no longer counts.
-            parser.reset()
-            lines = []
+            program.step()
 
 
 def main() -> int:
@@ -318,6 +219,8 @@ def main() -> int:
     if not os.isatty(0) or not os.isatty(1):
         print("edit: standard input and output have to be a terminal", file=sys.stderr)
         return 1
+    # As any other signal it ends the program, and raises no KeyboardInterrupt.
+    signal.signal(signal.SIGINT, signal.SIG_DFL)
     try:
         edit(bindings)
     except OSError as error:
@@ -326,4 +229,4 @@ def main() -> int:
 
 
 if __name__ == "__main__":
-    run(main, signal.SIGHUP, signal.SIGINT, signal.SIGQUIT, signal.SIGTERM)
+    sys.exit(main())

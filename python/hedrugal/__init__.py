@@ -17,7 +17,7 @@ The module calls the shared library libhedrugal.so by ctypes. The environment va
 HEDRUGAL_LIBRARY names the library's file, or the folder that has it. Both must belong to you or to
 root, and not be writable by all users. If the variable isn't set, the library is looked for in this
 package's folder, and then where the system has its libraries. The import raises ImportError if no
-library is found, or if its version isn't that of the module.
+library is found, or if it is older than the module, or of another major version.
 
 Names such as Modifiers and KeyCode are those of the Rust crate termwiz. Their numbers are those of
 hedrugal.h."""
@@ -44,6 +44,7 @@ from typing import (
     Generic,
     Iterator,
     List,
+    MutableMapping,
     NamedTuple,
     NoReturn,
     Optional,
@@ -142,7 +143,27 @@ __all__ = [
 ]
 
 
-class _Named(enum.Enum):
+class _Number(int):
+    """The number of a member of an enum, and what the member means."""
+
+    meaning: str
+
+
+def _number(number: int, meaning: str) -> int:
+    it = _Number(number)
+    it.meaning = meaning
+    return it
+
+
+class _Documented(enum.Enum):
+    """An enum whose members have numbers, and docstrings of their own."""
+
+    def __init__(self, number: int) -> None:
+        assert isinstance(number, _Number)
+        self._value_, self.__doc__ = int(number), number.meaning
+
+
+class _Named(_Documented):
     """An enum whose members are printed by name."""
 
     def __repr__(self) -> str:
@@ -153,7 +174,7 @@ class _Named(enum.Enum):
 _STRICT: Dict[str, Any] = {"boundary": enum.STRICT} if sys.version_info >= (3, 11) else {}
 
 
-class _Flags(enum.Flag, **_STRICT):
+class _Flags(_Documented, enum.Flag, **_STRICT):
     """A set of flags, printed by their names.
 
     Sets of different types are never equal and can't be combined, nor can a set and an int. A bit
@@ -170,18 +191,18 @@ class Modifiers(_Flags):
     """A set of modifier keys."""
 
     # numbers.txt: termwiz_mod member
-    NONE = 0  # No modifier.
-    SHIFT = 2  # Shift.
-    ALT = 4  # Alt.
-    CTRL = 8  # Ctrl.
-    SUPER = 16  # Super: the key with the Windows logo, or Command.
-    LEFT_ALT = 32  # The left Alt key.
-    RIGHT_ALT = 64  # The right Alt key.
-    LEADER = 128  # A leader key, for programs that define one.
-    LEFT_CTRL = 256  # The left Ctrl key.
-    RIGHT_CTRL = 512  # The right Ctrl key.
-    LEFT_SHIFT = 1024  # The left Shift key.
-    RIGHT_SHIFT = 2048  # The right Shift key.
+    NONE = _number(0, "No modifier.")
+    SHIFT = _number(2, "Shift.")
+    ALT = _number(4, "Alt.")
+    CTRL = _number(8, "Ctrl.")
+    SUPER = _number(16, "Super: the key with the Windows logo, or Command.")
+    LEFT_ALT = _number(32, "The left Alt key.")
+    RIGHT_ALT = _number(64, "The right Alt key.")
+    LEADER = _number(128, "A leader key, for programs that define one.")
+    LEFT_CTRL = _number(256, "The left Ctrl key.")
+    RIGHT_CTRL = _number(512, "The right Ctrl key.")
+    LEFT_SHIFT = _number(1024, "The left Shift key.")
+    RIGHT_SHIFT = _number(2048, "The right Shift key.")
     # numbers.txt: end
 
 
@@ -189,17 +210,21 @@ class MouseButtons(_Flags):
     """A set of buttons and wheels of the mouse."""
 
     # numbers.txt: button member
-    NONE = 0  # No button and no wheel.
-    LEFT = 2  # The left button.
-    RIGHT = 4  # The right button.
-    MIDDLE = 8  # The middle button.
-    # The wheel that scrolls up and down. It was turned up if WHEEL_POSITIVE is set too, and down if
-    # not.
-    VERT_WHEEL = 16
-    # The wheel that scrolls to the sides. It was turned left if WHEEL_POSITIVE is set too, and
-    # right if not.
-    HORZ_WHEEL = 32
-    WHEEL_POSITIVE = 64  # Set with a wheel that was turned up or left.
+    NONE = _number(0, "No button and no wheel.")
+    LEFT = _number(2, "The left button.")
+    RIGHT = _number(4, "The right button.")
+    MIDDLE = _number(8, "The middle button.")
+    VERT_WHEEL = _number(
+        16,
+        "The wheel that scrolls up and down. It was turned up if WHEEL_POSITIVE is set too, and "
+        "down if not.",
+    )
+    HORZ_WHEEL = _number(
+        32,
+        "The wheel that scrolls to the sides. It was turned left if WHEEL_POSITIVE is set too, "
+        "and right if not.",
+    )
+    WHEEL_POSITIVE = _number(64, "Set with a wheel that was turned up or left.")
     # numbers.txt: end
 
 
@@ -207,14 +232,24 @@ class KittyKeyboardFlags(_Flags):
     """A set of flags of kitty's keyboard protocol."""
 
     # numbers.txt: kitty_flag member
-    NONE = 0  # Nothing is asked for.
-    # Keys whose plain text is ambiguous, as that of Escape, are reported as escape codes.
-    DISAMBIGUATE_ESCAPE_CODES = 1
-    REPORT_EVENT_TYPES = 2  # Repeats and releases of a key are reported, and not presses alone.
-    # A key is reported with its shifted code and with its code on the standard layout.
-    REPORT_ALTERNATE_KEYS = 4
-    REPORT_ALL_KEYS_AS_ESCAPE_CODES = 8  # Keys that make text are reported as escape codes too.
-    REPORT_ASSOCIATED_TEXT = 16  # A key that makes text is reported with that text.
+    NONE = _number(0, "Nothing is asked for.")
+    DISAMBIGUATE_ESCAPE_CODES = _number(
+        1,
+        "Keys whose plain text is ambiguous, as that of Escape, are reported as escape codes.",
+    )
+    REPORT_EVENT_TYPES = _number(
+        2,
+        "Repeats and releases of a key are reported, and not presses alone.",
+    )
+    REPORT_ALTERNATE_KEYS = _number(
+        4,
+        "A key is reported with its shifted code and with its code on the standard layout.",
+    )
+    REPORT_ALL_KEYS_AS_ESCAPE_CODES = _number(
+        8,
+        "Keys that make text are reported as escape codes too.",
+    )
+    REPORT_ASSOCIATED_TEXT = _number(16, "A key that makes text is reported with that text.")
     # numbers.txt: end
 
 
@@ -222,12 +257,14 @@ class KeyboardEncoding(_Named):
     """How a terminal encodes the keys that it sends."""
 
     # numbers.txt: encoding member
-    XTERM = 0  # The characters themselves, and xterm's control sequences.
-    # The same, but a character with modifiers that it can't show is sent as ESC [ c ; m u
-    # (fixterms).
-    CSI_U = 1
-    WIN32 = 2  # Records of the Windows console. Keys are encoded as with XTERM.
-    KITTY = 3  # kitty's keyboard protocol. Keys are encoded as with XTERM.
+    XTERM = _number(0, "The characters themselves, and xterm's control sequences.")
+    CSI_U = _number(
+        1,
+        "The same, but a character with modifiers that it can't show is sent as ESC [ c ; m u "
+        "(fixterms).",
+    )
+    WIN32 = _number(2, "Records of the Windows console. Keys are encoded as with XTERM.")
+    KITTY = _number(3, "kitty's keyboard protocol. Keys are encoded as with XTERM.")
     # numbers.txt: end
 
 
@@ -235,12 +272,15 @@ class Waiting(_Named):
     """What stays buffered: see `InputParser.waiting`."""
 
     # numbers.txt: waiting member
-    NOTHING = 0  # Nothing is buffered.
-    ESCAPE = 1  # ESC, or ESC ESC: the Escape key, alone or with Alt, unless more bytes follow.
-    SEQUENCE = 2  # A longer prefix of a sequence, after an ESC or not.
-    CHARACTER = 3  # A prefix of a character in UTF-8, after an ESC or not.
-    PASTE = 4  # An open paste: its start, and its text so far.
-    STRING = 5  # An open string: its opening, and its bytes so far.
+    NOTHING = _number(0, "Nothing is buffered.")
+    ESCAPE = _number(
+        1,
+        "ESC, or ESC ESC: the Escape key, alone or with Alt, unless more bytes follow.",
+    )
+    SEQUENCE = _number(2, "A longer prefix of a sequence, after an ESC or not.")
+    CHARACTER = _number(3, "A prefix of a character in UTF-8, after an ESC or not.")
+    PASTE = _number(4, "An open paste: its start, and its text so far.")
+    STRING = _number(5, "An open string: its opening, and its bytes so far.")
     # numbers.txt: end
 
 
@@ -248,8 +288,8 @@ class Age(_Named, enum.IntEnum):
     """One of the two ages of what is pending, by which a Timer limits it."""
 
     # numbers.txt: age member
-    LAST = 0  # How long ago something was fed last.
-    FRONT = 1  # How long ago the first of what is pending came to the front.
+    LAST = _number(0, "How long ago something was fed last.")
+    FRONT = _number(1, "How long ago the first of what is pending came to the front.")
     # numbers.txt: end
 
 
@@ -257,98 +297,113 @@ class KeyCode(_Named):
     """A key that types no character and is no function key."""
 
     # numbers.txt: key member
-    HYPER = 2  # Hyper, a modifier key.
-    SUPER = 3  # Super, a modifier key: on most keyboards the one with the Windows logo, or Command.
-    META = 4  # Meta, a modifier key. The key that is labelled Alt is `Alt`.
-    CANCEL = 5  # Cancel, which on PC keyboards is Ctrl-Break.
-    BACKSPACE = 6  # Backspace, which deletes the character before the cursor.
-    TAB = 7  # Tab. Shift-Tab is this key with SHIFT.
-    CLEAR = 8  # Clear, which on PC keyboards is the 5 of the keypad while Num Lock is off.
-    ENTER = 9  # Enter, also called Return.
-    SHIFT = 10  # Shift, where it isn't known which of the two.
-    ESCAPE = 11  # Escape.
-    LEFT_SHIFT = 12  # The left Shift key.
-    RIGHT_SHIFT = 13  # The right Shift key.
-    CONTROL = 14  # Ctrl, where it isn't known which of the two.
-    LEFT_CONTROL = 15  # The left Ctrl key.
-    RIGHT_CONTROL = 16  # The right Ctrl key.
-    ALT = 17  # Alt, or Option, where it isn't known which of the two.
-    LEFT_ALT = 18  # The left Alt key.
-    RIGHT_ALT = 19  # The right Alt key, also called AltGr.
-    # Menu, Windows' name for Alt (`VK_MENU`). The key that opens a context menu is `Applications`.
-    MENU = 20
-    LEFT_MENU = 21  # Windows' name for the left Alt key (`VK_LMENU`).
-    RIGHT_MENU = 22  # Windows' name for the right Alt key (`VK_RMENU`).
-    PAUSE = 23  # Pause.
-    CAPS_LOCK = 24  # Caps Lock.
-    PAGE_UP = 25  # Page Up.
-    PAGE_DOWN = 26  # Page Down.
-    END = 27  # End.
-    HOME = 28  # Home.
-    LEFT_ARROW = 29  # The left arrow key.
-    RIGHT_ARROW = 30  # The right arrow key.
-    UP_ARROW = 31  # The up arrow key.
-    DOWN_ARROW = 32  # The down arrow key.
-    SELECT = 33  # Select, as on the VT220's editing keypad.
-    PRINT = 34  # Print (`VK_PRINT`), which few keyboards have. It isn't `PrintScreen`.
-    EXECUTE = 35  # Execute (`VK_EXECUTE`), which few keyboards have.
-    PRINT_SCREEN = 36  # Print Screen.
-    INSERT = 37  # Insert.
-    DELETE = 38  # Delete, which deletes the character at the cursor.
-    HELP = 39  # Help.
-    LEFT_WINDOWS = 40  # The left key with the Windows logo.
-    RIGHT_WINDOWS = 41  # The right key with the Windows logo.
-    APPLICATIONS = 42  # The Applications key, which opens a context menu.
-    SLEEP = 43  # Sleep, which suspends the computer.
-    NUMPAD_0 = 44  # The 0 of the numeric keypad, while Num Lock is on.
-    NUMPAD_1 = 45  # The 1 of the numeric keypad, while Num Lock is on.
-    NUMPAD_2 = 46  # The 2 of the numeric keypad, while Num Lock is on.
-    NUMPAD_3 = 47  # The 3 of the numeric keypad, while Num Lock is on.
-    NUMPAD_4 = 48  # The 4 of the numeric keypad, while Num Lock is on.
-    NUMPAD_5 = 49  # The 5 of the numeric keypad, while Num Lock is on.
-    NUMPAD_6 = 50  # The 6 of the numeric keypad, while Num Lock is on.
-    NUMPAD_7 = 51  # The 7 of the numeric keypad, while Num Lock is on.
-    NUMPAD_8 = 52  # The 8 of the numeric keypad, while Num Lock is on.
-    NUMPAD_9 = 53  # The 9 of the numeric keypad, while Num Lock is on.
-    MULTIPLY = 54  # The `*` of the numeric keypad.
-    ADD = 55  # The `+` of the numeric keypad.
-    SEPARATOR = 56  # The thousands separator of the numeric keypad, on keyboards that have one.
-    SUBTRACT = 57  # The `-` of the numeric keypad.
-    DECIMAL = 58  # The decimal point of the numeric keypad.
-    DIVIDE = 59  # The `/` of the numeric keypad.
-    NUM_LOCK = 61  # Num Lock.
-    SCROLL_LOCK = 62  # Scroll Lock.
-    COPY = 63  # A key of its own for copying.
-    CUT = 64  # A key of its own for cutting.
-    # A key of its own for pasting. Text that was pasted comes as an event of its own kind.
-    PASTE = 65
-    BROWSER_BACK = 66  # Back, for a web browser.
-    BROWSER_FORWARD = 67  # Forward, for a web browser.
-    BROWSER_REFRESH = 68  # Refresh, for a web browser.
-    BROWSER_STOP = 69  # Stop loading, for a web browser.
-    BROWSER_SEARCH = 70  # Search, for a web browser.
-    BROWSER_FAVORITES = 71  # Favorites, for a web browser.
-    BROWSER_HOME = 72  # Home page, for a web browser.
-    VOLUME_MUTE = 73  # Mute the sound.
-    VOLUME_DOWN = 74  # Turn the volume down.
-    VOLUME_UP = 75  # Turn the volume up.
-    MEDIA_NEXT_TRACK = 76  # Skip to the next track.
-    MEDIA_PREV_TRACK = 77  # Skip to the previous track.
-    MEDIA_STOP = 78  # Stop playing.
-    MEDIA_PLAY_PAUSE = 79  # Play, or pause.
-    # The left arrow key while the terminal is in application cursor mode (DECCKM).
-    APPLICATION_LEFT_ARROW = 80
-    APPLICATION_RIGHT_ARROW = 81  # The right arrow key in application cursor mode.
-    APPLICATION_UP_ARROW = 82  # The up arrow key in application cursor mode.
-    APPLICATION_DOWN_ARROW = 83  # The down arrow key in application cursor mode.
-    KEY_PAD_HOME = 84  # Home on the numeric keypad: the 7 while Num Lock is off.
-    KEY_PAD_END = 85  # End on the numeric keypad: the 1 while Num Lock is off.
-    KEY_PAD_PAGE_UP = 86  # Page Up on the numeric keypad: the 9 while Num Lock is off.
-    KEY_PAD_PAGE_DOWN = 87  # Page Down on the numeric keypad: the 3 while Num Lock is off.
-    KEY_PAD_BEGIN = 88  # Begin on the numeric keypad: the 5 while Num Lock is off.
-    # The start of a bracketed paste. No event carries it: the paste comes as one event.
-    INTERNAL_PASTE_START = 89
-    INTERNAL_PASTE_END = 90  # The end of a bracketed paste, where none was started.
+    HYPER = _number(2, "Hyper, a modifier key.")
+    SUPER = _number(
+        3,
+        "Super, a modifier key: on most keyboards the one with the Windows logo, or Command.",
+    )
+    META = _number(4, "Meta, a modifier key. The key that is labelled Alt is `Alt`.")
+    CANCEL = _number(5, "Cancel, which on PC keyboards is Ctrl-Break.")
+    BACKSPACE = _number(6, "Backspace, which deletes the character before the cursor.")
+    TAB = _number(7, "Tab. Shift-Tab is this key with SHIFT.")
+    CLEAR = _number(8, "Clear, which on PC keyboards is the 5 of the keypad while Num Lock is off.")
+    ENTER = _number(9, "Enter, also called Return.")
+    SHIFT = _number(10, "Shift, where it isn't known which of the two.")
+    ESCAPE = _number(11, "Escape.")
+    LEFT_SHIFT = _number(12, "The left Shift key.")
+    RIGHT_SHIFT = _number(13, "The right Shift key.")
+    CONTROL = _number(14, "Ctrl, where it isn't known which of the two.")
+    LEFT_CONTROL = _number(15, "The left Ctrl key.")
+    RIGHT_CONTROL = _number(16, "The right Ctrl key.")
+    ALT = _number(17, "Alt, or Option, where it isn't known which of the two.")
+    LEFT_ALT = _number(18, "The left Alt key.")
+    RIGHT_ALT = _number(19, "The right Alt key, also called AltGr.")
+    MENU = _number(
+        20,
+        "Menu, Windows' name for Alt (`VK_MENU`). The key that opens a context menu is "
+        "`Applications`.",
+    )
+    LEFT_MENU = _number(21, "Windows' name for the left Alt key (`VK_LMENU`).")
+    RIGHT_MENU = _number(22, "Windows' name for the right Alt key (`VK_RMENU`).")
+    PAUSE = _number(23, "Pause.")
+    CAPS_LOCK = _number(24, "Caps Lock.")
+    PAGE_UP = _number(25, "Page Up.")
+    PAGE_DOWN = _number(26, "Page Down.")
+    END = _number(27, "End.")
+    HOME = _number(28, "Home.")
+    LEFT_ARROW = _number(29, "The left arrow key.")
+    RIGHT_ARROW = _number(30, "The right arrow key.")
+    UP_ARROW = _number(31, "The up arrow key.")
+    DOWN_ARROW = _number(32, "The down arrow key.")
+    SELECT = _number(33, "Select, as on the VT220's editing keypad.")
+    PRINT = _number(34, "Print (`VK_PRINT`), which few keyboards have. It isn't `PrintScreen`.")
+    EXECUTE = _number(35, "Execute (`VK_EXECUTE`), which few keyboards have.")
+    PRINT_SCREEN = _number(36, "Print Screen.")
+    INSERT = _number(37, "Insert.")
+    DELETE = _number(38, "Delete, which deletes the character at the cursor.")
+    HELP = _number(39, "Help.")
+    LEFT_WINDOWS = _number(40, "The left key with the Windows logo.")
+    RIGHT_WINDOWS = _number(41, "The right key with the Windows logo.")
+    APPLICATIONS = _number(42, "The Applications key, which opens a context menu.")
+    SLEEP = _number(43, "Sleep, which suspends the computer.")
+    NUMPAD_0 = _number(44, "The 0 of the numeric keypad, while Num Lock is on.")
+    NUMPAD_1 = _number(45, "The 1 of the numeric keypad, while Num Lock is on.")
+    NUMPAD_2 = _number(46, "The 2 of the numeric keypad, while Num Lock is on.")
+    NUMPAD_3 = _number(47, "The 3 of the numeric keypad, while Num Lock is on.")
+    NUMPAD_4 = _number(48, "The 4 of the numeric keypad, while Num Lock is on.")
+    NUMPAD_5 = _number(49, "The 5 of the numeric keypad, while Num Lock is on.")
+    NUMPAD_6 = _number(50, "The 6 of the numeric keypad, while Num Lock is on.")
+    NUMPAD_7 = _number(51, "The 7 of the numeric keypad, while Num Lock is on.")
+    NUMPAD_8 = _number(52, "The 8 of the numeric keypad, while Num Lock is on.")
+    NUMPAD_9 = _number(53, "The 9 of the numeric keypad, while Num Lock is on.")
+    MULTIPLY = _number(54, "The `*` of the numeric keypad.")
+    ADD = _number(55, "The `+` of the numeric keypad.")
+    SEPARATOR = _number(
+        56,
+        "The thousands separator of the numeric keypad, on keyboards that have one.",
+    )
+    SUBTRACT = _number(57, "The `-` of the numeric keypad.")
+    DECIMAL = _number(58, "The decimal point of the numeric keypad.")
+    DIVIDE = _number(59, "The `/` of the numeric keypad.")
+    NUM_LOCK = _number(61, "Num Lock.")
+    SCROLL_LOCK = _number(62, "Scroll Lock.")
+    COPY = _number(63, "A key of its own for copying.")
+    CUT = _number(64, "A key of its own for cutting.")
+    PASTE = _number(
+        65,
+        "A key of its own for pasting. Text that was pasted comes as an event of its own kind.",
+    )
+    BROWSER_BACK = _number(66, "Back, for a web browser.")
+    BROWSER_FORWARD = _number(67, "Forward, for a web browser.")
+    BROWSER_REFRESH = _number(68, "Refresh, for a web browser.")
+    BROWSER_STOP = _number(69, "Stop loading, for a web browser.")
+    BROWSER_SEARCH = _number(70, "Search, for a web browser.")
+    BROWSER_FAVORITES = _number(71, "Favorites, for a web browser.")
+    BROWSER_HOME = _number(72, "Home page, for a web browser.")
+    VOLUME_MUTE = _number(73, "Mute the sound.")
+    VOLUME_DOWN = _number(74, "Turn the volume down.")
+    VOLUME_UP = _number(75, "Turn the volume up.")
+    MEDIA_NEXT_TRACK = _number(76, "Skip to the next track.")
+    MEDIA_PREV_TRACK = _number(77, "Skip to the previous track.")
+    MEDIA_STOP = _number(78, "Stop playing.")
+    MEDIA_PLAY_PAUSE = _number(79, "Play, or pause.")
+    APPLICATION_LEFT_ARROW = _number(
+        80,
+        "The left arrow key while the terminal is in application cursor mode (DECCKM).",
+    )
+    APPLICATION_RIGHT_ARROW = _number(81, "The right arrow key in application cursor mode.")
+    APPLICATION_UP_ARROW = _number(82, "The up arrow key in application cursor mode.")
+    APPLICATION_DOWN_ARROW = _number(83, "The down arrow key in application cursor mode.")
+    KEY_PAD_HOME = _number(84, "Home on the numeric keypad: the 7 while Num Lock is off.")
+    KEY_PAD_END = _number(85, "End on the numeric keypad: the 1 while Num Lock is off.")
+    KEY_PAD_PAGE_UP = _number(86, "Page Up on the numeric keypad: the 9 while Num Lock is off.")
+    KEY_PAD_PAGE_DOWN = _number(87, "Page Down on the numeric keypad: the 3 while Num Lock is off.")
+    KEY_PAD_BEGIN = _number(88, "Begin on the numeric keypad: the 5 while Num Lock is off.")
+    INTERNAL_PASTE_START = _number(
+        89,
+        "The start of a bracketed paste. No event carries it: the paste comes as one event.",
+    )
+    INTERNAL_PASTE_END = _number(90, "The end of a bracketed paste, where none was started.")
     # numbers.txt: end
 
 
@@ -760,11 +815,12 @@ def _load() -> ctypes.PyDLL:
         raise _not_loaded(str(error)) from None
     _declare(library, _CALLS)
     number = library.hed_version()
-    version = f"{number >> 16}.{number >> 8 & 255}.{number & 255}"
-    if version != __version__:
+    major, *later = number >> 16, number >> 8 & 255, number & 255
+    wanted, *least = map(int, __version__.split("."))
+    if major != wanted or later < least:
         raise _not_loaded(
-            f"{file} is version {version} of the library, "
-            f"and this module is for version {__version__}"
+            f"{file} is version {major}.{later[0]}.{later[1]} of the library, "
+            f"and this module is for version {__version__} or a later one of {wanted}"
         )
     return library
 
@@ -782,7 +838,8 @@ def _declare(library: ctypes.PyDLL, calls: Dict[str, Tuple[Any, List[Any]]]) -> 
 def _not_loaded(why: str) -> ImportError:
     return ImportError(
         f"hedrugal: {why}\n"
-        "HEDRUGAL_LIBRARY has to name a libhedrugal.so of this version, or its folder."
+        "HEDRUGAL_LIBRARY has to name a libhedrugal.so of this version or a later one, "
+        "or its folder."
     )
 
 
@@ -911,6 +968,16 @@ def _key_event(number: int, detail: int, modifiers: int) -> KeyEvent:
     return KeyEvent(_key(number, detail), _modifiers(modifiers))
 
 
+def _key_or_mouse(raw: Any, offset: int) -> Union[KeyEvent, MouseEvent, None]:
+    """The key or mouse event that has its struct at this place, if it is one."""
+    kind, buttons, modifiers, key, x, y, detail, _ = _fields_of(raw, offset)
+    if kind == _KIND_KEY:
+        return _key_event(key, detail, modifiers)
+    if kind == _KIND_MOUSE:
+        return MouseEvent(x, y, _buttons(buttons), _modifiers(modifiers))
+    return None
+
+
 # The idle parser whose sequence table all parsers share. It is never freed, so the table stays
 # until the process ends.
 _idle = _RawParser()
@@ -1018,6 +1085,7 @@ class _EventParser(_Closable, Generic[_AnyEvent]):
     events."""
 
     _calls: ClassVar[_ParserCalls]
+    _has_front: bool
 
     def __init__(self, raw: Any, front: Any, init: Any, free: Any) -> None:
         super().__init__("parser", raw, init, free)
@@ -1107,7 +1175,7 @@ class _EventParser(_Closable, Generic[_AnyEvent]):
         with self._alone():
             self._check_open()
             # What was refused memory comes before what is buffered.
-            if self._kept or self._has_front:
+            if self._holds_events():
                 return None
             if not _is_event(self._calls.flush_escape(self._raw, self._front)):
                 return None
@@ -1157,7 +1225,7 @@ class _EventParser(_Closable, Generic[_AnyEvent]):
         _not_negative(limit)
         with self._alone():
             self._check_open()
-            if self._kept or self._has_front:
+            if self._holds_events():
                 return None
             if not self._part and not self._find_part(min(limit, sys.maxsize)):
                 return None
@@ -1174,7 +1242,7 @@ class _EventParser(_Closable, Generic[_AnyEvent]):
         count = ctypes.c_size_t()
         with self._alone():
             self._check_open()
-            if self._kept or self._has_front:
+            if self._holds_events():
                 return None
             if not self._calls.skip_paste(self._raw, count):
                 return None
@@ -1265,7 +1333,7 @@ class _EventParser(_Closable, Generic[_AnyEvent]):
         with self._alone():
             self._check_open()
             # What was refused memory waits no longer.
-            if self._kept or self._has_front:
+            if self._holds_events():
                 return 0.0
             return _wait_of(self._calls.timeout(self._raw, millis()))
 
@@ -1290,7 +1358,7 @@ class _EventParser(_Closable, Generic[_AnyEvent]):
             self._check_open()
             events = self._kept
             # What was refused memory comes first, and what is decided behind it.
-            if events or self._has_front:
+            if self._holds_events():
                 self._move_events(events, True)
             due = millis()
             while self._find_due(due):
@@ -1305,8 +1373,7 @@ class _EventParser(_Closable, Generic[_AnyEvent]):
         Call it where earlier bytes no longer count, as after another program had the terminal."""
         with self._alone():
             self._check_open()
-            self._kept.clear()
-            self._has_front, self._part = False, b""
+            self._forget_events()
             self._calls.drop_text(self._raw)
             return cast(int, self._calls.reset(self._raw))
 
@@ -1339,6 +1406,15 @@ class _EventParser(_Closable, Generic[_AnyEvent]):
         self._leave_front()
         return event
 
+    def _holds_events(self) -> bool:
+        """Whether there are events that were taken from the buffer, and then refused memory."""
+        return bool(self._kept) or self._has_front
+
+    def _forget_events(self) -> None:
+        """Forgets these events."""
+        self._kept.clear()
+        self._has_front, self._part = False, b""
+
     def _find_front(self, maybe_more: bool) -> bool:
         """Whether there is an event at the front. It stays there until `_leave_front`."""
         if not self._has_front:
@@ -1362,9 +1438,9 @@ class _EventParser(_Closable, Generic[_AnyEvent]):
         raise NotImplementedError
 
     def _leave_front(self) -> None:
-        self._has_front = False
+        self._has_front, self._part = False, b""
         if self._has_text:
-            self._has_text, self._part = False, b""
+            self._has_text = False
             self._calls.drop_text(self._raw)
 
     def _find_part(self, limit: int) -> bool:
@@ -1383,19 +1459,16 @@ class _EventParser(_Closable, Generic[_AnyEvent]):
         self._calls.drop_text(self._raw)
         return True
 
-    def _input_event(self, offset: int = 0) -> Event:
-        """The key, mouse event or paste of which the front has the struct at this place."""
-        kind, buttons, modifiers, key, x, y, detail, paste_len = _fields_of(self._front, offset)
-        if kind == _KIND_KEY:
-            return _key_event(key, detail, modifiers)
-        if kind == _KIND_MOUSE:
-            return MouseEvent(x, y, _buttons(buttons), _modifiers(modifiers))
-        if kind == _KIND_PASTE:
-            return Paste(str(self._part, "utf-8") + self._text(paste_len).decode("utf-8"))
-        _fault()
+    def _paste(self, event: _RawEvent) -> Paste:
+        if event.kind != _KIND_PASTE:
+            _fault()
+        return Paste(str(self._part, "utf-8") + self._text(event.paste_len).decode("utf-8"))
 
     def _text(self, length: int) -> bytearray:
         """The text of the event at the front, which the library keeps until `_leave_front`."""
+        # Without a text of its own, the library may keep that of another event.
+        if not length:
+            return bytearray()
         self._has_text = True
         room = bytearray(length)
         pointer, _ = _borrowed(room)
@@ -1444,13 +1517,15 @@ class InputParser(_EventParser[Event]):
         reset=_library.hed_parser_reset,
         shrink_to=_library.hed_parser_shrink_to,
     )
-    _front_event = _EventParser._input_event
 
     def __init__(self) -> None:
         def init(raw: _RawParser) -> bool:
             return bool(_library.hed_parser_init_sharing(raw, _parser_with_table()))
 
         super().__init__(_RawParser(), _RawEvent(), init, _library.hed_parser_free)
+
+    def _front_event(self) -> Event:
+        return _key_or_mouse(self._front, 0) or self._paste(self._front)
 
     def entry(self, place: int) -> Optional[Entry]:
         r"""Returns the entry of the sequence table at a place, in the order of the entries' bytes.
@@ -1594,12 +1669,12 @@ class Timer:
         return self.timeout(now) == 0
 
 
-class KeyMap(_Closable, Generic[Value]):
+class KeyMap(_Closable, MutableMapping[bytes, Value]):
     """Maps byte strings, the keys, to values, and finds the longest key that is a prefix of a text.
 
         >>> with KeyMap[str]() as keys:
-        ...     keys.insert(b"d", "delete")
-        ...     keys.insert(b"diw", "delete the word")
+        ...     keys[b"d"] = "delete"
+        ...     keys[b"diw"] = "delete the word"
         ...     for text in (b"d", b"di", b"dx", b"diw", b"x"):
         ...         print(keys.lookup(text))
         Ambiguous(len=1, value='delete')
@@ -1608,20 +1683,25 @@ class KeyMap(_Closable, Generic[Value]):
         Exact(len=3, value='delete the word')
         Nothing()
 
-    A value may be any object. The map keeps it until the key is inserted with another value, or the
-    map is closed.
+    It is a mapping, as a dict is, and lists the keys in the order of their bytes. To delete a key
+    takes as long as to insert the others again.
+
+    A value may be any object. The map keeps it until its key has another one or none, or the map is
+    closed.
 
     A map owns memory outside of Python. `close` frees it; so do the end of a `with` block and the
     end of the map's life. Every other call raises ValueError once the map is closed. It can't be
     copied or pickled. Threads may share a map, as a parser: in the middle of a call of its own
-    thread `insert` or `close` raises RuntimeError.
+    thread a call that changes it raises RuntimeError.
 
-    Making a map raises MemoryError if memory is refused."""
+    Making a map, inserting and deleting raise MemoryError if memory is refused. Then the map is
+    unchanged, and the call may be made again."""
 
     def __init__(self) -> None:
         super().__init__("map", _RawKeyMap(), _library.hed_keymap_init, _library.hed_keymap_free)
-        # The library maps a key to the place of its value.
-        self._values: List[Value] = []
+        # The library maps a key to the number of its entry here.
+        self._entries: Dict[int, Tuple[bytes, Value]] = {}
+        self._number = 0
 
     def __len__(self) -> int:
         """The number of keys."""
@@ -1633,27 +1713,59 @@ class KeyMap(_Closable, Generic[Value]):
         with self._lock:
             return f"<KeyMap, {'closed' if self.closed else f'{len(self)} keys'}>"
 
-    def insert(self, key: Bytes, value: Value) -> None:
-        """Maps a key to a value. A value that the key had before is let go.
+    def __iter__(self) -> Iterator[bytes]:
+        """Returns an iterator over the keys that are there when it is made, in their order."""
+        with self._lock:
+            self._check_open()
+            return iter(sorted(key for key, _ in self._entries.values()))
 
-        Raises MemoryError if memory is refused. Then the map is unchanged, and the call may be made
-        again."""
+    def __getitem__(self, key: Bytes) -> Value:
         pointer, length = _borrowed(key)
-        match = _RawMatch()
+        with self._lock:
+            number = self._number_of(pointer, length)
+            if number is not None:
+                return self._entries[number][1]
+        raise KeyError(key)
+
+    def __setitem__(self, key: Bytes, value: Value) -> None:
+        """Does what `insert` does."""
+        self.insert(key, value)
+
+    def __delitem__(self, key: Bytes) -> None:
+        pointer, length = _borrowed(key)
+        with self._alone():
+            number = self._number_of(pointer, length)
+            others = {at: entry for at, entry in self._entries.items() if at != number}
+            before = {} if number is None else self._replace(others)
+        del before
+        if number is None:
+            raise KeyError(key)
+
+    def insert(self, key: Bytes, value: Value) -> None:
+        """Maps a key to a value. A value that the key had before is let go."""
+        pointer, length = _borrowed(key)
+        with self._alone():
+            number = self._number_of(pointer, length)
+            if number is None:
+                number = self._number
+                kept = key if type(key) is bytes else memoryview(key).tobytes()
+                self._entries[number] = kept, value
+                if not _library.hed_keymap_insert(self._raw, pointer, length, number):
+                    del self._entries[number]
+                    raise _refused()
+                self._number += 1
+                return
+            # The value that it had is let go as the call returns.
+            before = self._entries[number]
+            self._entries[number] = before[0], value
+        del before
+
+    def clear(self) -> None:
+        """Deletes all keys."""
         with self._alone():
             self._check_open()
-            if (
-                _lookup(self._raw, pointer, length, False, match) == _FOUND_EXACT
-                and match.len == length
-            ):
-                # The key keeps its place. The value that it had is let go as the call returns.
-                value, self._values[match.value] = self._values[match.value], value
-                return
-            place = len(self._values)
-            self._values.append(value)
-            if not _library.hed_keymap_insert(self._raw, pointer, length, place):
-                self._values.pop()
-                raise _refused()
+            before = self._replace({})
+        before.clear()
 
     def lookup(self, text: Bytes, maybe_more: bool = True) -> Found[Value]:
         """Finds the longest key that is a prefix of the text, and returns an Exact with its length
@@ -1675,9 +1787,9 @@ class KeyMap(_Closable, Generic[Value]):
         with self._lock:
             answer = _lookup(self._raw, pointer, length, more, match)
             if answer == _FOUND_EXACT:
-                return Exact(match.len, self._values[match.value])
+                return Exact(match.len, self._entries[match.value][1])
             if answer == _FOUND_AMBIGUOUS:
-                return Ambiguous(match.len, self._values[match.value])
+                return Ambiguous(match.len, self._entries[match.value][1])
         if answer == _FOUND_NEED_DATA:
             return _need_data
         if answer == _FOUND_NONE:
@@ -1691,8 +1803,31 @@ class KeyMap(_Closable, Generic[Value]):
         It may be called twice."""
         with self._alone():
             self._free()
-            values, self._values = self._values, []
-        values.clear()
+            entries, self._entries = self._entries, {}
+        entries.clear()
+
+    # The rest is called while the lock is held.
+
+    def _number_of(self, pointer: Any, length: int) -> Optional[int]:
+        """The number of the entry that has this key."""
+        self._check_open()
+        match = _RawMatch()
+        is_found = _lookup(self._raw, pointer, length, False, match) == _FOUND_EXACT
+        return match.value if is_found and match.len == length else None
+
+    def _replace(self, entries: Dict[int, Tuple[bytes, Value]]) -> Dict[int, Tuple[bytes, Value]]:
+        """Makes the library's map anew, of these entries, and returns those that there were."""
+        raw = _RawKeyMap()
+        if not _library.hed_keymap_init(raw):
+            raise _refused()
+        for number, (key, _) in entries.items():
+            if not _library.hed_keymap_insert(raw, key, len(key), number):
+                _library.hed_keymap_free(raw)
+                raise _refused()
+        _library.hed_keymap_free(self._raw)
+        self._raw.live, self._raw.state = raw.live, raw.state
+        before, self._entries = self._entries, entries
+        return before
 
 
 def _number_and_detail(key: Key) -> Tuple[int, int]:

@@ -58,6 +58,7 @@ from . import (
     _KIND_SIDE_BUTTON,
     _KIND_STRING_CUT,
     _KIND_STRING_PART,
+    _NEXT_EVENT,
     EncodeError,
     Event,
     Key,
@@ -72,9 +73,12 @@ from . import (
     _EventParser,
     _fault,
     _Flags,
+    _is_event,
     _key,
+    _key_or_mouse,
     _library,
     _Named,
+    _number,
     _number_and_detail,
     _PARSER as _INPUT_PARSER,
     _PARSER_FIELDS,
@@ -138,10 +142,15 @@ class Protocol(_Named):
     entries of the sequence table."""
 
     # numbers.txt: protocol member
-    LEGACY = 0  # For programs that leave Kitty's keyboard protocol off: each entry keeps its key.
-    # For programs that turn it on: an entry that reports a key or the cursor's position is read as
-    # that report.
-    KITTY = 1
+    LEGACY = _number(
+        0,
+        "For programs that leave Kitty's keyboard protocol off: each entry keeps its key.",
+    )
+    KITTY = _number(
+        1,
+        "For programs that turn it on: an entry that reports a key or the cursor's position is "
+        "read as that report.",
+    )
     # numbers.txt: end
 
 
@@ -162,9 +171,9 @@ class SideButtonKind(_Named):
     """What happened to a side button of the mouse."""
 
     # numbers.txt: side_button member
-    PRESS = 1  # It was pressed.
-    RELEASE = 2  # It was released. Only SGR reports (mode 1006) tell which button was.
-    DRAG = 3  # The mouse was moved while it was down.
+    PRESS = _number(1, "It was pressed.")
+    RELEASE = _number(2, "It was released. Only SGR reports (mode 1006) tell which button was.")
+    DRAG = _number(3, "The mouse was moved while it was down.")
     # numbers.txt: end
 
 
@@ -172,9 +181,9 @@ class KeyEventKind(_Named):
     """What happened to a key."""
 
     # numbers.txt: key_event_kind member
-    PRESS = 1  # It was pressed.
-    REPEAT = 2  # It was held down so long that it repeats.
-    RELEASE = 3  # It was released.
+    PRESS = _number(1, "It was pressed.")
+    REPEAT = _number(2, "It was held down so long that it repeats.")
+    RELEASE = _number(3, "It was released.")
     # numbers.txt: end
 
 
@@ -183,15 +192,15 @@ class KittyModifiers(_Flags):
     that are on."""
 
     # numbers.txt: kitty_mod member
-    NONE = 0  # No modifier.
-    SHIFT = 1  # Shift.
-    ALT = 2  # Alt.
-    CTRL = 4  # Ctrl.
-    SUPER = 8  # Super: the key with the Windows logo, or Command.
-    HYPER = 16  # Hyper.
-    META = 32  # Meta.
-    CAPS_LOCK = 64  # Caps Lock is on.
-    NUM_LOCK = 128  # Num Lock is on.
+    NONE = _number(0, "No modifier.")
+    SHIFT = _number(1, "Shift.")
+    ALT = _number(2, "Alt.")
+    CTRL = _number(4, "Ctrl.")
+    SUPER = _number(8, "Super: the key with the Windows logo, or Command.")
+    HYPER = _number(16, "Hyper.")
+    META = _number(32, "Meta.")
+    CAPS_LOCK = _number(64, "Caps Lock is on.")
+    NUM_LOCK = _number(128, "Num Lock is on.")
     # numbers.txt: end
 
 
@@ -285,7 +294,7 @@ class KeyPress:
     held: KittyModifiers = KittyModifiers.NONE
 
     @staticmethod
-    def of_event(event: ExtendedEvent) -> Optional[KeyPress]:
+    def of_event(event: object) -> Optional[KeyPress]:
         """Returns the press of a KeyEvent or a KeyReport, and None for any other event. A modifier
         or a lock by itself has none. Of the modifiers of a KeyEvent SHIFT, ALT, CTRL and SUPER
         count: not LEADER, nor which of two keys is held."""
@@ -336,20 +345,29 @@ class KeyPress:
 class KeyNameErrorKind(_Named):
     """What is wrong with a text that should name keys. Its text says so in words."""
 
-    CONTROL_CHARACTER = _NAMED_CONTROL_CHARACTER  # A control character but the tab is in the text.
-    MODIFIER_TWICE = _NAMED_MODIFIER_TWICE  # A modifier is there twice, as in M-A-x.
-    UNKNOWN_MODIFIER = _NAMED_UNKNOWN_MODIFIER  # A word before + or - is no modifier.
-    MISSING_KEY = _NAMED_MISSING_KEY  # No key stands behind the modifiers, as in ctrl+.
-    BAD_NUMBER = _NAMED_BAD_NUMBER  # A number names no key, as in f256 and f01.
-    UNKNOWN_NAME = _NAMED_UNKNOWN_NAME  # No key has this name.
-    # DEL in capitals is Backspace to Emacs, and Delete to others: write backspace or delete.
-    AMBIGUOUS = _NAMED_AMBIGUOUS
-    NOT_A_KEY = _NAMED_NOT_A_KEY  # The key makes no press by itself, as a modifier or a lock.
-    # Shift with a character that isn't a letter of ASCII: write what it types, as ! for shift+1.
-    SHIFTED_CHARACTER = _NAMED_SHIFTED_CHARACTER
-    TOO_LONG = _NAMED_TOO_LONG  # The text has more than 32 keys.
-    EMPTY = _NAMED_EMPTY  # No key is in the text.
-    BAD_TEXT = _NAMED_BAD_TEXT  # The text has a surrogate, which UTF-8 can't have.
+    CONTROL_CHARACTER = _number(
+        _NAMED_CONTROL_CHARACTER, "A control character but the tab is in the text."
+    )
+    MODIFIER_TWICE = _number(_NAMED_MODIFIER_TWICE, "A modifier is there twice, as in M-A-x.")
+    UNKNOWN_MODIFIER = _number(_NAMED_UNKNOWN_MODIFIER, "A word before + or - is no modifier.")
+    MISSING_KEY = _number(_NAMED_MISSING_KEY, "No key stands behind the modifiers, as in ctrl+.")
+    BAD_NUMBER = _number(_NAMED_BAD_NUMBER, "A number names no key, as in f256 and f01.")
+    UNKNOWN_NAME = _number(_NAMED_UNKNOWN_NAME, "No key has this name.")
+    AMBIGUOUS = _number(
+        _NAMED_AMBIGUOUS,
+        "DEL in capitals is Backspace to Emacs, and Delete to others: write backspace or delete.",
+    )
+    NOT_A_KEY = _number(
+        _NAMED_NOT_A_KEY, "The key makes no press by itself, as a modifier or a lock."
+    )
+    SHIFTED_CHARACTER = _number(
+        _NAMED_SHIFTED_CHARACTER,
+        "Shift with a character that isn't a letter of ASCII: write what it types, as ! for "
+        "shift+1.",
+    )
+    TOO_LONG = _number(_NAMED_TOO_LONG, "The text has more than 32 keys.")
+    EMPTY = _number(_NAMED_EMPTY, "No key is in the text.")
+    BAD_TEXT = _number(_NAMED_BAD_TEXT, "The text has a surrogate, which UTF-8 can't have.")
 
     def __str__(self) -> str:
         return _faults[self]
@@ -812,9 +830,9 @@ class Apc:
 class StringKind(_Named):
     """The kind of a string, by what introduces it."""
 
-    OSC = _KIND_OSC  # An operating system command, after ESC ].
-    DCS = _KIND_DCS  # A device control string, after ESC P.
-    APC = _KIND_APC  # An application program command, after ESC _.
+    OSC = _number(_KIND_OSC, "An operating system command, after ESC ].")
+    DCS = _number(_KIND_DCS, "A device control string, after ESC P.")
+    APC = _number(_KIND_APC, "An application program command, after ESC _.")
 
 
 @dataclass(frozen=True)
@@ -1237,6 +1255,10 @@ class ExtendedParser(_EventParser[ExtendedEvent]):
             )
 
         super().__init__(_RawExtended(), _RawExtendedEvent(), init, _library.hed_extended_free)
+        # The library wrote so many events to the array, of which those from this place on are left.
+        self._array, self._count, self._at = (_RawExtendedEvent * _ARRAY)(), ctypes.c_size_t(), 0
+        self._next_events = _library.hed_extended_next_events
+        self._plain_event = _events.__getitem__
 
     @property
     def protocol(self) -> Protocol:
@@ -1298,32 +1320,122 @@ class ExtendedParser(_EventParser[ExtendedEvent]):
             self._check_open()
             _library.hed_extended_forget_positions(self._raw)
 
+    # Events are taken in arrays, but for those that bring a text.
+
+    def _holds_events(self) -> bool:
+        return super()._holds_events() or self._at < self._count.value
+
+    def _forget_events(self) -> None:
+        super()._forget_events()
+        self._at = self._count.value
+
+    def _find_front(self, maybe_more: bool) -> bool:
+        if not self._has_front and self._at < self._count.value:
+            self._leave_array()
+        return super()._find_front(maybe_more)
+
+    def _move_events(self, events: List[ExtendedEvent], more: bool) -> None:
+        answer = _NEXT_EVENT
+        while True:
+            if self._has_front:
+                events.append(self._front_event())
+                self._leave_front()
+            elif self._at < self._count.value:
+                if not self._move_array(events):
+                    self._leave_array()
+            elif _is_event(answer):
+                answer = self._next_events(
+                    self._raw, more, self._array, _ARRAY, None, 0, self._count
+                )
+                self._at = 0
+            else:
+                return
+
+    def _move_array(self, events: List[ExtendedEvent]) -> bool:
+        """Moves the events of the array to a list, up to the first one that brings a text. Returns
+        whether there was one before that. What memory is refused for stays in the array."""
+        before, records = len(events), _records(self._count.value - self._at)
+        try:
+            events.extend(map(self._plain_event, records(self._array, self._at * _RECORD)))
+        except _BringsText:
+            pass
+        finally:
+            moved = len(events) - before
+            self._at += moved
+        return moved > 0
+
+    def _leave_array(self) -> None:
+        """Moves the next event of the array to the front."""
+        self._front = self._array[self._at]
+        self._at, self._has_front = self._at + 1, True
+
     def _front_event(self) -> ExtendedEvent:
         front = self._front
         kind = front.kind
-        if kind in (_KIND_KEY, _KIND_MOUSE, _KIND_PASTE):
-            return self._input_event(_INPUT_AT)
-        if kind == _KIND_REPORT:
-            text = self._text(front.text_len).decode("utf-8") if front.text_len else ""
+        if kind == _KIND_PASTE:
+            return self._paste(front.input)
+        if kind == _KIND_REPORT and front.text_len:
+            text = self._text(front.text_len).decode("utf-8")
             return _key_report(*_report_fields_of(front, _REPORT_AT), text)
         if kind in _of_data:
             return _of_data[kind](bytes(self._text(front.text_len)))
         if kind in _of_string:
             of = _string_kinds.get(front.flags) or _fault()
             return _of_string[kind](of, bytes(self._text(front.text_len)))
-        if kind == _KIND_CURSOR_POSITION:
-            return CursorPosition(front.row, front.column)
-        if kind == _KIND_SIDE_BUTTON:
-            return _side_button(front.flags, front.input)
-        if kind == _KIND_RESIZE:
-            return Resize(front.rows, front.columns, front.height, front.width)
-        if kind == _KIND_KEYBOARD_FLAGS:
-            return _keyboard_flags(front.flags)
-        if kind == _KIND_FOCUS_GAINED:
-            return _focus_gained
-        if kind == _KIND_FOCUS_LOST:
-            return _focus_lost
-        _fault()
+        return _event_without_text(front)
+
+
+def _event_without_text(raw: _RawExtendedEvent) -> ExtendedEvent:
+    kind = raw.kind
+    if kind in (_KIND_KEY, _KIND_MOUSE):
+        return _key_or_mouse(raw, _INPUT_AT) or _fault()
+    if kind == _KIND_REPORT:
+        return _key_report(*_report_fields_of(raw, _REPORT_AT), "")
+    if kind == _KIND_CURSOR_POSITION:
+        return CursorPosition(raw.row, raw.column)
+    if kind == _KIND_SIDE_BUTTON:
+        return _side_button(raw.flags, raw.input)
+    if kind == _KIND_RESIZE:
+        return Resize(raw.rows, raw.columns, raw.height, raw.width)
+    if kind == _KIND_KEYBOARD_FLAGS:
+        return _keyboard_flags(raw.flags)
+    if kind == _KIND_FOCUS_GAINED:
+        return _focus_gained
+    if kind == _KIND_FOCUS_LOST:
+        return _focus_lost
+    _fault()
+
+
+class _BringsText(Exception):
+    """An event has a text, which is not in its struct."""
+
+
+class _Events(Dict[bytes, ExtendedEvent]):
+    """The events of structs that bring no text. Those of keys are found again."""
+
+    def __missing__(self, record: bytes) -> ExtendedEvent:
+        raw = _RawExtendedEvent.from_buffer_copy(record)
+        if raw.kind in _WITH_TEXT or raw.text_len:
+            raise _BringsText
+        event = _event_without_text(raw)
+        if raw.kind in (_KIND_KEY, _KIND_REPORT):
+            if len(self) >= _MOST_KEYS:
+                self.clear()
+            self[record] = event
+        return event
+
+
+_events = _Events()
+_WITH_TEXT = frozenset((_KIND_PASTE, *_of_data, *_of_string))
+# How many events of keys are found again, the structs of an array, and the bytes of one.
+_MOST_KEYS, _ARRAY = 4096, 64
+_RECORD = ctypes.sizeof(_RawExtendedEvent)
+
+
+@functools.lru_cache(maxsize=None)
+def _records(count: int) -> Callable[[Any, int], Tuple[bytes, ...]]:
+    """What unpacks so many structs of an array, from a place in bytes on."""
+    return struct.Struct(f"{_RECORD}s" * count).unpack_from
 
 
 # The modifiers of a key event, and what they are in a report.
@@ -1334,7 +1446,7 @@ _REPORTED = [
 ]
 
 
-def key_report(event: ExtendedEvent) -> Optional[KeyReport]:
+def key_report(event: object) -> Optional[KeyReport]:
     r"""Returns the report of a key, so that a program needs one case for keys: a KeyReport as it
     is, and for a KeyEvent a press of its key with its SHIFT, ALT and CTRL. Returns None for any
     other event.

@@ -27,6 +27,7 @@ from . import (
     _fault,
     _library,
     _Named,
+    _number,
     _refused,
 )
 from .extended import Csi, Dcs, ExtendedEvent, Osc
@@ -53,11 +54,13 @@ class DeviceAttributes(_Named):
     """Which report of a terminal's attributes it is."""
 
     # numbers.txt: device_attributes member
-    # DA1: the class of the terminal, such as 62 for a VT220, and what it can do, such as 4 for
-    # sixels.
-    PRIMARY = 1
-    SECONDARY = 2  # DA2: the type of the terminal, its version, and 0.
-    TERTIARY = 3  # DA3: the bytes of the unit's number, mostly four.
+    PRIMARY = _number(
+        1,
+        "DA1: the class of the terminal, such as 62 for a VT220, and what it can do, such as 4 "
+        "for sixels.",
+    )
+    SECONDARY = _number(2, "DA2: the type of the terminal, its version, and 0.")
+    TERTIARY = _number(3, "DA3: the bytes of the unit's number, mostly four.")
     # numbers.txt: end
 
 
@@ -65,11 +68,11 @@ class ModeState(_Named):
     """The state of a mode."""
 
     # numbers.txt: mode_state member
-    NOT_RECOGNIZED = 0  # The terminal doesn't know the mode.
-    SET = 1  # The mode is on.
-    RESET = 2  # The mode is off.
-    PERMANENTLY_SET = 3  # The mode is on and can't be switched off.
-    PERMANENTLY_RESET = 4  # The mode is off and can't be switched on.
+    NOT_RECOGNIZED = _number(0, "The terminal doesn't know the mode.")
+    SET = _number(1, "The mode is on.")
+    RESET = _number(2, "The mode is off.")
+    PERMANENTLY_SET = _number(3, "The mode is on and can't be switched off.")
+    PERMANENTLY_RESET = _number(4, "The mode is off and can't be switched on.")
     # numbers.txt: end
 
 
@@ -77,10 +80,10 @@ class ColourName(_Named):
     """Which colour a reply is about."""
 
     # numbers.txt: colour_name member
-    PALETTE = 4  # A colour of the palette, by its index.
-    FOREGROUND = 10  # The colour of text.
-    BACKGROUND = 11  # The colour behind text.
-    CURSOR = 12  # The colour of the cursor.
+    PALETTE = _number(4, "A colour of the palette, by its index.")
+    FOREGROUND = _number(10, "The colour of text.")
+    BACKGROUND = _number(11, "The colour behind text.")
+    CURSOR = _number(12, "The colour of the cursor.")
     # numbers.txt: end
 
 
@@ -88,8 +91,8 @@ class ColourScheme(_Named):
     """The colour scheme that the terminal's user prefers."""
 
     # numbers.txt: colour_scheme member
-    DARK = 1  # Bright text on a dark background.
-    LIGHT = 2  # Dark text on a bright background.
+    DARK = _number(1, "Bright text on a dark background.")
+    LIGHT = _number(2, "Dark text on a bright background.")
     # numbers.txt: end
 
 

@@ -30,6 +30,7 @@ from . import (
     _fault,
     _library,
     _Named,
+    _number,
     _refused,
     _sent,
     _whole,
@@ -40,24 +41,24 @@ class MouseButton(_Named):
     """What happened to which button of the mouse, in a MouseReport."""
 
     # numbers.txt: mouse member
-    NONE = 0  # The mouse was moved while no button was down.
-    BUTTON1_PRESS = 1  # The left button was pressed.
-    BUTTON2_PRESS = 2  # The middle button was pressed.
-    BUTTON3_PRESS = 3  # The right button was pressed.
-    BUTTON4_PRESS = 4  # A wheel was turned up.
-    BUTTON5_PRESS = 5  # A wheel was turned down.
-    BUTTON6_PRESS = 6  # A wheel was turned left.
-    BUTTON7_PRESS = 7  # A wheel was turned right.
-    BUTTON1_RELEASE = 8  # The left button was released.
-    BUTTON2_RELEASE = 9  # The middle button was released.
-    BUTTON3_RELEASE = 10  # The right button was released.
-    BUTTON4_RELEASE = 11  # The end of turning a wheel up, which few terminals report.
-    BUTTON5_RELEASE = 12  # The end of turning a wheel down, which few terminals report.
-    BUTTON6_RELEASE = 13  # The end of turning a wheel left, which few terminals report.
-    BUTTON7_RELEASE = 14  # The end of turning a wheel right, which few terminals report.
-    BUTTON1_DRAG = 15  # The mouse was moved while the left button was down.
-    BUTTON2_DRAG = 16  # The mouse was moved while the middle button was down.
-    BUTTON3_DRAG = 17  # The mouse was moved while the right button was down.
+    NONE = _number(0, "The mouse was moved while no button was down.")
+    BUTTON1_PRESS = _number(1, "The left button was pressed.")
+    BUTTON2_PRESS = _number(2, "The middle button was pressed.")
+    BUTTON3_PRESS = _number(3, "The right button was pressed.")
+    BUTTON4_PRESS = _number(4, "A wheel was turned up.")
+    BUTTON5_PRESS = _number(5, "A wheel was turned down.")
+    BUTTON6_PRESS = _number(6, "A wheel was turned left.")
+    BUTTON7_PRESS = _number(7, "A wheel was turned right.")
+    BUTTON1_RELEASE = _number(8, "The left button was released.")
+    BUTTON2_RELEASE = _number(9, "The middle button was released.")
+    BUTTON3_RELEASE = _number(10, "The right button was released.")
+    BUTTON4_RELEASE = _number(11, "The end of turning a wheel up, which few terminals report.")
+    BUTTON5_RELEASE = _number(12, "The end of turning a wheel down, which few terminals report.")
+    BUTTON6_RELEASE = _number(13, "The end of turning a wheel left, which few terminals report.")
+    BUTTON7_RELEASE = _number(14, "The end of turning a wheel right, which few terminals report.")
+    BUTTON1_DRAG = _number(15, "The mouse was moved while the left button was down.")
+    BUTTON2_DRAG = _number(16, "The mouse was moved while the middle button was down.")
+    BUTTON3_DRAG = _number(17, "The mouse was moved while the right button was down.")
     # numbers.txt: end
 
 
@@ -65,10 +66,10 @@ class MouseTracking(_Named):
     """Which mouse reports a program asked for, by xterm's modes."""
 
     # numbers.txt: mouse_tracking member
-    X10 = 0  # Mode 9: presses, of wheels too, without modifiers.
-    NORMAL = 1  # Mode 1000: presses and releases.
-    BUTTON = 2  # Mode 1002: also moves while a button is down.
-    ANY = 3  # Mode 1003: also moves while none is.
+    X10 = _number(0, "Mode 9: presses, of wheels too, without modifiers.")
+    NORMAL = _number(1, "Mode 1000: presses and releases.")
+    BUTTON = _number(2, "Mode 1002: also moves while a button is down.")
+    ANY = _number(3, "Mode 1003: also moves while none is.")
     # numbers.txt: end
 
 
@@ -76,10 +77,13 @@ class MouseEncoding(_Named):
     """How mouse reports are written."""
 
     # numbers.txt: mouse_encoding member
-    DEFAULT = 0  # ESC [M and three bytes, which can't tell a place above 223.
-    URXVT = 1  # Mode 1015, from urxvt: the same in decimal numbers.
-    # Mode 1006, and 1016 with a place in pixels: decimal numbers, and a release tells its button.
-    SGR = 2
+    DEFAULT = _number(0, "ESC [M and three bytes, which can't tell a place above 223.")
+    URXVT = _number(1, "Mode 1015, from urxvt: the same in decimal numbers.")
+    SGR = _number(
+        2,
+        "Mode 1006, and 1016 with a place in pixels: decimal numbers, and a release tells its "
+        "button.",
+    )
     # numbers.txt: end
 
 

@@ -3,7 +3,8 @@
 //! [`input`] and [`keymap`] have termwiz's names, and so has [`escape::csi::KittyKeyboardFlags`].
 //! Left out are termwiz's modules `terminal`, `caps`, `surface`, `lineedit` and `readbuf`, the rest
 //! of `escape`, and Windows. [`extended`] is beyond termwiz: a parser that also reads what
-//! terminals reply, and Kitty's keyboard protocol.
+//! terminals reply, and Kitty's keyboard protocol. So is [`terminal`]: raw mode, and the events of the
+//! program's own terminal.
 //!
 //! Behind them is a library whose calls are proved against their contracts. The proof ends at those
 //! calls; this crate is tested.
@@ -32,8 +33,9 @@
 //! repository. `HEDRUGAL_LIBRARY` comes first: it names the file of a library, or the folder that
 //! has it, absolute or from where cargo runs. The library is for Linux on x86-64 and on 64-bit ARM.
 //!
-//! The feature `use_serde`, serde's derives for keys, events and flags, is that of the manifest in
-//! `rust/serde`, which has these sources: so a build without it asks for no other crate.
+//! What names other crates are the features of the manifest in `rust/with`, which has these sources:
+//! `use_serde`, serde's derives for keys, events and flags; `tokio`, `mio` and `crossterm`. So a
+//! build without them asks for no other crate.
 //!
 //! # If memory is refused
 //!
@@ -65,6 +67,8 @@
 //! several threads too, and lock it.
 #![deny(missing_docs)]
 
+#[cfg(feature = "crossterm")]
+pub mod crossterm;
 pub mod escape;
 pub mod extended;
 pub mod input;
@@ -72,4 +76,5 @@ pub mod keymap;
 mod library_parser;
 mod raw;
 mod table;
+pub mod terminal;
 mod times;

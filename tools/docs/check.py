@@ -15,7 +15,9 @@ Markers:
 
 <!-- run: c [input 'TEXT' | typed 'TEXT' ..] -->     a program in C, linked with the library, and
                                     with hedrugal_terminal.c, libuv or libevent if it includes them
-<!-- run: rust [input 'TEXT' | typed 'TEXT' ..] -->  a program over the package in rust/
+<!-- run: rust [with FEATURE] [input 'TEXT' | typed 'TEXT' ..] -->
+                                    a program over the package in rust/, or in rust/with with a
+                                    feature and the crate of that name
 <!-- run: rattle FILE -->           the file, without its contracts, `ghost use` lines and comments
 <!-- run: sh -->                    commands, run at the top of the repository; DIR is the library's
                                     folder, TMPDIR a folder that is removed afterwards
@@ -76,6 +78,14 @@ PARTS = re.compile(
     r"|^(?P<text>.*\S.*)$",
     re.MULTILINE,
 )
+# What a program in Rust names beside the package, by the feature of the package.
+CRATES = {
+    "tokio": {"version": "1.24", "parts": '"macros", "rt"'},
+    "mio": {"version": "0.8", "parts": '"os-poll"'},
+    "crossterm": {"version": "0.25", "parts": ""},
+}
+WITH = f"""hedrugal = {{{{ path = "{TOP}/rust/with", features = ["{{feature}}"] }}}}
+{{feature}} = {{{{ version = "{{version}}", features = [{{parts}}] }}}}"""
 NAMED = {"ESC": b"\x1b", "TAB": b"\t", "CR": b"\r", "LF": b"\n", "DEL": b"\x7f", "SPACE": b" "}
 # A command in place of rt, for which `rt run` is the program that was built, once it is there.
 BUILT = """#!/usr/bin/env bash
@@ -301,13 +311,17 @@ class Runner:
         Path(f"{folder}/src/main.rs").write_text(listing.text)
         # A listing may name the package as termwiz.
         name = "termwiz" if "use termwiz::" in listing.text else "hedrugal"
-        package = f'{name} = {{ package = "hedrugal", path = "{TOP}/rust" }}'
+        packages, words = f'{name} = {{ package = "hedrugal", path = "{TOP}/rust" }}', []
+        if listing.words[:1] == ["with"]:
+            _, feature, *listing.words = listing.words
+            packages = WITH.format(feature=feature, **CRATES[feature])
+            words = ["--config", f"{TOP}/rust/with/system.toml"]
         Path(f"{folder}/Cargo.toml").write_text(
-            f'[package]\nname = "listing"\nedition = "2021"\n[dependencies]\n{package}\n'
+            f'[package]\nname = "listing"\nedition = "2021"\n[dependencies]\n{packages}\n'
         )
         variables = {"HEDRUGAL_LIBRARY": self.library, "CARGO_TARGET_DIR": target}
         variables["RUSTFLAGS"] = "-D warnings"
-        run(["cargo", "build", "--quiet", "--offline"], folder, **variables)
+        run(["cargo", "build", "--quiet", "--offline", *words], folder, **variables)
         return run_with_input([f"{target}/debug/listing"], listing)
 
     def rattle(self, listing):

@@ -1,5 +1,6 @@
-"""measure.py READER FILE READ: gives the file to READER, hedrugal or prompt_toolkit, in reads
-of READ bytes, as measure.c does. It prints the nanoseconds of that, and the number of events."""
+"""measure.py READER FILE READ: gives the file to READER, which is hedrugal, legacy, keys or
+prompt_toolkit, in reads of READ bytes, as measure.c does. It prints the nanoseconds of that, and
+the number of events."""
 import codecs
 import sys
 import time
@@ -12,12 +13,30 @@ def hedrugal():
     return lambda data, is_last: len(parser.parse(data, not is_last))
 
 
+def legacy():
+    from hedrugal import ExtendedParser
+
+    parser = ExtendedParser()
+    return lambda data, is_last: len(parser.parse(data, not is_last))
+
+
 def prompt_toolkit():
-    """Its parser wants text, which its reader decodes in this way."""
     from prompt_toolkit.input.vt100_parser import Vt100Parser
 
+    return of_prompt_toolkit(Vt100Parser)
+
+
+def keys():
+    """The library's parser for prompt_toolkit."""
+    from hedrugal.prompt_toolkit import Parser
+
+    return of_prompt_toolkit(Parser)
+
+
+def of_prompt_toolkit(make):
+    """A parser of prompt_toolkit's wants text, which its reader decodes in this way."""
     keys = []
-    parser = Vt100Parser(keys.append)
+    parser = make(keys.append)
     decoder = codecs.getincrementaldecoder("utf-8")("surrogateescape")
 
     def give(data, is_last):
@@ -35,7 +54,8 @@ def main():
     with open(file, "rb") as opened:
         text = opened.read()
     reads = [text[at : at + int(read)] for at in range(0, len(text), int(read))]
-    give = {"hedrugal": hedrugal, "prompt_toolkit": prompt_toolkit}[reader]()
+    readers = (hedrugal, legacy, keys, prompt_toolkit)
+    give = {it.__name__: it for it in readers}[reader]()
     start = time.perf_counter_ns()
     events = sum(give(data, False) for data in reads[:-1]) + give(reads[-1], True)
     print(time.perf_counter_ns() - start, events)

@@ -1,4 +1,5 @@
 pub mod Crossing
+pub mod EventNumbers
 pub mod KeyNumbers
 pub mod Lending
 pub mod RawBoxValues

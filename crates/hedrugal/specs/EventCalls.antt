@@ -1,6 +1,5 @@
 -- Which event the numbers and the bytes of one stand for, and what it is written as; and what a terminal replies.
-use Rattle.std.specs.Prelude.{◌≡◌, ⊥, ℕ, Bool, List, length, Some}
-use Rattle.std.specs.Str.{IsUtf8}
+use Rattle.std.specs.Prelude.{◌≡◌, ◌<◌, ℕ, List, length}
 use Rattle.termwiz_keys.specs.declared.types.InputEvent.TheVariants as input
 use Rattle.termwiz_extended_events.specs.declared.types.ExtendedEvent.{ExtendedEvent}
 use Rattle.termwiz_extended_events.specs.declared.types.ExtendedEvent.TheVariants.{Input, Key, FocusGained, FocusLost, CursorPosition, Resize, KeyboardFlags, SideButton, Csi, Osc, Dcs, Apc, StringPart, StringCut}
@@ -29,8 +28,8 @@ Tells n bytes (CursorPosition row column) = (row ≡ n.row) × (column ≡ n.col
 Tells n bytes (Resize rows columns height width) =
     (rows ≡ n.rows) × (columns ≡ n.columns) × (height ≡ n.height) × (width ≡ n.width)
 Tells n bytes (KeyboardFlags flags) = flags ≡ n.flags
-Tells n bytes (SideButton e) = (side_button_number e.kind ≡ n.flags) × (e.number ≡ n.input.detail) × (e.x ≡ n.input.x) × (e.y ≡ n.input.y)
-    × AreModifiers e.modifiers n.input.modifiers
+Tells n bytes (SideButton e) = (side_button_number e.kind ≡ n.flags) × (e.number ≡ n.input.detail) × (e.number < 256)
+    × (e.x ≡ n.input.x) × (e.y ≡ n.input.y) × AreModifiers e.modifiers n.input.modifiers
 Tells n bytes (Csi t) = t ≡ bytes
 Tells n bytes (Osc t) = t ≡ bytes
 Tells n bytes (Dcs t) = t ≡ bytes

@@ -62,9 +62,10 @@ impl From<AllocError> for BadEvent {
 }
 
 // The kind of a string, by its number.
+#[tactic(auto, unfolding(crate::specs::ExtendedEvents::string_kind_number))]
 fn string_kind_of(number: u8) -> Option<StringKind>
     ensures some { IfSome result (λ kind. string_kind_number kind ≡ number) }
-    ensures only { (kind : Kind) → string_kind_number kind ≡ number → result ≡ Some kind }
+    ensures none { IfNone result ((kind : Kind) → ¬ (string_kind_number kind ≡ number)) }
 {
     match number {
         KIND_OSC => Some(StringKind::Osc),
@@ -75,9 +76,10 @@ fn string_kind_of(number: u8) -> Option<StringKind>
 }
 
 // What happened to a side button, by its number.
+#[tactic(auto, unfolding(crate::specs::ExtendedEvents::side_button_number))]
 fn side_button_kind_of(number: u8) -> Option<SideButtonKind>
     ensures some { IfSome result (λ kind. side_button_number kind ≡ number) }
-    ensures only { (kind : SideKind) → side_button_number kind ≡ number → result ≡ Some kind }
+    ensures none { IfNone result ((kind : SideKind) → ¬ (side_button_number kind ≡ number)) }
 {
     match number {
         SIDE_BUTTON_PRESS => Some(SideButtonKind::Press),
@@ -92,10 +94,11 @@ fn key_in(numbers: &CExtendedEvent) -> Option<KeyEvent>
     ensures some { IfSome result (λ key. Tells numbers.now [] (Input (input.Key key))) }
     ensures none { IfNone result ((key : Key) → ¬ Tells numbers.now [] (Input (input.Key key))) }
 {
-    Some(KeyEvent {
-        key: key_of(numbers.input.key, numbers.input.detail)?,
-        modifiers: modifiers_of(numbers.input.modifiers)?,
-    })
+    let key = key_of(numbers.input.key, numbers.input.detail)?;
+    let Some(modifiers) = modifiers_of(numbers.input.modifiers) else {
+        return None;
+    };
+    Some(KeyEvent { key, modifiers })
 }
 
 // A mouse event of the port.
@@ -103,11 +106,14 @@ fn mouse_in(numbers: &CExtendedEvent) -> Option<MouseEvent>
     ensures some { IfSome result (λ event. Tells numbers.now [] (Input (input.Mouse event))) }
     ensures none { IfNone result ((event : Mouse) → ¬ Tells numbers.now [] (Input (input.Mouse event))) }
 {
+    let Some(modifiers) = modifiers_of(numbers.input.modifiers) else {
+        return None;
+    };
     Some(MouseEvent {
         x: numbers.input.x,
         y: numbers.input.y,
         mouse_buttons: MouseButtons::from_bits_retain(numbers.input.buttons),
-        modifiers: modifiers_of(numbers.input.modifiers)?,
+        modifiers,
     })
 }
 
@@ -116,12 +122,21 @@ fn side_button_in(numbers: &CExtendedEvent) -> Option<SideButtonEvent>
     ensures some { IfSome result (λ event. Tells numbers.now [] (SideButton event)) }
     ensures none { IfNone result ((event : Side) → ¬ Tells numbers.now [] (SideButton event)) }
 {
+    let Ok(number) = u8::try_from(numbers.input.detail) else {
+        return None;
+    };
+    let Some(kind) = side_button_kind_of(numbers.flags) else {
+        return None;
+    };
+    let Some(modifiers) = modifiers_of(numbers.input.modifiers) else {
+        return None;
+    };
     Some(SideButtonEvent {
-        number: u8::try_from(numbers.input.detail).ok()?,
-        kind: side_button_kind_of(numbers.flags)?,
+        number,
+        kind,
         x: numbers.input.x,
         y: numbers.input.y,
-        modifiers: modifiers_of(numbers.input.modifiers)?,
+        modifiers,
     })
 }
 
@@ -146,7 +161,11 @@ fn bytes_in(alloc: Global, bytes: &[u8]) -> Result<SequenceBytes, AllocError>
 
 // The event that numbers and bytes stand for.
 #[tactic(auto, unfolding(crate::specs::ExtendedEvents::kind_number))]
-fn event_in(alloc: Global, numbers: &CExtendedEvent, bytes: &[u8]) -> Result<ExtendedEvent, BadEvent>
+fn event_in(
+    alloc: Global,
+    numbers: &CExtendedEvent,
+    bytes: &[u8],
+) -> Result<ExtendedEvent, BadEvent>
     ensures event { IfOk result (λ event. StandForEvent numbers.now bytes.now event) }
     ensures bad_number { result ≡ Err bad.Number → (event : Event) → ¬ StandForEvent numbers.now bytes.now event }
     ensures bad_text { result ≡ Err bad.Text → ¬ IsUtf8 bytes.now }

@@ -1,4 +1,4 @@
--- The laws of written events: what is written is read as the event, and each event that a reading emits is written.
+-- The laws of written events: what is written is read as the event, and no event that a reading emits is refused.
 use Rattle.std.specs.Prelude.{◌≡◌, ◌≢◌, ⊤, ◌⊎◌, ℕ, ◌^◌, ◌<◌, ◌≤◌, Bool, true, false, List, [], ◌∷◌, length}
 use Rattle.std.specs.Str.{IsUtf8}
 use Rattle.std.specs.List.{AllByRecursion}
@@ -53,7 +53,7 @@ IsPartOrCut (StringPart kind bytes) = ⊤
 IsPartOrCut (StringCut kind bytes) = ⊤
 IsPartOrCut event = ⊥
 
--- Each event that a reading emits is written, but for parts of strings and strings that were cut off.
+-- No event that a reading emits is refused, but for parts of strings and strings that were cut off.
 abbrev pub Whole : Type 0
 Whole = (reading : Reading) (event : ExtendedEvent) → Emits reading event → ¬ IsPartOrCut event → ¬ IsRefused reading event
 

@@ -1,5 +1,5 @@
-//! Laws of written events, each the contract of a function without effect: what is written is read as the event, and each event that a
-//! reading emits is written. They speak of the definitions alone. That `encode_event` follows them is said by its own contract.
+//! Laws of written events, each the contract of a function without effect: what is written is read as the event, and no event that a
+//! reading emits is refused. They speak of the definitions alone. That `encode_event` follows them is said by its own contract.
 #![tactic(auto)]
 
 ghost use Rattle.termwiz_event_laws.specs.EventLaws.{AttributesReadBack, PositionsReadBack, ReadBack, SchemesReadBack, Whole};
@@ -10,8 +10,8 @@ pub fn read_back()
     ensures { ReadBack }
 {}
 
-/// Each event that a reading emits is written, but for parts of strings and strings that were cut off. With `read_back`, what is written is
-/// that event: events and their texts are told in both directions.
+/// No event that a reading emits is refused, but for parts of strings and strings that were cut off. So `encode_event` writes it, unless
+/// memory is refused, and by `read_back` what it writes is that event.
 pub fn whole()
     ensures { Whole }
 {}

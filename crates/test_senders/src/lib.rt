@@ -1,5 +1,7 @@
-//! Tests of what a terminal sends for pastes and mouse reports.
+//! Tests of what a terminal sends for pastes, mouse reports and other events.
 #![tactic(auto)]
 
+#[cfg(test)]
+mod events;
 #[cfg(test)]
 mod senders;

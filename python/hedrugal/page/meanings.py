@@ -37,6 +37,7 @@ from hedrugal import (
     Osc,
     Paste,
     Protocol,
+    Reading,
     ReportedKey,
     Resize,
     SideButton,
@@ -74,6 +75,13 @@ READINGS: Dict[str, Callable[[], AnyParser]] = {
     "table": InputParser,
     "extended": lambda: ExtendedParser(Protocol.LEGACY),
     "kitty": lambda: ExtendedParser(Protocol.KITTY),
+}
+
+# The protocol by which an event is written in each reading.
+PROTOCOLS = {
+    "table": Protocol.LEGACY,
+    "extended": Protocol.LEGACY,
+    "kitty": Protocol.KITTY,
 }
 
 # What bytes may begin that begin no entry of the sequence table, by the event that they become; and
@@ -197,9 +205,21 @@ def printed(text: str) -> str:
     return shown + ("…" if len(text) > SHOWN else "")
 
 
-def item(length: int, event: ExtendedEvent) -> List[Any]:
+def written(event: ExtendedEvent, reading: str) -> Json:
+    """What an event is written as, to be read as it in this reading: the first of its bytes and
+    their number, or why there are none."""
+    from hedrugal import encode_event
+
+    try:
+        data = encode_event(event, Reading(PROTOCOLS[reading]))
+    except EncodeError as error:
+        return {"why": str(error)}
+    return {"bytes": data[:SHOWN].hex(), "length": len(data)}
+
+
+def item(length: int, event: ExtendedEvent, reading: str) -> List[Any]:
     """How many bytes an event consumed, and what is shown of it."""
-    return [length, line(event), glyphs(event), press_name(event)]
+    return [length, line(event), glyphs(event), press_name(event), written(event, reading)]
 
 
 def opening(part: StringPart) -> int:
@@ -486,13 +506,13 @@ class Meanings:
                 if not listed:
                     at = len(data) - reader.left()
                 for length, event in itertools.islice(reader.items(more), ITEMS - len(listed)):
-                    listed.append(item(length, event))
+                    listed.append(item(length, event, reading))
                     count += 1
                 count += reader.skip(more, len(data))
             if end == "paste" and parser.is_paste_open:
                 length, paste = parser.waiting_len, parser.end_paste()
                 if paste and count >= first and len(listed) < ITEMS:
-                    listed.append(item(length, paste))
+                    listed.append(item(length, paste, reading))
                 count += 1
             waits = self.waits(reader, data, reading)
         return {

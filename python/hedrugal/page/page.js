@@ -133,14 +133,15 @@ function bytesOfWords(text, wrong) {
 
 const NOTATIONS = {
   text: { read: bytesOfText, name: 'text and escapes', why: '' },
-  hex: { read: bytesOfHex, name: 'hexadecimal', why: ', since all of it is pairs of hexadecimal digits' },
+  hex: { read: bytesOfHex, name: 'hexadecimal', why: ', since all of it is hexadecimal digits, in pairs' },
   names: { read: bytesOfWords, name: 'words', why: ', since it begins with ESC' },
 };
 
 function notationOf(text) {
   if (/^\s*ESC(?![A-Za-z])/.test(text)) return 'names';
-  if (/^\s*(0x)?[0-9a-f]{2}([\s,]+(0x)?[0-9a-f]{2})+[\s,]*$/i.test(text) || /^\s*1b([0-9a-f]{2})+\s*$/i.test(text)) return 'hex';
-  return 'text';
+  // A last pair may lack a digit: it is on its way, or a fault.
+  const isHex = [/^\s*(0x)?[0-9a-f]{2}([\s,]+(0x)?[0-9a-f]{2})+([\s,]+(0x)?[0-9a-f])?[\s,]*$/i, /^\s*1b([0-9a-f]{2})+[0-9a-f]?\s*$/i];
+  return isHex.some((it) => it.test(text)) ? 'hex' : 'text';
 }
 
 function bytesOf(text, notation) {
@@ -306,15 +307,25 @@ function showRead(read) {
   $('flushed').hidden = state.end === 'more';
 }
 
+// What an event is written as, if these aren't the bytes that were read.
+function writtenAs({ bytes, length, why }, read) {
+  if (why) return el('span', { class: 'written quiet' }, `isn’t written: ${why}`);
+  const first = fromHex(bytes), more = length - first.length;
+  if (!more && same(first, read)) return el('span', { class: 'written quiet' }, 'written as it is');
+  return el('span', { class: 'written quiet' }, 'written as ', el('span', { class: 'sequence' }, sequence(first)),
+    more ? ` … ${many(more, 'byte')} more` : '');
+}
+
 function addItems(read) {
   let { at } = read;
-  read.items.forEach(([length, line, glyphs, press], number) => {
+  read.items.forEach(([length, line, glyphs, press, written], number) => {
     const place = read.first + number, color = `c${place % COLORS}`;
     if (place === read.flushed) $('items').append(el('li', { class: 'mark' }, 'flush'));
     const event = el('span', { class: 'event' }, line);
     if (press) event.append(' = ', el('bdi', { class: 'press' }, press));
     if (glyphs && !press.includes(glyphs)) event.append(' ', el('bdi', { class: 'glyphs quiet' }, glyphs));
-    $('items').append(el('li', { class: color }, chips(state.bytes.subarray(at, at + length)), event));
+    const bytes = state.bytes.subarray(at, at + length);
+    $('items').append(el('li', { class: color }, chips(bytes), event, writtenAs(written, bytes)));
     for (let each = at; each < at + length && each < 512; each++) state.owners[each] = color;
     state.lines.push(press ? `${line} = ${press}` : line);
     at += length;

@@ -65,10 +65,6 @@ impl Chords {
         self.timer.timeout(now)
     }
 
-    pub fn is_due(&self, now: Instant) -> bool {
-        self.timer.is_due(now)
-    }
-
     /// Returns a line of what is pending, if anything is, and one for each chord that continues it.
     pub fn menu(&self) -> Vec<String> {
         let pending = self.matcher.pending();

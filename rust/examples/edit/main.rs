@@ -6,42 +6,35 @@
 //! The program asks for bracketed paste, xterm's modifyOtherKeys and Kitty's flags 1 and 4, so that
 //! most keys can be told apart. The terminal is restored as in the example live.
 //!
-//! Two limits in time are apart. That of the parser says when ESC is the Escape key, and that of a
-//! chord when no further key of it comes. The program waits for the shorter one.
+//! Two limits in time are apart. That of the parser says when ESC is the Escape key, which the
+//! terminal heeds by itself. That of a chord says when no further key of it comes.
 mod chords;
 mod commands;
 mod screen;
-#[allow(dead_code)]
-#[path = "../live/terminal.rs"]
-mod terminal;
 mod text;
-#[path = "../live/unix.rs"]
-mod unix;
 
 use chords::Chords;
 use commands::{Command, FileError};
-use hedrugal::extended::{typed_text, Bindings, ExtendedEvent, ExtendedParser};
-use hedrugal::extended::{KeyPress, KeyReport, Protocol, Reading};
-use hedrugal::input::InputEvent;
+use hedrugal::extended::{typed_text, Bindings, ExtendedEvent, KeyPress, KeyReport};
+use hedrugal::input::{InputEvent, KittyKeyboardFlags};
+use hedrugal::terminal::{Event, Modes, Terminal};
 use screen::Screen;
-use std::io::{self, Read};
+use std::io;
 use std::path::Path;
 use std::process::ExitCode;
 use std::time::Instant;
-use terminal::{Modes, Terminal, Woken};
-use unix::signals;
 
-const PASTE_LIMIT: usize = 1 << 20;
-
-/// The last of these asks for the flags of Kitty's protocol. A terminal replies if it has it.
 const MODES: Modes = Modes {
-    on: "\x1b[?2004h\x1b[>4;2m\x1b[>5u\x1b[?u",
-    off: "\x1b[<u\x1b[>4m\x1b[?2004l",
+    paste: true,
+    other_keys: true,
+    keyboard: KittyKeyboardFlags::DISAMBIGUATE_ESCAPE_CODES
+        .union(KittyKeyboardFlags::REPORT_ALTERNATE_KEYS),
+    ..Modes::NONE
 };
 
 /// The program. Its functions return whether it goes on.
 struct Edit {
-    parser: ExtendedParser,
+    terminal: Terminal,
     chords: Chords,
     screen: Screen,
 }
@@ -49,69 +42,49 @@ struct Edit {
 impl Edit {
     fn new(bindings: Bindings<Command>) -> io::Result<Edit> {
         Ok(Edit {
-            parser: ExtendedParser::try_new(Protocol::Legacy).map_err(io::Error::other)?,
+            terminal: Terminal::open_with(MODES)?,
             chords: Chords::new(bindings),
-            screen: Screen::new(Terminal::find(MODES)?),
+            screen: Screen::default(),
         })
     }
 
     fn run(&mut self) -> io::Result<()> {
-        self.screen.terminal.enter()?;
         let quit = self.chords.of(Command::Quit);
-        self.screen
-            .print_lines(quit.map(|chord| format!("{chord} ends")))?;
+        screen::print_lines(quit.map(|chord| format!("{chord} ends")))?;
         while self.step()? {}
         Ok(())
     }
 
+    /// Handles the next event, unless what is pending has waited too long for it.
     fn step(&mut self) -> io::Result<bool> {
-        let now = Instant::now();
-        let limits = [self.parser.timeout(now), self.chords.timeout(now)];
-        let shorter = limits.into_iter().flatten().min();
-        match self.screen.terminal.wait(shorter)? {
-            Woken::Input => self.handle_input(),
-            Woken::Pause => self.handle_pause(),
-            Woken::Resized => Ok(true),
-            Woken::Resumed => {
-                self.parser.reset();
-                Ok(true)
+        if let Some(time) = self.chords.timeout(Instant::now()) {
+            if !self.terminal.poll(time)? {
+                return self.give_up();
             }
-            Woken::Ending => Ok(false),
+        }
+        match self.terminal.read()? {
+            Some(event) => self.handle(&event),
+            None => self.handle_end(),
         }
     }
 
-    fn handle_input(&mut self) -> io::Result<bool> {
-        let mut bytes = [0; 4096];
-        let count = self.screen.terminal.input.read(&mut bytes)?;
-        let fed = self.parser.try_feed(&bytes[..count]);
-        fed.map_err(io::Error::other)?;
-        if !self.handle_events(count > 0)? {
-            return Ok(false);
+    fn handle(&mut self, event: &Event) -> io::Result<bool> {
+        match event {
+            Event::Input(ExtendedEvent::Input(InputEvent::Paste(text))) => self.insert(text),
+            Event::PastePart(text) => self.insert(text),
+            event => match event.key() {
+                Some(report) => self.handle_key(&report),
+                None => Ok(true),
+            },
         }
-        if count == 0 {
+    }
+
+    /// A signal ends the program at once.
+    fn handle_end(&mut self) -> io::Result<bool> {
+        if self.terminal.ending().is_none() {
             self.give_up()?;
-            return Ok(false);
         }
-        self.take_paste()
-    }
-
-    /// Takes events one at a time, since one of them may change how the next is read.
-    fn handle_events(&mut self, maybe_more: bool) -> io::Result<bool> {
-        loop {
-            let next = self.parser.try_next_event(maybe_more);
-            match next.map_err(io::Error::other)? {
-                Some(event) if self.handle(&event)? => {}
-                Some(_) => return Ok(false),
-                None => return Ok(true),
-            }
-        }
-    }
-
-    /// A paste above the limit is inserted in parts.
-    fn take_paste(&mut self) -> io::Result<bool> {
-        let part = self.parser.take_paste(PASTE_LIMIT);
-        let part = part.map_err(io::Error::other)?;
-        self.insert(&part.unwrap_or_default())
+        Ok(false)
     }
 
     /// A text comes behind what is pending, so that is decided first.
@@ -123,39 +96,6 @@ impl Edit {
         Ok(true)
     }
 
-    /// No byte came in time: that may mean a key to the parser, or the end of a chord.
-    fn handle_pause(&mut self) -> io::Result<bool> {
-        let mut events = Vec::new();
-        self.parser
-            .expire(Instant::now(), |event| events.push(event))
-            .map_err(io::Error::other)?;
-        for event in events {
-            if !self.handle(&event)? {
-                return Ok(false);
-            }
-        }
-        if self.chords.is_due(Instant::now()) {
-            return self.give_up();
-        }
-        Ok(true)
-    }
-
-    fn handle(&mut self, event: &ExtendedEvent) -> io::Result<bool> {
-        match event {
-            ExtendedEvent::KeyboardFlags(_) => self.parser.set_reading(Reading {
-                protocol: Protocol::Kitty,
-                ..self.parser.reading()
-            }),
-            ExtendedEvent::Input(InputEvent::Paste(text)) => return self.insert(text),
-            event => {
-                if let Some(report) = event.key() {
-                    return self.handle_key(&report);
-                }
-            }
-        }
-        Ok(true)
-    }
-
     fn handle_key(&mut self, report: &KeyReport) -> io::Result<bool> {
         let Some(press) = KeyPress::of_report(report) else {
             return self.insert(typed_text(report));
@@ -164,7 +104,7 @@ impl Edit {
         if !self.screen.run(outcomes)? {
             return Ok(false);
         }
-        self.screen.print_lines(self.chords.menu())?;
+        screen::print_lines(self.chords.menu())?;
         Ok(true)
     }
 
@@ -197,9 +137,7 @@ fn main() -> ExitCode {
             return ExitCode::from(2);
         }
     };
-    let ended = Edit::new(bindings).and_then(|mut edit| edit.run());
-    signals::end_by_signal();
-    match ended {
+    match Edit::new(bindings).and_then(|mut edit| edit.run()) {
         Ok(()) => ExitCode::SUCCESS,
         Err(error) => {
             eprintln!("edit: {error}");

@@ -1,23 +1,15 @@
 //! The text on the terminal, and a line for each thing that happens to it.
 use crate::commands::Command;
-use crate::terminal::Terminal;
 use crate::text::Text;
 use hedrugal::extended::{KeyPress, Outcome};
-use std::io;
+use std::io::{self, Write};
 
+#[derive(Default)]
 pub struct Screen {
-    pub terminal: Terminal,
     text: Text,
 }
 
 impl Screen {
-    pub fn new(terminal: Terminal) -> Screen {
-        Screen {
-            terminal,
-            text: Text::default(),
-        }
-    }
-
     /// Does what presses are bound to. Returns whether the program goes on.
     pub fn run(&mut self, outcomes: Vec<Outcome<&Command>>) -> io::Result<bool> {
         for outcome in outcomes {
@@ -46,14 +38,13 @@ impl Screen {
     }
 
     fn print_count(&self) -> io::Result<()> {
-        let line = format!("saved {} characters", self.text.count());
-        self.terminal.print_line(&line)
+        print_line(&format!("saved {} characters", self.text.count()))
     }
 
     fn type_press(&mut self, press: KeyPress) -> io::Result<()> {
         match press.text() {
             Some(c) => self.insert(c.encode_utf8(&mut [0; 4])),
-            None => self.terminal.print_line(&format!("unbound: {press}")),
+            None => print_line(&format!("unbound: {press}")),
         }
     }
 
@@ -65,13 +56,16 @@ impl Screen {
     /// Edits the text, and shows it if that changed anything.
     fn edit(&mut self, edit: impl FnOnce(&mut Text) -> bool) -> io::Result<()> {
         if edit(&mut self.text) {
-            self.terminal.print_line(&format!("text: {}", self.text))?;
+            print_line(&format!("text: {}", self.text))?;
         }
         Ok(())
     }
+}
 
-    pub fn print_lines(&self, lines: impl IntoIterator<Item = String>) -> io::Result<()> {
-        let mut lines = lines.into_iter();
-        lines.try_for_each(|line| self.terminal.print_line(&line))
-    }
+pub fn print_lines(lines: impl IntoIterator<Item = String>) -> io::Result<()> {
+    lines.into_iter().try_for_each(|line| print_line(&line))
+}
+
+fn print_line(line: &str) -> io::Result<()> {
+    writeln!(io::stdout(), "{line}")
 }

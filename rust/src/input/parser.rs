@@ -214,6 +214,76 @@ impl InputParser {
         Ok(InputParser { parser })
     }
 
+    /// Appends `bytes` to the buffer. [`InputParser::next_event`] then emits the events, one at a
+    /// time.
+    ///
+    /// ```
+    /// use hedrugal::input::InputParser;
+    ///
+    /// let mut parser = InputParser::new();
+    /// parser.feed(b"ab");
+    /// assert_eq!(parser.waiting_len(), 2);
+    /// ```
+    ///
+    /// # Panics
+    ///
+    /// If memory is refused.
+    pub fn feed(&mut self, bytes: &[u8]) {
+        self.try_feed(bytes).expect("the input is buffered");
+    }
+
+    /// Does what [`InputParser::feed`] does.
+    ///
+    /// ```
+    /// use hedrugal::input::InputParser;
+    ///
+    /// assert_eq!(InputParser::new().try_feed(b"ab"), Ok(()));
+    /// ```
+    ///
+    /// # Errors
+    ///
+    /// If memory is refused. None of the bytes is buffered: call again with the same ones.
+    pub fn try_feed(&mut self, bytes: &[u8]) -> Result<(), AllocError> {
+        self.parser.feed(bytes)
+    }
+
+    /// Consumes the item at the front of the buffer, and returns its event. Returns `None` if the
+    /// bytes are no event yet. Pass `maybe_more` as to [`InputParser::parse`].
+    ///
+    /// ```
+    /// use hedrugal::input::{InputEvent, InputParser, KeyCode};
+    ///
+    /// let mut parser = InputParser::new();
+    /// parser.feed(b"\x1b[A\x1b[");
+    /// let first = parser.next_event(true);
+    /// assert!(matches!(first, Some(InputEvent::Key(key)) if key.key == KeyCode::UpArrow));
+    /// assert_eq!(parser.next_event(true), None);
+    /// ```
+    ///
+    /// # Panics
+    ///
+    /// If memory is refused.
+    #[must_use]
+    pub fn next_event(&mut self, maybe_more: bool) -> Option<InputEvent> {
+        self.try_next_event(maybe_more)
+            .expect("the event is emitted")
+    }
+
+    /// Does what [`InputParser::next_event`] does.
+    ///
+    /// ```
+    /// use hedrugal::input::InputParser;
+    ///
+    /// assert_eq!(InputParser::new().try_next_event(true), Ok(None));
+    /// ```
+    ///
+    /// # Errors
+    ///
+    /// If memory is refused. The event isn't lost: call again.
+    pub fn try_next_event(&mut self, maybe_more: bool) -> Result<Option<InputEvent>, AllocError> {
+        self.parser.next_event(maybe_more)
+    }
+
     /// Appends `bytes` to the buffer, and calls `callback` with each event in order. Bytes that are
     /// no event yet stay buffered.
     ///

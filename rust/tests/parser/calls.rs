@@ -16,9 +16,20 @@ pub enum Call {
     Callback,
     // `try_parse`.
     TryCallback,
+    // `feed` and `next_event`.
+    Single,
+    // `try_feed` and `try_next_event`.
+    TrySingle,
 }
 
-pub const CALLS: [Call; 4] = [Call::List, Call::TryList, Call::Callback, Call::TryCallback];
+pub const CALLS: [Call; 6] = [
+    Call::List,
+    Call::TryList,
+    Call::Callback,
+    Call::TryCallback,
+    Call::Single,
+    Call::TrySingle,
+];
 
 impl Call {
     // The events of what is buffered and of these bytes. After the call few bytes stay buffered, or
@@ -36,6 +47,15 @@ impl Call {
             Call::TryCallback => parser
                 .try_parse(bytes, |event| events.push(event), more)
                 .expect("memory is granted"),
+            Call::Single => {
+                parser.feed(bytes);
+                events.extend(std::iter::from_fn(|| parser.next_event(more)));
+            }
+            Call::TrySingle => {
+                parser.try_feed(bytes).expect("memory is granted");
+                let next = || parser.try_next_event(more).expect("memory is granted");
+                events.extend(std::iter::from_fn(next));
+            }
         }
         assert!(
             parser.waiting_len() <= MOST || parser.is_paste_open(),

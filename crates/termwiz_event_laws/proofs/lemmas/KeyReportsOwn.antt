@@ -1,16 +1,14 @@
 -- A key that is its own is the one that its number or its form is read as.
-use Rattle.std.proofs.Common.{◌≡◌, ◌⊎◌, inl, inr, ⊎_elim, ℕ, Bool, true, false, not, refl, ap, ◌∙◌, subst, Option, Some, None}
-use Rattle.std.specs.List.{list_all}
-use Rattle.std.proofs.lemmas.Bool.{and_parts, both_ways}
-use Rattle.termwiz_keys.specs.declared.types.KeyCode.{KeyCode}
+use Rattle.std.proofs.Common.{◌≡◌, ℕ, true, refl, subst, Option, Some, None}
+use Rattle.std.proofs.lemmas.Bool.{and_parts}
 use Rattle.termwiz_keys.specs.declared.types.KeyCode.TheVariants.{Char, KeyPadBegin}
 use Rattle.termwiz_extended_events.specs.declared.types.ReportedKey.{ReportedKey}
 use Rattle.termwiz_extended_events.specs.declared.types.ReportedKey.TheVariants.{Named, Functional}
 use Rattle.termwiz_extended_events.specs.Numbers.{is_scalar}
-use Rattle.termwiz_extended_events.specs.ReportedKeys.{entry_at, is_functional, is_high_function, named_functional_keys, functional_key, control_keys, key_of}
+use Rattle.termwiz_extended_events.specs.ReportedKeys.{is_functional, functional_key, key_of}
 use Rattle.termwiz_kitty.specs.declared.key_forms.KeyForm.{KeyForm}
 use Rattle.termwiz_kitty.specs.declared.key_forms.KeyForm.TheVariants.{Letter, Number, Code}
-use Rattle.termwiz_kitty.specs.KeyForms.{form_of, normal_key, is_character}
+use Rattle.termwiz_kitty.specs.KeyForms.{form_of, normal_key}
 use Rattle.termwiz_kitty.specs.KittyLaws.{IsKey}
 use Rattle.termwiz_kitty.proofs.lemmas.read_back.KeysOfForms.{Reads, form_reads}
 use Rattle.termwiz_senders.specs.ReportTexts.{number_of_form, own_number, is_nameless, is_own_key}

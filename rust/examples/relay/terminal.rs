@@ -1,5 +1,6 @@
 //! The terminal of a program: raw mode, its modes, waits for input and signals, and lines on it.
-use crate::unix::{self, signals, Settings};
+use crate::unix::{self, signals, Settings, WindowSize, POLLIN};
+use std::borrow::Cow;
 use std::fs::File;
 use std::io::{self, IsTerminal, Read, Write};
 use std::os::fd::{AsFd, AsRawFd};
@@ -8,16 +9,15 @@ use std::sync::atomic::Ordering::SeqCst;
 use std::time::Duration;
 
 /// What switches the modes of a program on, and what switches them off.
-#[derive(Clone, Copy)]
 pub struct Modes {
-    pub on: &'static str,
-    pub off: &'static str,
+    pub on: Cow<'static, str>,
+    pub off: Cow<'static, str>,
 }
 
 impl Modes {
     pub const PASTE: Modes = Modes {
-        on: "\x1b[?2004h",
-        off: "\x1b[?2004l",
+        on: Cow::Borrowed("\x1b[?2004h"),
+        off: Cow::Borrowed("\x1b[?2004l"),
     };
 }
 
@@ -39,9 +39,12 @@ pub enum Woken {
 /// A terminal that is restored when this is dropped, also by a panic.
 pub struct Terminal {
     pub input: File,
-    modes: Modes,
-    saved: Settings,
-    wake: UnixStream,
+    /// May change while the terminal is in raw mode.
+    pub modes: Modes,
+    /// As they are without raw mode.
+    pub saved: Settings,
+    /// Can be read once a signal has arrived.
+    pub wake: UnixStream,
 }
 
 impl Terminal {
@@ -69,9 +72,9 @@ impl Terminal {
     pub fn enter(&mut self) -> io::Result<()> {
         self.saved.to_raw().apply(self.input.as_raw_fd())?;
         if signals::IS_RAW.swap(true, SeqCst) {
-            print(self.modes.off)?;
+            print(&self.modes.off)?;
         }
-        print(self.modes.on)
+        print(&self.modes.on)
     }
 
     /// Restores the terminal, unless another program has it, and discards what it sent meanwhile,
@@ -81,7 +84,7 @@ impl Terminal {
         if !signals::IS_RAW.load(SeqCst) {
             return;
         }
-        let _ = print(self.modes.off);
+        let _ = print(&self.modes.off);
         let _ = self.saved.apply_and_discard(self.input.as_raw_fd());
         signals::IS_RAW.store(false, SeqCst);
     }
@@ -90,16 +93,17 @@ impl Terminal {
     /// program here, while a shell has the terminal as it was.
     pub fn wait(&mut self, time: Option<Duration>) -> io::Result<Woken> {
         let descriptors = [self.input.as_raw_fd(), self.wake.as_raw_fd()];
-        match unix::poll_all(descriptors, time) {
-            Ok([true, false]) => Ok(Woken::Input),
-            Ok([false, false]) => Ok(Woken::Pause),
-            Ok([_, true]) => self.handle_signals(),
+        match unix::poll_all(descriptors.map(|it| (it, POLLIN)), time) {
+            Ok([0, 0]) => Ok(Woken::Pause),
+            Ok([_, 0]) => Ok(Woken::Input),
+            Ok(_) => self.handle_signals(),
             Err(error) if error.kind() == io::ErrorKind::Interrupted => Ok(Woken::Pause),
             Err(error) => Err(error),
         }
     }
 
-    fn handle_signals(&mut self) -> io::Result<Woken> {
+    /// Handles what `wake` tells of, as [`Terminal::wait`] does.
+    pub fn handle_signals(&mut self) -> io::Result<Woken> {
         let _ = self.wake.read(&mut [0; 64])?;
         if signals::ending().is_none() && signals::STOPPING.load(SeqCst) {
             self.leave();
@@ -124,8 +128,7 @@ impl Terminal {
         print(&format!("{line}\r\n"))
     }
 
-    /// Returns its columns and rows.
-    pub fn size(&self) -> io::Result<(u16, u16)> {
+    pub fn size(&self) -> io::Result<WindowSize> {
         unix::size(self.input.as_raw_fd())
     }
 }

@@ -1,4 +1,4 @@
-// The derives behind the feature `use_serde`, which rust/serde builds.
+// The derives behind the feature `use_serde`, which rust/with builds.
 use hedrugal::extended::{
     ExtendedEvent, KeyEventKind, KeyReport, KittyModifiers, ReportedKey, SideButtonEvent,
     SideButtonKind, StringKind,

@@ -1,5 +1,4 @@
-//! The calls of Unix that the program needs and std doesn't have, with the numbers of Linux on x86-64
-//! and on 64-bit ARM, which are the same.
+//! The calls of Unix that the program needs and std doesn't have, with the numbers of x86-64 Linux.
 //! This package depends on no other crate; a program of your own has all this from `libc`, or from
 //! a crate that is safe to call.
 use std::ffi::{c_int, c_short, c_ulong};
@@ -7,13 +6,12 @@ use std::io;
 use std::os::fd::RawFd;
 use std::time::Duration;
 
-#[cfg(not(all(
-    target_os = "linux",
-    any(target_arch = "x86_64", target_arch = "aarch64")
-)))]
-compile_error!("the numbers of this file are those of Linux on x86-64 and on 64-bit ARM");
+#[cfg(not(all(target_os = "linux", target_arch = "x86_64")))]
+compile_error!("the numbers of this file are those of x86-64 Linux");
 
-const POLLIN: c_short = 1;
+/// What [`poll_all`] waits for: bytes to read.
+pub const POLLIN: c_short = 1;
+
 const TCSANOW: c_int = 0;
 const TCSADRAIN: c_int = 1;
 const TCSAFLUSH: c_int = 2;
@@ -26,11 +24,12 @@ struct PollFd {
     ready: c_short,
 }
 
+/// The size of a terminal, a `struct winsize`.
 #[repr(C)]
-#[derive(Default)]
-struct WindowSize {
-    rows: u16,
-    columns: u16,
+#[derive(Clone, Copy, Default)]
+pub struct WindowSize {
+    pub rows: u16,
+    pub columns: u16,
     pixels: [u16; 2],
 }
 
@@ -42,7 +41,8 @@ extern "C" {
     fn cfmakeraw(settings: *mut Settings);
 }
 
-fn checked(answer: c_int) -> io::Result<c_int> {
+/// Returns what a call answered, or the error that it left.
+pub fn checked(answer: c_int) -> io::Result<c_int> {
     if answer < 0 {
         Err(io::Error::last_os_error())
     } else {
@@ -87,30 +87,31 @@ impl Settings {
     }
 }
 
-/// Returns the columns and rows of a terminal.
-pub fn size(terminal: RawFd) -> io::Result<(u16, u16)> {
+/// Returns the size of a terminal.
+pub fn size(terminal: RawFd) -> io::Result<WindowSize> {
     let mut size = WindowSize::default();
     // SAFETY: the request writes a `struct winsize`.
     checked(unsafe { ioctl(terminal, TIOCGWINSZ, &mut size as *mut WindowSize) })?;
-    Ok((size.columns, size.rows))
+    Ok(size)
 }
 
-/// Waits until a descriptor can be read or is at its end, or until the time is over. Returns which
-/// of them are ready.
+/// Waits until what is asked of a descriptor is there, until one is at its end, or until the time is
+/// over. Returns what each of them is ready for. Nothing is waited for where nothing is asked.
 pub fn poll_all<const N: usize>(
-    descriptors: [RawFd; N],
+    descriptors: [(RawFd, c_short); N],
     time: Option<Duration>,
-) -> io::Result<[bool; N]> {
+) -> io::Result<[c_short; N]> {
     // A part of a millisecond counts as a whole one, or the loop would turn until it is over.
     let ms = time.map_or(-1, |time| time.as_micros().div_ceil(1000) as c_int);
-    let mut polled = descriptors.map(|descriptor| PollFd {
-        descriptor,
-        events: POLLIN,
+    let mut polled = descriptors.map(|(descriptor, events)| PollFd {
+        // The call passes over a number below zero.
+        descriptor: if events == 0 { -1 } else { descriptor },
+        events,
         ready: 0,
     });
     // SAFETY: there are N of them.
     checked(unsafe { poll(polled.as_mut_ptr(), N as c_ulong, ms) })?;
-    Ok(polled.map(|it| it.ready != 0))
+    Ok(polled.map(|it| it.ready))
 }
 
 /// Signals are noted by their handler, and handled in the loop. The handler also writes to a
@@ -129,6 +130,7 @@ pub mod signals {
     const SIGQUIT: c_int = 3;
     const SIGALRM: c_int = 14;
     const SIGTERM: c_int = 15;
+    const SIGCHLD: c_int = 17;
     const SIGCONT: c_int = 18;
     const SIGTSTP: c_int = 20;
     const SIGWINCH: c_int = 28;
@@ -146,6 +148,8 @@ pub mod signals {
     pub static STOPPING: AtomicBool = AtomicBool::new(false);
     pub static CONTINUED: AtomicBool = AtomicBool::new(false);
     pub static RESIZED: AtomicBool = AtomicBool::new(false);
+    /// A child ended, or stopped.
+    pub static CHILD: AtomicBool = AtomicBool::new(false);
     static ENDING: AtomicI32 = AtomicI32::new(0);
     static WAKE: AtomicI32 = AtomicI32::new(-1);
 
@@ -158,6 +162,7 @@ pub mod signals {
             SIGTSTP => STOPPING.store(true, SeqCst),
             SIGCONT => CONTINUED.store(true, SeqCst),
             SIGWINCH => RESIZED.store(true, SeqCst),
+            SIGCHLD => CHILD.store(true, SeqCst),
             _ => note_end(number),
         }
         // SAFETY: a handler may call `write`, and there is a byte. errno is that of the code that
@@ -210,9 +215,9 @@ pub mod signals {
         handlers.set_nonblocking(true)?;
         WAKE.store(handlers.into_raw_fd(), SeqCst);
         handle(SIGALRM, end_at_once as *const () as usize)?;
-        [SIGHUP, SIGINT, SIGQUIT, SIGTERM, SIGTSTP, SIGCONT, SIGWINCH]
-            .into_iter()
-            .try_for_each(noted)?;
+        let ending = [SIGHUP, SIGINT, SIGQUIT, SIGTERM];
+        let others = [SIGTSTP, SIGCONT, SIGWINCH, SIGCHLD];
+        ending.into_iter().chain(others).try_for_each(noted)?;
         Ok(ours)
     }
 

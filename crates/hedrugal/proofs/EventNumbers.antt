@@ -1,0 +1,40 @@
+-- What numbers of an event stand for.
+use Rattle.std.proofs.Common.{◌≡◌, ◌↔◌, ℕ, List, [], Option, Some, None}
+use Rattle.std.specs.Prelude.{IfNone}
+use Rattle.termwiz_keys.specs.declared.types.InputEvent.TheVariants as input
+use Rattle.termwiz_keys.specs.declared.types.MouseEvent.{MouseEvent}
+use Rattle.termwiz_extended_events.specs.declared.types.ExtendedEvent.{ExtendedEvent}
+use Rattle.termwiz_extended_events.specs.declared.types.ExtendedEvent.TheVariants.{Input, Key, FocusGained, FocusLost, CursorPosition, Resize, KeyboardFlags, SideButton, Csi, Osc, Dcs, Apc, StringPart, StringCut}
+use Rattle.hedrugal.specs.declared.extended_events.CExtendedEvent.{CExtendedEvent}
+use Rattle.hedrugal.specs.EventCalls.{StandForEvent, Tells}
+use Rattle.hedrugal.specs.ExtendedEvents.{kind_number}
+
+pub none_by : {A : Type 0} {P : A → Type 0} (o : Option A) → ((x : A) → (o ≡ Some x) ↔ P x) → o ≡ None → (x : A) → ¬ P x
+none_by o which none x p = cc (none, (which x).1 p)
+
+pub told_none : {A P : Type 0} (o : Option A) → o ≡ None → IfNone o P → P
+told_none o e h = rw e at h
+
+-- numbers of the kind of a mouse event stand for that kind alone
+pub mouse_only : (n : CExtendedEvent) (bytes : List ℕ) → n.kind ≡ 2 → ((m : MouseEvent) → ¬ Tells n [] (Input (input.Mouse m)))
+    → (event : ExtendedEvent) → ¬ StandForEvent n bytes event
+unfolding kind_number
+mouse_only n bytes is none (Input (input.Mouse m)) stands = none m stands.1
+mouse_only n bytes is none (Input (input.Key k)) stands = cc (is, stands.0)
+mouse_only n bytes is none (Input (input.PixelMouse m)) stands = cc (is, stands.0)
+mouse_only n bytes is none (Input (input.Resized cols rows)) stands = cc (is, stands.0)
+mouse_only n bytes is none (Input (input.Paste text)) stands = cc (is, stands.0)
+mouse_only n bytes is none (Input input.Wake) stands = cc (is, stands.0)
+mouse_only n bytes is none (Key report) stands = cc (is, stands.0)
+mouse_only n bytes is none FocusGained stands = cc (is, stands.0)
+mouse_only n bytes is none FocusLost stands = cc (is, stands.0)
+mouse_only n bytes is none (CursorPosition row column) stands = cc (is, stands.0)
+mouse_only n bytes is none (Resize r c h w) stands = cc (is, stands.0)
+mouse_only n bytes is none (KeyboardFlags flags) stands = cc (is, stands.0)
+mouse_only n bytes is none (SideButton event) stands = cc (is, stands.0)
+mouse_only n bytes is none (Csi t) stands = cc (is, stands.0)
+mouse_only n bytes is none (Osc t) stands = cc (is, stands.0)
+mouse_only n bytes is none (Dcs t) stands = cc (is, stands.0)
+mouse_only n bytes is none (Apc t) stands = cc (is, stands.0)
+mouse_only n bytes is none (StringPart kind t) stands = cc (is, stands.0)
+mouse_only n bytes is none (StringCut kind t) stands = cc (is, stands.0)

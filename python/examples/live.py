@@ -1,0 +1,77 @@
+"""Prints the events of a terminal as they come, one on a line. A program to start from:
+
+    python3 python/examples/live.py [--mouse]
+
+Bracketed paste is always on, or pasted text would count as typed. --mouse switches mouse reports on
+too, which keep most terminals from selecting text. A new size of the terminal is printed as well.
+
+q ends the program, and so does the end of the input. The terminal is restored then, and also
+whenever a signal ends or stops the program."""
+import os
+import signal
+import sys
+from typing import Optional
+
+from hedrugal import (
+    Function,
+    KeyCode,
+    KeyEvent,
+    Modifiers,
+    MouseEvent,
+    MouseTracking,
+    Paste,
+    Resize,
+)
+from hedrugal.terminal import PastePart, Terminal, TerminalEvent
+
+
+def described(event: TerminalEvent) -> Optional[str]:
+    """Returns the line of an event, None if it has none."""
+    if isinstance(event, KeyEvent):
+        return f"{key_name(event)}{held(event.modifiers)}"
+    if isinstance(event, MouseEvent):
+        place = f"mouse at {event.x}, {event.y}, buttons {event.buttons.value}"
+        return f"{place}{held(event.modifiers)}"
+    if isinstance(event, Paste):
+        what = "part of a paste," if isinstance(event, PastePart) else "paste of"
+        return f"{what} {len(event.text.encode())} bytes"
+    if isinstance(event, Resize):
+        return f"size {event.columns} x {event.rows}"
+    return None
+
+
+def key_name(event: KeyEvent) -> str:
+    if isinstance(event.key, KeyCode):
+        return event.key.name.title().replace("_", "")
+    if isinstance(event.key, Function):
+        return f"Function {event.key.number}"
+    return f"Char U+{ord(event.key):04X}"
+
+
+def held(modifiers: Modifiers) -> str:
+    names = (Modifiers.SHIFT, Modifiers.ALT, Modifiers.CTRL)
+    return "".join(f" {str(it.name).lower()}" for it in names if it & modifiers)
+
+
+def main() -> int:
+    if sys.argv[1:] not in ([], ["--mouse"]):
+        print("usage: live [--mouse]", file=sys.stderr)
+        return 2
+    if not os.isatty(0) or not os.isatty(1):
+        print("live: standard input and output have to be a terminal", file=sys.stderr)
+        return 1
+    # As any other signal it ends the program, and raises no KeyboardInterrupt.
+    signal.signal(signal.SIGINT, signal.SIG_DFL)
+    with Terminal(mouse=MouseTracking.ANY if sys.argv[1:] else None) as terminal:
+        print("q ends", flush=True)
+        for event in terminal:
+            line = described(event)
+            if line:
+                print(line, flush=True)
+            if event == KeyEvent("q"):
+                break
+    return 0
+
+
+if __name__ == "__main__":
+    sys.exit(main())

@@ -1,0 +1,298 @@
+r"""Input for prompt_toolkit 3, read by the library.
+
+    from hedrugal.prompt_toolkit import Input
+    from prompt_toolkit import PromptSession
+
+    print(PromptSession(input=Input()).prompt("> "))
+
+Its keys are those of prompt_toolkit: Keys.ControlUp, or a character; Alt with a key is Keys.Escape
+and that key. docs/python.md lists the sequences that prompt_toolkit reads otherwise.
+
+A lone ESC is the Escape key after 50 ms, and not after half a second (`ttimeoutlen`). The beginning
+of a sequence waits a second, so a slow line breaks no key."""
+from __future__ import annotations
+
+import contextlib
+import dataclasses
+import functools
+import re
+import sys
+from asyncio import TimerHandle
+from typing import (
+    Any,
+    Callable,
+    Dict,
+    Iterable,
+    Iterator,
+    List,
+    Optional,
+    TextIO,
+    Tuple,
+    Union,
+    cast,
+)
+
+from prompt_toolkit.eventloop import get_event_loop
+from prompt_toolkit.input.ansi_escape_sequences import ANSI_SEQUENCES
+from prompt_toolkit.input.vt100 import Vt100Input
+from prompt_toolkit.input.vt100_parser import Vt100Parser
+from prompt_toolkit.key_binding import KeyPress
+from prompt_toolkit.keys import KEY_ALIASES, Keys
+
+from . import (
+    Csi,
+    CursorPosition,
+    ExtendedEvent,
+    ExtendedParser,
+    Function,
+    KeyCode,
+    KeyEvent,
+    KeyPress as Press,
+    KeyReport,
+    KittyModifiers,
+    MouseEvent,
+    Paste,
+    Protocol,
+    Reading,
+    SideButton,
+    typed_text,
+)
+
+__all__ = ["Input", "Parser"]
+
+AnyKey = Union[Keys, str]
+
+# What prompt_toolkit calls keys; it has aliases such as enter for c-m.
+_NAMES = {
+    KeyCode.BACKSPACE: "backspace",
+    KeyCode.DELETE: "delete",
+    KeyCode.DOWN_ARROW: "down",
+    KeyCode.END: "end",
+    KeyCode.ENTER: "enter",
+    KeyCode.ESCAPE: "escape",
+    KeyCode.HOME: "home",
+    KeyCode.INSERT: "insert",
+    KeyCode.LEFT_ARROW: "left",
+    KeyCode.PAGE_DOWN: "pagedown",
+    KeyCode.PAGE_UP: "pageup",
+    KeyCode.RIGHT_ARROW: "right",
+    KeyCode.TAB: "tab",
+    KeyCode.UP_ARROW: "up",
+}
+# The same for characters.
+_CHARACTERS = {" ": "space", "\x9b": "s-escape"}
+# Shift with the function keys F1 to F12 is F13 to F24, as xterm's own keyboard has it.
+_SHIFTED = 12
+_IGNORED = (Keys.Ignore,)
+# Text is parsed in runs of characters, and of control characters.
+_RUNS = re.compile(r"[^\x00-\x1f\x7f-\x9f]+|[\x00-\x1f\x7f-\x9f]+")
+_LINE_FEEDS: Dict[AnyKey, AnyKey] = {Keys.ControlM: Keys.ControlJ}
+# prompt_toolkit asks for the cursor's position at any time, so each report of one is a reply.
+_READING = Reading(Protocol.LEGACY, x10_mouse=True, questions=255)
+
+
+@functools.lru_cache(maxsize=4096)
+def _keys_of_event(event: Union[KeyEvent, KeyReport]) -> Tuple[AnyKey, ...]:
+    press = Press.of_event(event)
+    return _keys_of(press) if press else ()
+
+
+def _keys_of(press: Press) -> Tuple[AnyKey, ...]:
+    """prompt_toolkit's keys of a press, Keys.Ignore if it has none."""
+    if press.held & KittyModifiers.ALT:
+        keys = _keys_of(dataclasses.replace(press, held=press.held & ~KittyModifiers.ALT))
+        if keys == (Keys.ControlI,):
+            return (Keys.BackTab,)
+        return keys if keys == _IGNORED else (Keys.Escape, *keys)
+    if press.text:
+        return (press.text,)
+    names = [KEY_ALIASES.get(name, name) for name in _names(press)]
+    return next(((Keys(name),) for name in names if name in Keys._value2member_map_), _IGNORED)
+
+
+def _names(press: Press) -> Iterator[str]:
+    """The names that prompt_toolkit may have for a press: with its modifiers, and for a key that
+    types no character also with fewer."""
+    held, key = press.held, press.key
+    if held & ~(KittyModifiers.SHIFT | KittyModifiers.CTRL):
+        return
+    shift = "s-" if held & KittyModifiers.SHIFT else ""
+    ctrl = "c-" if held & KittyModifiers.CTRL else ""
+    if isinstance(key, Function):
+        number = key.number + (_SHIFTED if shift and key.number <= _SHIFTED else 0)
+        yield f"{ctrl}f{number}"
+    elif isinstance(key, KeyCode):
+        name = _NAMES.get(key, "")
+        yield from (f"{ctrl}{shift}{name}", f"{ctrl}{name}", f"{shift}{name}", name)
+    elif isinstance(key, str):
+        name = _CHARACTERS.get(key, key)
+        yield from (f"{ctrl}{shift}{name}", f"{ctrl}{name}")
+
+
+def _is_no_key(event: ExtendedEvent) -> bool:
+    """Whether an event is a control sequence that is no key to the library, and may be one of
+    prompt_toolkit's, as those that mintty sends for Ctrl with digits. Of these ESC [1;5u is a
+    control character to the library."""
+    return isinstance(event, Csi) or (
+        isinstance(event, KeyEvent) and isinstance(event.key, str) and event.key < " "
+    )
+
+
+class Parser(Vt100Parser):
+    """A parser with the calls of prompt_toolkit's Vt100Parser, whose keys go to the same callback.
+    The library reads the text."""
+
+    def __init__(self, feed_key_callback: Callable[[KeyPress], None]) -> None:
+        self.parser = ExtendedParser()
+        super().__init__(feed_key_callback)
+
+    def reset(self, request: bool = False) -> None:
+        """Forgets what is buffered."""
+        self.parser.reset()
+        # The bytes that are buffered, and the text of an open paste.
+        self._rest, self._pasted = b"", ""
+
+    def feed(self, data: str) -> None:
+        """Reads text, of which bytes that aren't UTF-8 are surrogates. No text means that none came
+        in time: see `expire`."""
+        if not data:
+            self.expire()
+        # However it is cut, the keys are the same. Runs are quicker, but not of short sequences.
+        for run in [data] if "\x1b" in data else _RUNS.findall(data):
+            self._feed_run(run)
+
+    def _feed_run(self, data: str) -> None:
+        came = data.encode("utf-8", "surrogateescape")
+        if data.isprintable() and not self._rest:
+            # Each event is the key of a character, and nothing stays buffered.
+            for event in cast(List[Any], self.parser.parse(came)):
+                self.feed_key_callback(KeyPress(event.key))
+            return
+        self.parser.feed(came)
+        self._rest += came
+        self._give(self._pulled())
+        self._pasted += self.parser.take_paste() or ""
+        self._keep()
+
+    def timeout(self) -> Optional[float]:
+        """Returns how many seconds to wait for more text, None for ever. If none came, `expire` is
+        called."""
+        return self.parser.timeout()
+
+    def expire(self) -> None:
+        """Reads as keys what has waited for as long as `timeout` said."""
+        self._give_all(self.parser.expire())
+
+    def flush(self) -> None:
+        """Reads all that is buffered as keys, but for an open paste."""
+        self._give_all(self.parser.flush())
+
+    def _pulled(self) -> Iterator[Tuple[ExtendedEvent, str]]:
+        """The events that are next, each with its text."""
+        self.parser.reading = _READING
+        for event in self.parser:
+            left = len(self._rest) - self.parser.waiting_len
+            yield event, self._rest[:left].decode("utf-8", "surrogateescape")
+            self._rest = self._rest[left:]
+
+    def _give_all(self, events: List[ExtendedEvent]) -> None:
+        """Gives events of what stayed buffered."""
+        sent = self._rest.decode("utf-8", "surrogateescape")
+        self._give((event, sent) for event in events)
+        self._keep()
+
+    def _keep(self) -> None:
+        """Keeps the bytes that are buffered."""
+        self._rest = self._rest[max(0, len(self._rest) - self.parser.waiting_len) :]
+
+    def _give(self, events: Iterable[Tuple[ExtendedEvent, str]]) -> None:
+        for event, sent in events:
+            for key_press in self._key_presses(event, sent):
+                self.feed_key_callback(key_press)
+
+    def _key_presses(self, event: ExtendedEvent, sent: str) -> List[KeyPress]:
+        """What prompt_toolkit gets for an event. The text that was sent goes with its first key."""
+        if isinstance(event, Paste):
+            text, self._pasted = self._pasted + event.text, ""
+            return [KeyPress(Keys.BracketedPaste, text)]
+        if isinstance(event, (MouseEvent, SideButton)):
+            return [KeyPress(Keys.Vt100MouseEvent, sent)]
+        if isinstance(event, CursorPosition):
+            return [KeyPress(Keys.CPRResponse, f"\x1b[{event.row};{event.column}R")]
+        if isinstance(event, KeyReport) and typed_text(event):
+            return [KeyPress(it, it) for it in event.text]
+        keys = self._keys(event, sent)
+        if len(keys) == 2 and sent not in ANSI_SEQUENCES:
+            alone = sent[1:] if isinstance(keys[1], Keys) else keys[1]
+            return [KeyPress(keys[0], "\x1b"), KeyPress(keys[1], alone)]
+        return [KeyPress(key, "" if at else sent) for at, key in enumerate(keys)]
+
+    def _keys(self, event: ExtendedEvent, sent: str) -> Tuple[AnyKey, ...]:
+        if _is_no_key(event):
+            found = ANSI_SEQUENCES.get(sent, ())
+            return found if isinstance(found, tuple) else (found,)
+        if not isinstance(event, (KeyEvent, KeyReport)):
+            return ()
+        keys = _keys_of_event(event)
+        # LF is Enter to the library. prompt_toolkit's programs bind it apart.
+        return tuple(map(_LINE_FEEDS.get, keys, keys)) if sent.endswith("\n") else keys
+
+
+class Input(Vt100Input):
+    """An input for an Application or a PromptSession. stdin is sys.stdin if it is None.
+
+    It is a Vt100Input with another parser. It also reads by itself once what is buffered has waited
+    long enough."""
+
+    def __init__(self, stdin: Optional[TextIO] = None) -> None:
+        super().__init__(sys.stdin if stdin is None else stdin)
+        self._parser = Parser(lambda key_press: self._buffer.append(key_press))
+        self.vt100_parser = self._parser
+        self._callback: Optional[Callable[[], None]] = None
+        self._timer: Optional[TimerHandle] = None
+
+    def read_keys(self) -> List[KeyPress]:
+        """Returns the keys of what can be read, and those that are due."""
+        keys = super().read_keys()
+        if self.closed:
+            self._parser.flush()
+            return keys + super().read_keys()
+        self._call_in_time()
+        return keys
+
+    def flush_keys(self) -> List[KeyPress]:
+        """Returns the keys that are due. It doesn't break what may still become another key."""
+        self._parser.expire()
+        keys, self._buffer = self._buffer, []
+        return keys
+
+    @contextlib.contextmanager
+    def attach(self, input_ready_callback: Callable[[], None]) -> Iterator[None]:
+        """Has the running loop call back once something can be read or is due."""
+        with super().attach(input_ready_callback), self._calling(input_ready_callback):
+            yield
+
+    @contextlib.contextmanager
+    def detach(self) -> Iterator[None]:
+        """Has nothing read for a while."""
+        with super().detach(), self._calling(None):
+            yield
+
+    @contextlib.contextmanager
+    def _calling(self, callback: Optional[Callable[[], None]]) -> Iterator[None]:
+        before, self._callback = self._callback, callback
+        self._call_in_time()
+        try:
+            yield
+        finally:
+            self._callback = before
+            self._call_in_time()
+
+    def _call_in_time(self) -> None:
+        """Calls back once what is buffered is due."""
+        if self._timer:
+            self._timer.cancel()
+            self._timer = None
+        seconds = self._parser.timeout()
+        if self._callback and seconds is not None:
+            self._timer = get_event_loop().call_later(seconds, self._callback)

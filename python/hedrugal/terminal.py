@@ -1,0 +1,633 @@
+r"""The terminal of a program: raw mode and modes, what is typed as events, and questions.
+
+    >>> from hedrugal import KeyPress
+    >>> def run():
+    ...     with Terminal() as terminal:
+    ...         for event in terminal:
+    ...             press = KeyPress.of_event(event)
+    ...             if press and str(press) == "ctrl+q":
+    ...                 return
+    ...             terminal.write(f"{press or event}\n")
+
+The block sets raw mode and switches modes on. The terminal is restored at its end, by whatever way
+the program leaves it: an exception, SystemExit, and the signals that end a process. While SIGTSTP
+stops the program, a shell has the terminal as it was."""
+from __future__ import annotations
+
+import atexit
+import collections
+import contextlib
+import dataclasses
+import errno
+import fcntl
+import os
+import select
+import signal
+import struct
+import termios
+import threading
+import time
+from dataclasses import dataclass
+from typing import (
+    Any,
+    AsyncIterator,
+    Callable,
+    Deque,
+    FrozenSet,
+    Iterable,
+    Iterator,
+    List,
+    Optional,
+    Set,
+    Union,
+)
+
+from . import (
+    Apc,
+    Csi,
+    CursorPosition,
+    Dcs,
+    DeviceAttributes,
+    DeviceAttributesReply,
+    ExtendedEvent,
+    ExtendedParser,
+    KeyboardFlags,
+    KittyKeyboardFlags,
+    MouseTracking,
+    Osc,
+    Paste,
+    Protocol,
+    Resize,
+    StringCut,
+    StringPart,
+    reply,
+)
+
+__all__ = ["PastePart", "Resumed", "Terminal", "TerminalEvent"]
+
+
+@dataclass(frozen=True)
+class PastePart(Paste):
+    """Text of a long paste whose end is still to come. The next PastePart goes on with it, and the
+    Paste that is none has the rest, maybe no text."""
+
+
+@dataclass(frozen=True)
+class Resumed:
+    """Another program had the terminal, while this one was stopped. All is to be drawn again. What
+    was buffered before doesn't count any more. A Resize follows, since the size may be new."""
+
+
+TerminalEvent = Union[ExtendedEvent, Resumed]
+
+# What a terminal replies.
+_REPLIES = (CursorPosition, KeyboardFlags, Csi, Osc, Dcs, Apc, StringPart, StringCut)
+# The question for the cursor's position, and the one that every terminal answers (DA1).
+_POSITION, _ATTRIBUTES = b"\x1b[6n", b"\x1b[c"
+_TRACKING = {
+    MouseTracking.X10: 9,
+    MouseTracking.NORMAL: 1000,
+    MouseTracking.BUTTON: 1002,
+    MouseTracking.ANY: 1003,
+}
+_ENDING = frozenset((signal.SIGHUP, signal.SIGINT, signal.SIGQUIT, signal.SIGTERM))
+_OTHERS = frozenset((signal.SIGTSTP, signal.SIGCONT, signal.SIGWINCH))
+_NO_SIGNAL: FrozenSet[int] = frozenset()
+_READ = 4096
+# How many seconds the modes may take to be switched off, if nobody reads what is written.
+_LEAVING = 1.0
+
+# The Terminal that is entered.
+_entered: Optional[Terminal] = None
+
+
+class Terminal:
+    r"""A terminal in raw mode, for a `with` block, and its events, over which the program iterates.
+
+    paste: a paste is one event (mode 2004).
+    mouse: which mouse reports there are, a MouseTracking; None is none. They are asked for in SGR's
+        form (mode 1006).
+    focus: whether FocusGained and FocusLost are reported (mode 1004).
+    kitty: the flags of Kitty's keyboard protocol. They are pushed, and the terminal is asked for
+        them. Once it replied, by a KeyboardFlags, keys are read by that protocol.
+    modify_other_keys: the level of xterm's modifyOtherKeys, 0 if it is off.
+    enter, leave: what is written before all this is switched on, and after it is switched off.
+    paste_limit: how many bytes of a paste are held. More of it comes as PastePart events.
+    input, output: the descriptors of the terminal. If one is None, it is that of standard input or
+        output, or else of /dev/tty.
+
+    Raw mode passes each byte on: nothing is echoed, Enter is CR, and Ctrl-C and Ctrl-Z are keys. A
+    line that is written still ends with a line feed. What was typed before is kept.
+
+    An event is an ExtendedEvent, a PastePart, or Resumed after the program was stopped. A new size
+    is a Resize. Bytes wait for as long as `parser.policy` says. The events end with the input, also
+    if the terminal is gone: what was buffered is flushed then.
+
+    SIGHUP, SIGINT, SIGQUIT and SIGTERM restore the terminal and end the process as ever, SIGTSTP
+    restores it and stops the process, SIGCONT sets it again, and SIGWINCH brings a Resize. This is
+    so if the main thread enters the block, for each of these signals that isn't ignored and has no
+    handler. So Ctrl-C from another process still raises KeyboardInterrupt, and a handler of the
+    program's own is left alone. If a process is forked, only the parent restores the terminal.
+
+    A process enters one Terminal at a time, and one thread or task reads its events. The same
+    Terminal may be entered again. To enter raises OSError if there is no terminal, and RuntimeError
+    if one is entered already. Then nothing was changed."""
+
+    def __init__(
+        self,
+        *,
+        paste: bool = True,
+        mouse: Optional[MouseTracking] = None,
+        focus: bool = False,
+        kitty: KittyKeyboardFlags = KittyKeyboardFlags.NONE,
+        modify_other_keys: int = 0,
+        enter: bytes = b"",
+        leave: bytes = b"",
+        paste_limit: int = 1 << 20,
+        input: Optional[int] = None,
+        output: Optional[int] = None,
+    ) -> None:
+        #: The parser, for its `policy` and its `reading`.
+        self.parser = ExtendedParser()
+        modes = [2004] * paste + [1004] * focus + ([_TRACKING[mouse], 1006] if mouse else [])
+        self._on = enter + b"".join(b"\x1b[?%dh" % mode for mode in modes)
+        self._off = b"".join(b"\x1b[?%dl" % mode for mode in reversed(modes)) + leave
+        if modify_other_keys:
+            self._on += b"\x1b[>4;%dm" % modify_other_keys
+            self._off = b"\x1b[>4m" + self._off
+        if kitty:
+            self._on += b"\x1b[>%du\x1b[?u" % kitty.value
+            self._off = b"\x1b[<u" + self._off
+        # Whether keys are to be read by Kitty's protocol once its flags are reported.
+        self._awaits_flags = bool(kitty)
+        self._paste_limit = paste_limit
+        self._descriptors = input, output
+        # Events that were read, and those that came of signals.
+        self._events: Deque[TerminalEvent] = collections.deque()
+        self._signalled: Deque[TerminalEvent] = collections.deque()
+        # Bytes that memory was refused for, and whether it was refused for them or their events.
+        self._unread, self._is_refused = b"", False
+        # Where `ask` wants the replies.
+        self._replies: Optional[List[ExtendedEvent]] = None
+        # Signals that came, those that have to wait, and those that are handled here.
+        self._noted: Set[int] = set()
+        self._held = _NO_SIGNAL
+        self._handled: List[int] = []
+        # Whether raw mode is set, what switches the modes off is still to be written, another
+        # program has the terminal, and no event can come any more.
+        self._is_raw = self._is_switched = self._is_paused = False
+        self._is_ended = True
+
+    def __enter__(self) -> Terminal:
+        global _entered
+        if _entered is not None:
+            raise RuntimeError("a Terminal is entered already")
+        with contextlib.ExitStack() as stack:
+            self._open(stack)
+            _entered = self
+            atexit.register(self._restore)
+            stack.callback(self._restore)
+            self._handle_signals()
+            self._enter()
+            self._stack = stack.pop_all()
+        return self
+
+    def __exit__(self, *_: object) -> None:
+        self._stack.close()
+
+    def __iter__(self) -> Iterator[TerminalEvent]:
+        return self
+
+    def __next__(self) -> TerminalEvent:
+        event = self.read()
+        if event is None:
+            raise StopIteration
+        return event
+
+    def __aiter__(self) -> AsyncIterator[TerminalEvent]:
+        """Returns the events one by one, in the running loop of asyncio. To cancel a wait loses no
+        event."""
+        return self
+
+    async def __anext__(self) -> TerminalEvent:
+        while not self._events and not self._is_ended:
+            await self._wait(self.timeout())
+            self._advance(0)
+        if not self._events:
+            raise StopAsyncIteration
+        return self._events.popleft()
+
+    @property
+    def ended(self) -> bool:
+        """Whether no event can come any more: the input has ended, or the block was left."""
+        return self._is_ended and not self._events
+
+    def read(self, timeout: Optional[float] = None) -> Optional[TerminalEvent]:
+        """Returns the next event. Returns None if none came in so many seconds, or if none can come
+        any more, which `ended` tells. With None it waits for ever, and with 0 not at all.
+
+        Raises MemoryError if memory is refused: no event is lost, and the call may be made again.
+        So does the loop over the events."""
+        if self._events:
+            return self._events.popleft()
+        end = None if timeout is None else time.monotonic() + timeout
+        while not self._events and not self._is_ended:
+            left = None if end is None else max(0.0, end - time.monotonic())
+            if not self._advance(left) and left == 0:
+                return None
+        return self._events.popleft() if self._events else None
+
+    def ask(self, question: bytes, timeout: float = 1.0) -> List[ExtendedEvent]:
+        r"""Writes a question, such as ESC ]11;? ESC \\ for the background's colour, and returns the
+        replies that came within so many seconds. Several questions may be asked at once.
+        `hedrugal.reply` says what a reply tells.
+
+        The question for the terminal's attributes (DA1) is written last. Every terminal answers it,
+        after the others, so the wait ends with that reply, which is the last of the list. If it
+        isn't there, the time was too short. What is replied later is an event, and so is what is
+        typed meanwhile."""
+        end = time.monotonic() + timeout
+        with self._asking(question) as replies:
+            while left := self._left(end):
+                self._advance(left)
+        return replies
+
+    async def ask_async(self, question: bytes, timeout: float = 1.0) -> List[ExtendedEvent]:
+        """Does what `ask` does, in the running loop of asyncio."""
+        end = time.monotonic() + timeout
+        with self._asking(question) as replies:
+            while left := self._left(end):
+                await self._wait(_earliest(left, self.timeout()))
+                self._advance(0)
+        return replies
+
+    def write(self, data: Union[bytes, str]) -> None:
+        """Writes bytes or a text, all of it: it waits while nobody reads what is written. Raises
+        OSError if the terminal is gone."""
+        rest = memoryview(data.encode() if isinstance(data, str) else data)
+        while rest:
+            try:
+                rest = rest[os.write(self._output, rest) :]
+            except BlockingIOError:
+                _has_room(self._output, None)
+
+    def size(self) -> Resize:
+        """Returns the terminal's size, in characters and in pixels. What isn't known is 0."""
+        told = fcntl.ioctl(self._output, termios.TIOCGWINSZ, bytes(8))
+        rows, columns, width, height = struct.unpack("HHHH", told)
+        return Resize(rows, columns, height, width)
+
+    @contextlib.contextmanager
+    def paused(self) -> Iterator[None]:
+        """Restores the terminal for another program, such as an editor that is started, and sets it
+        again at the end of the `with` block, whatever that program made of it. What was buffered
+        before doesn't count any more."""
+        self._is_paused = True
+        self._leave()
+        try:
+            yield
+        finally:
+            self._is_paused = False
+            self._enter()
+            self._forget()
+
+    def fileno(self) -> int:
+        """Returns a descriptor that is readable once bytes or a signal came: for a loop of another
+        kind, which waits for it as long as `timeout` says, and calls `read(0)` until that is
+        None."""
+        return self._epoll.fileno()
+
+    def timeout(self) -> Optional[float]:
+        """Returns for how many seconds such a loop may wait, None for ever."""
+        return 0.0 if self._is_refused else self.parser.timeout()
+
+    # What was read.
+
+    def _advance(self, limit: Optional[float]) -> bool:
+        """Waits for bytes or a signal, for so many seconds or as long as the parser says, and
+        handles what came. Returns whether something came or was due."""
+        if self._is_refused:
+            self._parse(b"")
+            return True
+        ready = [fd for fd, _ in self._epoll.poll(_earliest(limit, self.timeout()))]
+        if self._wake in ready:
+            self._take_signals()
+        elif ready:
+            self._take_input()
+        else:
+            expired = self.parser.expire()
+            self._add(expired)
+            return bool(expired)
+        return True
+
+    async def _wait(self, limit: Optional[float]) -> None:
+        """Waits as `_advance` does, in the running loop."""
+        # The module is large, and not every program needs it.
+        import asyncio
+
+        loop = asyncio.get_running_loop()
+        ready = loop.create_future()
+
+        def wake() -> None:
+            if not ready.done():
+                ready.set_result(None)
+
+        loop.add_reader(self, wake)
+        timer = None if limit is None else loop.call_later(limit, wake)
+        try:
+            await ready
+        finally:
+            loop.remove_reader(self)
+            if timer:
+                timer.cancel()
+
+    def _take_signals(self) -> None:
+        with contextlib.suppress(BlockingIOError):
+            os.read(self._wake, 64)
+        while self._signalled:
+            event = self._signalled.popleft()
+            if isinstance(event, Resumed):
+                self._forget()
+            self._events.append(event)
+
+    def _take_input(self) -> None:
+        try:
+            data = os.read(self._input, _READ)
+        except BlockingIOError:
+            return
+        except OSError as error:
+            # So a terminal says that is gone.
+            if error.errno != errno.EIO:
+                raise
+            data = b""
+        if data:
+            self._parse(data)
+            return
+        self._add(self.parser.flush())
+        paste = self.parser.end_paste()
+        self._add([paste] if paste else [])
+        self._is_ended = True
+
+    def _parse(self, data: bytes) -> None:
+        """Adds the events of bytes. What memory is refused for is left for the next call."""
+        self._unread += data
+        self._is_refused = True
+        self.parser.feed(self._unread)
+        self._unread = b""
+        if self._awaits_flags:
+            # One by one, since an event may change how the next is read.
+            for event in self.parser:
+                self._add([event])
+                self._read_by_flags(event)
+        else:
+            self._add(self.parser.parse(b""))
+        part = self.parser.take_paste(self._paste_limit)
+        self._add([PastePart(part)] if part else [])
+        self._is_refused = False
+
+    def _read_by_flags(self, event: ExtendedEvent) -> None:
+        if isinstance(event, KeyboardFlags):
+            self._awaits_flags = False
+            self.parser.reading = dataclasses.replace(self.parser.reading, protocol=Protocol.KITTY)
+
+    def _forget(self) -> None:
+        """Forgets what is buffered: another program had the terminal."""
+        self.parser.reset()
+        self._unread, self._is_refused = b"", False
+
+    def _add(self, events: Iterable[ExtendedEvent]) -> None:
+        if self._replies is None:
+            self._events.extend(events)
+            return
+        for event in events:
+            if self._replies is None or not isinstance(event, _REPLIES):
+                self._events.append(event)
+                continue
+            self._replies.append(event)
+            if _is_attributes(event):
+                self._replies = None
+
+    @contextlib.contextmanager
+    def _asking(self, question: bytes) -> Iterator[List[ExtendedEvent]]:
+        """Writes questions, and has their replies added to the list, up to the last one."""
+        replies: List[ExtendedEvent] = []
+        self._replies = replies
+        for _ in range(question.count(_POSITION)):
+            self.parser.expect_position()
+        try:
+            self.write(question + _ATTRIBUTES)
+            yield replies
+        except BaseException:
+            # Nobody gets the list, so they are events.
+            self._events.extend(replies)
+            raise
+        finally:
+            self._replies = None
+            self.parser.forget_positions()
+
+    def _left(self, end: float) -> float:
+        """How many seconds are left, 0 once the last question is answered."""
+        if self._is_ended or self._replies is None:
+            return 0.0
+        return max(0.0, end - time.monotonic())
+
+    # The terminal's modes.
+
+    def _open(self, stack: contextlib.ExitStack) -> None:
+        """Finds the terminal, and opens what a wait needs."""
+        self._input, self._output = (
+            _found(chosen, standard, stack) for standard, chosen in enumerate(self._descriptors)
+        )
+        self._saved = _call(termios.tcgetattr, self._input)
+        self._wake, self._wakes = os.pipe2(os.O_NONBLOCK | os.O_CLOEXEC)
+        stack.callback(os.close, self._wake)
+        stack.callback(os.close, self._wakes)
+        self._epoll = stack.enter_context(select.epoll())
+        self._epoll.register(self._input, select.EPOLLIN)
+        self._epoll.register(self._wake, select.EPOLLIN)
+        self._pid = os.getpid()
+        self._is_ended = False
+        self._events.clear()
+        self._signalled.clear()
+        self._forget()
+
+    def _enter(self) -> None:
+        """Sets raw mode, and switches the modes on. If they were never left, as around SIGSTOP,
+        they are left first, since some of them nest."""
+        with self._holding(_OTHERS):
+            self._is_raw = True
+            _set(self._input, _raw(self._saved))
+            self._switch_off()
+            # From the first byte on, since a signal may end the write.
+            self._is_switched = True
+            self.write(self._on)
+
+    def _leave(self) -> None:
+        """Switches the modes off, restores the settings, and discards what the terminal sent too
+        late. A terminal that is gone can't be restored."""
+        if not self._is_raw or self._is_forked():
+            return
+        with self._holding(_ENDING | _OTHERS):
+            try:
+                self._switch_off()
+            finally:
+                with contextlib.suppress(OSError):
+                    _set(self._input, self._saved)
+                    _call(termios.tcflush, self._input, termios.TCIFLUSH)
+                self._is_raw = False
+
+    def _switch_off(self) -> None:
+        if self._is_switched:
+            self._is_switched = False
+            _write_at_once(self._output, self._off)
+
+    def _restore(self) -> None:
+        """Does at the end of the block, or else of the process, what undoes its beginning."""
+        global _entered
+        self._leave()
+        for number in self._handled:
+            if signal.getsignal(number) == self._note:
+                signal.signal(number, signal.SIG_DFL)
+        self._handled.clear()
+        self._is_ended = True
+        atexit.unregister(self._restore)
+        _entered = None
+
+    # Signals.
+
+    def _handle_signals(self) -> None:
+        """Handles the signals that nobody else handles."""
+        if threading.current_thread() is not threading.main_thread():
+            return
+        for number in _ENDING | _OTHERS:
+            if signal.getsignal(number) is signal.SIG_DFL:
+                self._handled.append(number)
+                signal.signal(number, self._note)
+
+    def _note(self, number: int, _: object) -> None:
+        """Handles a signal, unless it has to wait until the terminal is switched."""
+        self._noted.add(number)
+        self._heed()
+
+    @contextlib.contextmanager
+    def _holding(self, numbers: FrozenSet[int]) -> Iterator[None]:
+        """Has these signals wait."""
+        before, self._held = self._held, self._held | numbers
+        try:
+            yield
+        finally:
+            self._held = before
+            self._heed()
+
+    def _heed(self) -> None:
+        """Handles the signals that came and needn't wait, those that end the process first."""
+        while numbers := self._noted - self._held:
+            number = min(numbers)
+            self._noted.discard(number)
+            if number in _ENDING:
+                self._end_by(number)
+            elif number == signal.SIGTSTP:
+                self._stop()
+            elif number == signal.SIGCONT:
+                self._resume()
+            else:
+                with contextlib.suppress(OSError):
+                    self._tell(self.size())
+
+    def _end_by(self, number: int) -> None:
+        """Ends the process as if the signal weren't handled."""
+        self._held = _ENDING | _OTHERS
+        self._leave()
+        signal.signal(number, signal.SIG_DFL)
+        os.kill(os.getpid(), number)
+
+    def _stop(self) -> None:
+        """Stops the process. It goes on once a shell continues it, or at once if none could."""
+        with self._holding(_OTHERS):
+            self._leave()
+            signal.signal(signal.SIGTSTP, signal.SIG_DFL)
+            os.kill(os.getpid(), signal.SIGTSTP)
+            signal.signal(signal.SIGTSTP, self._note)
+            self._noted.add(signal.SIGCONT)
+
+    def _resume(self) -> None:
+        if self._is_paused or self._is_forked():
+            return
+        # If the terminal is gone, the next read tells.
+        with contextlib.suppress(OSError):
+            self._enter()
+            self._tell(Resumed(), self.size())
+
+    def _is_forked(self) -> bool:
+        """Whether the terminal is that of a parent, which this process is a copy of."""
+        return os.getpid() != self._pid
+
+    def _tell(self, *events: TerminalEvent) -> None:
+        """Has the reader take these events."""
+        self._signalled.extend(events)
+        with contextlib.suppress(BlockingIOError):
+            os.write(self._wakes, b"\0")
+
+
+def _earliest(*limits: Optional[float]) -> Optional[float]:
+    return min((limit for limit in limits if limit is not None), default=None)
+
+
+def _is_attributes(event: ExtendedEvent) -> bool:
+    told = reply(event)
+    return isinstance(told, DeviceAttributesReply) and told.report is DeviceAttributes.PRIMARY
+
+
+def _found(chosen: Optional[int], standard: int, stack: contextlib.ExitStack) -> int:
+    """The descriptor of a terminal: the chosen one, or the standard one, or that of /dev/tty."""
+    if chosen is None and os.isatty(standard):
+        return standard
+    if chosen is None:
+        chosen = os.open("/dev/tty", os.O_RDWR | os.O_NOCTTY | os.O_CLOEXEC)
+        stack.callback(os.close, chosen)
+    if not os.isatty(chosen):
+        raise OSError(errno.ENOTTY, f"the descriptor {chosen} is no terminal")
+    return chosen
+
+
+def _has_room(terminal: int, seconds: Optional[float]) -> bool:
+    """Waits until a byte can be written, at most so many seconds, and returns whether it can."""
+    room = select.poll()
+    room.register(terminal, select.POLLOUT)
+    return bool(room.poll(None if seconds is None else 1000 * seconds))
+
+
+def _write_at_once(terminal: int, data: bytes) -> None:
+    """Writes bytes one by one as soon as there is room: so no write blocks. What can't be written
+    in time is left out."""
+    end = time.monotonic() + _LEAVING
+    with contextlib.suppress(OSError):
+        for at in range(len(data)):
+            if not _has_room(terminal, max(0.0, end - time.monotonic())):
+                return
+            os.write(terminal, data[at : at + 1])
+
+
+def _call(call: Callable[..., Any], *words: Any) -> Any:
+    """What a call of termios returns. It goes on after signals, and raises an OSError."""
+    while True:
+        try:
+            return call(*words)
+        except termios.error as error:
+            if error.args[0] != errno.EINTR:
+                raise OSError(*error.args) from None
+
+
+def _set(terminal: int, settings: List[Any]) -> None:
+    # At once: to wait for what is still to be written would block if nobody reads it.
+    _call(termios.tcsetattr, terminal, termios.TCSANOW, settings)
+
+
+def _raw(settings: List[Any]) -> List[Any]:
+    iflag, oflag, cflag, lflag, *speeds, characters = settings
+    iflag &= ~(termios.BRKINT | termios.ICRNL | termios.IGNCR | termios.INLCR)
+    iflag &= ~(termios.INPCK | termios.ISTRIP | termios.IXON)
+    lflag &= ~(termios.ECHO | termios.ICANON | termios.IEXTEN | termios.ISIG)
+    characters = [*characters]
+    characters[termios.VMIN], characters[termios.VTIME] = 1, 0
+    return [iflag, oflag, cflag, lflag, *speeds, characters]

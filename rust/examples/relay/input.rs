@@ -1,0 +1,103 @@
+//! What the child gets for the events of its terminal, in the modes that it set.
+use crate::keys::key_text;
+use crate::modes::ChildModes;
+use crate::mouse::{gets_side_button, Mouse};
+use hedrugal::extended::{encode_cursor_position, ExtendedEvent, Protocol, Reading};
+use hedrugal::input::{encode_paste, InputEvent};
+
+const PASTE_START: &str = "\x1b[200~";
+const PASTE_END: &str = "\x1b[201~";
+
+/// A paste of which the child has got a part.
+struct OpenPaste {
+    is_bracketed: bool,
+    /// A line feed that follows belongs to the end of this line.
+    ends_in_return: bool,
+}
+
+/// Writes events for the child.
+#[derive(Default)]
+pub struct Sender {
+    mouse: Mouse,
+    paste: Option<OpenPaste>,
+    /// The next string is the rest of one that was too long.
+    is_rest: bool,
+}
+
+impl Sender {
+    /// Returns what the child gets for an event. The protocol is that of the terminal.
+    pub fn bytes(
+        &mut self,
+        event: &ExtendedEvent,
+        modes: &ChildModes,
+        protocol: Protocol,
+    ) -> Vec<u8> {
+        match event {
+            ExtendedEvent::Input(InputEvent::Mouse(mouse)) => self.mouse.bytes(mouse, modes),
+            ExtendedEvent::Input(InputEvent::Paste(text)) => self.paste_end(text, modes.paste),
+            ExtendedEvent::SideButton(button) if !gets_side_button(button, modes) => Vec::new(),
+            ExtendedEvent::FocusGained | ExtendedEvent::FocusLost if !modes.focus => Vec::new(),
+            ExtendedEvent::CursorPosition { row, column } => {
+                encode_cursor_position(*row, *column, modes.asks_privately)
+            }
+            // The reply to a question of this program's own.
+            ExtendedEvent::KeyboardFlags(_) => Vec::new(),
+            event => match key_text(event, modes, protocol) {
+                Some(text) => text.into_bytes(),
+                None => self.reply(event, protocol),
+            },
+        }
+    }
+
+    /// Whether a part of a paste was written, and its end wasn't.
+    pub fn is_in_paste(&self) -> bool {
+        self.paste.is_some()
+    }
+
+    /// Returns a part of a long paste, which stays open.
+    pub fn paste_part(&mut self, text: &str, is_bracketed: bool) -> Vec<u8> {
+        let starts = is_bracketed && !self.is_in_paste();
+        let paste = self.paste.get_or_insert(OpenPaste {
+            is_bracketed,
+            ends_in_return: false,
+        });
+        let start = if starts { PASTE_START } else { "" };
+        format!("{start}{}", paste.safe_text(text)).into_bytes()
+    }
+
+    fn paste_end(&mut self, text: &str, is_bracketed: bool) -> Vec<u8> {
+        match self.paste.take() {
+            None => encode_paste(text.as_bytes(), is_bracketed).into_bytes(),
+            Some(mut paste) => {
+                let end = if paste.is_bracketed { PASTE_END } else { "" };
+                format!("{}{end}", paste.safe_text(text)).into_bytes()
+            }
+        }
+    }
+
+    /// Forgets what the terminal sent before. Returns what ends a paste of which a part was written.
+    pub fn reset(&mut self) -> Vec<u8> {
+        let end = self.is_in_paste().then(|| self.paste_end("", false));
+        *self = Sender::default();
+        end.unwrap_or_default()
+    }
+
+    /// Returns a reply or another sequence as the terminal sent it. One that was cut off, or is
+    /// longer than the parser's limit, isn't passed on.
+    fn reply(&mut self, event: &ExtendedEvent, protocol: Protocol) -> Vec<u8> {
+        let is_part = matches!(event, ExtendedEvent::StringPart { .. });
+        let is_rest = std::mem::replace(&mut self.is_rest, is_part);
+        if is_rest {
+            return Vec::new();
+        }
+        event.encode(Reading::new(protocol)).unwrap_or_default()
+    }
+}
+
+impl OpenPaste {
+    fn safe_text(&mut self, text: &str) -> String {
+        let rest = text.strip_prefix('\n').filter(|_| self.ends_in_return);
+        self.ends_in_return = text.ends_with('\r') || (text.is_empty() && self.ends_in_return);
+        encode_paste(rest.unwrap_or(text).as_bytes(), false)
+    }
+}

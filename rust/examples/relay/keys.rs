@@ -1,0 +1,90 @@
+//! What the child gets for a key.
+use crate::modes::ChildModes;
+use hedrugal::extended::{
+    typed_text, ExtendedEvent, KeyPress, KeyReport, KittyModifiers, Protocol, ReportedKey,
+};
+use hedrugal::input::{KeyCode, KeyCodeEncodeModes, KittyKeyboardFlags, Modifiers};
+
+/// The keys of the keypad, and what each sends after ESC `O` in the keypad's application mode. Out
+/// of it, and where they type a character, they send what keys of the main block send.
+const KEYPAD: [(ReportedKey, char); 18] = [
+    (ReportedKey::Functional(57414), 'M'),
+    (ReportedKey::Functional(57415), 'X'),
+    (ReportedKey::Named(KeyCode::Multiply), 'j'),
+    (ReportedKey::Named(KeyCode::Add), 'k'),
+    (ReportedKey::Named(KeyCode::Separator), 'l'),
+    (ReportedKey::Named(KeyCode::Subtract), 'm'),
+    (ReportedKey::Named(KeyCode::Decimal), 'n'),
+    (ReportedKey::Named(KeyCode::Divide), 'o'),
+    (ReportedKey::Named(KeyCode::Numpad0), 'p'),
+    (ReportedKey::Named(KeyCode::Numpad1), 'q'),
+    (ReportedKey::Named(KeyCode::Numpad2), 'r'),
+    (ReportedKey::Named(KeyCode::Numpad3), 's'),
+    (ReportedKey::Named(KeyCode::Numpad4), 't'),
+    (ReportedKey::Named(KeyCode::Numpad5), 'u'),
+    (ReportedKey::Named(KeyCode::Numpad6), 'v'),
+    (ReportedKey::Named(KeyCode::Numpad7), 'w'),
+    (ReportedKey::Named(KeyCode::Numpad8), 'x'),
+    (ReportedKey::Named(KeyCode::Numpad9), 'y'),
+];
+
+/// Returns what a key sends in the child's modes, nothing for one that they don't tell, and `None`
+/// for an event that is no key. The protocol is that of the terminal.
+pub fn key_text(event: &ExtendedEvent, modes: &ChildModes, protocol: Protocol) -> Option<String> {
+    let report = event.key()?;
+    Some(match modes.kitty_flags() {
+        KittyKeyboardFlags::NONE => legacy_text(&report, modes, protocol),
+        flags => kitty_text(event, report, flags),
+    })
+}
+
+/// Returns what a key sends by Kitty's protocol.
+fn kitty_text(event: &ExtendedEvent, mut report: KeyReport, flags: KittyKeyboardFlags) -> String {
+    // A terminal without the protocol tells no text, but it is known what the key types.
+    if let ExtendedEvent::Input(_) = event {
+        let press = KeyPress::of_report(&report);
+        report.text.extend(press.and_then(KeyPress::text));
+    }
+    report.encode(flags).unwrap_or_default()
+}
+
+/// Returns what a key sends without the protocol.
+fn legacy_text(report: &KeyReport, modes: &ChildModes, protocol: Protocol) -> String {
+    let Some(press) = KeyPress::of_report(report) else {
+        return typed_text(report).to_string();
+    };
+    if let Some(letter) = keypad_letter(report).filter(|_| modes.keys.keypad) {
+        return format!("\x1bO{letter}");
+    }
+    // Ctrl and a letter of another script is Ctrl and the Latin letter at that place.
+    let second = KeyPress::second(report).filter(|it| it.held().contains(KittyModifiers::CTRL));
+    press_text(second.unwrap_or(press), modes.key_encoding(protocol)).unwrap_or_default()
+}
+
+/// Returns what a press sends. SUPER, HYPER and META can't be told, and a shortcut with one of them
+/// mustn't type its key instead.
+fn press_text(press: KeyPress, encoding: KeyCodeEncodeModes) -> Option<String> {
+    let mut held = Modifiers::NONE;
+    for modifier in press.held().iter() {
+        held |= match modifier {
+            KittyModifiers::SHIFT => Modifiers::SHIFT,
+            KittyModifiers::ALT => Modifiers::ALT,
+            KittyModifiers::CTRL => Modifiers::CTRL,
+            _ => return None,
+        };
+    }
+    match press.key() {
+        ReportedKey::Named(key) => key.encode(held, encoding, true).ok(),
+        ReportedKey::Functional(_) => None,
+    }
+}
+
+/// Returns the letter of a key of the keypad, if it is held with no modifier and types nothing.
+fn keypad_letter(report: &KeyReport) -> Option<char> {
+    let (_, letter) = KEYPAD.iter().find(|(key, _)| *key == report.key)?;
+    let is_enter = *letter == 'M';
+    let types = !report.text.is_empty() || report.modifiers.contains(KittyModifiers::NUM_LOCK);
+    let locks = KittyModifiers::CAPS_LOCK | KittyModifiers::NUM_LOCK;
+    let is_alone = report.modifiers.difference(locks).is_empty();
+    (is_alone && (is_enter || !types)).then_some(*letter)
+}

@@ -1,0 +1,349 @@
+//! Runs a program on a pseudo-terminal of its own, and passes on to it what its terminal sends: keys,
+//! mouse reports, pastes and the focus, in the modes that the program set, whatever protocol the
+//! terminal speaks. That is the input half of a multiplexer. A program to start from.
+//!
+//!     HEDRUGAL_LIBRARY=DIR cargo run --example relay [-- PROGRAM [ARGUMENT..]]
+//!
+//! What the program writes goes to the terminal as it is, but for the modes of its input: these are
+//! kept here, and so are questions for them. The terminal is asked to tell all that it can.
+//!
+//! relay ends when the program does, with its status, or with 128 and the number of the signal that
+//! ended it. SIGHUP, SIGINT, SIGQUIT and SIGTERM go to the program too and end relay. SIGTSTP stops
+//! relay alone until SIGCONT, and the program then draws anew. The terminal is restored whenever
+//! relay ends or stops in one of these ways.
+mod input;
+mod keys;
+mod modes;
+mod mouse;
+mod output;
+mod pty;
+mod scanner;
+#[allow(dead_code)]
+mod terminal;
+mod unix;
+
+use hedrugal::extended::{ExtendedEvent, ExtendedParser, Protocol, Reading};
+use input::Sender;
+use modes::Wanted;
+use output::Output;
+use pty::PtyChild;
+use std::ffi::{c_short, OsString};
+use std::fs::{File, OpenOptions};
+use std::io::{self, ErrorKind, Read, Write};
+use std::os::fd::AsRawFd;
+use std::os::unix::fs::OpenOptionsExt;
+use std::os::unix::process::ExitStatusExt;
+use std::process::{ExitCode, ExitStatus};
+use std::sync::atomic::Ordering::SeqCst;
+use std::time::{Duration, Instant};
+use terminal::{Terminal, Woken};
+use unix::{poll_all, signals, POLLIN};
+
+const HELP: &str = "usage: relay [--] [PROGRAM [ARGUMENT..]]
+
+Runs a program, or else $SHELL, on a terminal of its own, and passes keys, mouse
+reports, pastes and the focus on in the modes that the program set.";
+const POLLOUT: c_short = 4;
+const O_NONBLOCK_NOCTTY: i32 = 0o4400;
+const PASTE_LIMIT: usize = 1 << 16;
+/// Nothing more is read for a side that hasn't taken so many bytes yet.
+const MOST_PENDING: usize = 1 << 16;
+/// A child that asks on and on, and reads nothing, gets no more replies than that.
+const MOST_REPLIES: usize = 1 << 18;
+/// The child has written less before its end. What it left running may write on for ever.
+const MOST_LEFT: usize = 1 << 20;
+
+/// Why relay ends, and with which status.
+struct Failure {
+    status: u8,
+    says: String,
+}
+
+impl From<io::Error> for Failure {
+    fn from(error: io::Error) -> Failure {
+        Failure {
+            status: 1,
+            says: error.to_string(),
+        }
+    }
+}
+
+/// What a step of the program leads to.
+enum Next {
+    Step,
+    /// The child has ended, and all that it wrote is written.
+    Ended(ExitStatus),
+    /// A signal ends the program.
+    Signal,
+}
+
+struct Relay {
+    parser: ExtendedParser,
+    sender: Sender,
+    output: Output,
+    child: PtyChild,
+    /// How the child ended, and how much may still be read of what it wrote.
+    ended: Option<(ExitStatus, usize)>,
+    terminal: Terminal,
+    wanted: Wanted,
+    /// The terminal once more, for writes that don't wait. Other programs have the descriptor of the
+    /// standard output too, and would have to know.
+    screen: File,
+    to_terminal: Vec<u8>,
+    to_child: Vec<u8>,
+    /// Replies of this program's own, which may not come within a paste.
+    replies: Vec<u8>,
+}
+
+impl Relay {
+    fn new(words: &[OsString]) -> Result<Relay, Failure> {
+        let wanted = Wanted::default();
+        let terminal = Terminal::find(wanted.switches())?;
+        let mut options = OpenOptions::new();
+        options.write(true).custom_flags(O_NONBLOCK_NOCTTY);
+        let screen = options.open("/proc/self/fd/1").map_err(|error| Failure {
+            status: 1,
+            says: format!("the terminal can't be opened: {error}"),
+        })?;
+        let parser = ExtendedParser::try_new(Protocol::Legacy).map_err(io::Error::other)?;
+        let child = PtyChild::start(words, &terminal.saved, terminal.size()?);
+        Ok(Relay {
+            parser,
+            sender: Sender::default(),
+            output: Output::default(),
+            child: child.map_err(|error| Failure {
+                status: if error.kind() == ErrorKind::NotFound {
+                    127
+                } else {
+                    126
+                },
+                says: format!("{}: {error}", words[0].to_string_lossy()),
+            })?,
+            ended: None,
+            terminal,
+            wanted,
+            screen,
+            to_terminal: Vec::new(),
+            to_child: Vec::new(),
+            replies: Vec::new(),
+        })
+    }
+
+    fn run(&mut self) -> io::Result<u8> {
+        self.terminal.enter()?;
+        loop {
+            match self.step()? {
+                Next::Step => {}
+                Next::Ended(status) => {
+                    let signal = status.signal().map(|number| 128 + number);
+                    return Ok(signal.or(status.code()).unwrap_or(1) as u8);
+                }
+                Next::Signal => return Ok(1),
+            }
+        }
+    }
+
+    fn step(&mut self) -> io::Result<Next> {
+        if let (Some((status, 0)), true) = (self.ended, self.to_terminal.is_empty()) {
+            return Ok(Next::Ended(status));
+        }
+        let reads_keys = self.ended.is_none() && self.to_child.len() < MOST_PENDING;
+        let reads_child = self.to_terminal.len() < MOST_PENDING;
+        let time = self.time(reads_keys, reads_child);
+        let if_any = |waits: bool, events| if waits { events } else { 0 };
+        let from_child = if_any(reads_child, POLLIN);
+        let to_child = if_any(!self.to_child.is_empty(), POLLOUT);
+        let descriptors = [
+            (self.terminal.wake.as_raw_fd(), POLLIN),
+            (self.terminal.input.as_raw_fd(), if_any(reads_keys, POLLIN)),
+            (self.child.terminal.as_raw_fd(), from_child | to_child),
+            (
+                self.screen.as_raw_fd(),
+                if_any(!self.to_terminal.is_empty(), POLLOUT),
+            ),
+        ];
+        let [wake, keys, child, screen] = match poll_all(descriptors, time) {
+            Err(error) if error.kind() == ErrorKind::Interrupted => return Ok(Next::Step),
+            ready => ready?,
+        };
+        if wake != 0 {
+            return self.handle_signals();
+        }
+        if keys != 0 {
+            self.read_keys()?;
+        } else if reads_keys {
+            self.expire()?;
+        }
+        if child & POLLOUT != 0 {
+            write_some(&mut self.child.terminal, &mut self.to_child)?;
+        }
+        if reads_child && (child & !POLLOUT != 0 || self.ended.is_some()) {
+            self.read_child()?;
+        }
+        if screen != 0 {
+            write_some(&mut self.screen, &mut self.to_terminal)?;
+        }
+        Ok(Next::Step)
+    }
+
+    /// Returns how long to wait. What may be completed by keys that aren't read yet has no limit, and
+    /// what a child has left is there at once.
+    fn time(&mut self, reads_keys: bool, reads_child: bool) -> Option<Duration> {
+        if self.ended.is_some() && reads_child {
+            Some(Duration::ZERO)
+        } else if reads_keys {
+            self.parser.timeout(Instant::now())
+        } else {
+            None
+        }
+    }
+
+    fn handle_signals(&mut self) -> io::Result<Next> {
+        if signals::STOPPING.load(SeqCst) || signals::ending().is_some() {
+            // So the terminal isn't left within a sequence. It may be gone.
+            let _ = io::stdout().write_all(&self.to_terminal);
+            self.to_terminal.clear();
+        }
+        match self.terminal.handle_signals()? {
+            Woken::Ending => {
+                self.child.signal(signals::ending().unwrap_or_default());
+                return Ok(Next::Signal);
+            }
+            Woken::Resumed => {
+                self.parser.reset();
+                self.to_child.append(&mut self.sender.reset());
+                self.child.resize(self.terminal.size()?)?;
+                self.child.redraw();
+            }
+            Woken::Resized => self.child.resize(self.terminal.size()?)?,
+            Woken::Input | Woken::Pause => {}
+        }
+        if self.ended.is_none() && signals::CHILD.swap(false, SeqCst) {
+            self.ended = self.child.status()?.map(|status| (status, MOST_LEFT));
+        }
+        Ok(Next::Step)
+    }
+
+    fn read_keys(&mut self) -> io::Result<()> {
+        let mut bytes = [0; 4096];
+        let count = self.terminal.input.read(&mut bytes)?;
+        if count == 0 {
+            return Err(io::Error::other("the terminal is gone"));
+        }
+        let fed = self.parser.try_feed(&bytes[..count]);
+        fed.map_err(io::Error::other)?;
+        // One at a time, since an event may change how the next is read.
+        while let Some(event) = self.parser.try_next_event(true).map_err(io::Error::other)? {
+            self.handle(&event);
+        }
+        let part = self.parser.take_paste(PASTE_LIMIT);
+        if let Some(text) = part.map_err(io::Error::other)? {
+            let is_bracketed = self.output.modes.paste;
+            self.to_child
+                .append(&mut self.sender.paste_part(&text, is_bracketed));
+        }
+        Ok(())
+    }
+
+    /// Handles what no byte has completed in time.
+    fn expire(&mut self) -> io::Result<()> {
+        let mut events = Vec::new();
+        let expired = self
+            .parser
+            .expire(Instant::now(), |event| events.push(event));
+        events.iter().for_each(|event| self.handle(event));
+        expired.map_err(io::Error::other)
+    }
+
+    fn handle(&mut self, event: &ExtendedEvent) {
+        if let ExtendedEvent::KeyboardFlags(_) = event {
+            self.parser.set_reading(Reading {
+                protocol: Protocol::Kitty,
+                ..self.parser.reading()
+            });
+        }
+        let protocol = self.parser.protocol();
+        let mut bytes = self.sender.bytes(event, &self.output.modes, protocol);
+        self.to_child.append(&mut bytes);
+        self.send_replies();
+    }
+
+    fn read_child(&mut self) -> io::Result<()> {
+        let mut bytes = [0; 4096];
+        let count = match self.child.terminal.read(&mut bytes) {
+            Err(error) if error.kind() == ErrorKind::WouldBlock => 0,
+            count => count?,
+        };
+        let mut passed = self.output.pass(&bytes[..count]);
+        self.to_terminal.append(&mut passed.to_terminal);
+        for _ in 0..passed.questions {
+            self.parser.expect_position();
+        }
+        if self.replies.len() + self.to_child.len() < MOST_REPLIES {
+            self.replies.append(&mut passed.to_child);
+        }
+        self.send_replies();
+        let wanted = self.output.modes.wanted();
+        if wanted != self.wanted {
+            self.wanted = wanted;
+            self.terminal.modes = wanted.switches();
+        }
+        if let Some((_, left)) = &mut self.ended {
+            *left = left.saturating_sub(if count == 0 { MOST_LEFT } else { count });
+            if *left == 0 {
+                self.to_terminal.append(&mut self.output.rest());
+            }
+        }
+        Ok(())
+    }
+
+    fn send_replies(&mut self) {
+        if !self.sender.is_in_paste() {
+            self.to_child.append(&mut self.replies);
+        }
+    }
+}
+
+/// Writes what is taken without a wait.
+fn write_some(file: &mut File, bytes: &mut Vec<u8>) -> io::Result<()> {
+    match file.write(bytes) {
+        Ok(count) => drop(bytes.drain(..count)),
+        Err(error) if error.kind() == ErrorKind::WouldBlock => {}
+        Err(error) => return Err(error),
+    }
+    Ok(())
+}
+
+/// Returns the words that run the program, or `None` for an option that relay hasn't.
+fn program(mut words: Vec<OsString>) -> Option<Vec<OsString>> {
+    match words.first() {
+        Some(word) if word == "--" => drop(words.remove(0)),
+        Some(word) if word.to_string_lossy().starts_with('-') => return None,
+        _ => {}
+    }
+    if words.is_empty() {
+        words.push(std::env::var_os("SHELL").unwrap_or_else(|| "/bin/sh".into()));
+    }
+    Some(words)
+}
+
+fn main() -> ExitCode {
+    let words: Vec<_> = std::env::args_os().skip(1).collect();
+    if words == ["--help"] {
+        println!("{HELP}");
+        return ExitCode::SUCCESS;
+    }
+    let Some(words) = program(words) else {
+        eprintln!("{}", HELP.lines().next().unwrap_or_default());
+        return ExitCode::from(2);
+    };
+    let ended = Relay::new(&words).and_then(|mut relay| Ok(relay.run()?));
+    signals::end_by_signal();
+    match ended {
+        Ok(status) => ExitCode::from(status),
+        Err(Failure { status, says }) => {
+            eprintln!("relay: {says}");
+            ExitCode::from(status)
+        }
+    }
+}

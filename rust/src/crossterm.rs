@@ -1,0 +1,461 @@
+//! crossterm's events, of the events of this package. The feature `crossterm` has this module.
+//!
+//! A program over crossterm 0.25, as one with tui 0.19, keeps all of its code but one line. In the
+//! place of `use crossterm::event::{self, Event, KeyCode};` it has
+//!
+//! ```
+//! use hedrugal::crossterm::event::{self, Event, KeyCode};
+//! ```
+//!
+//! and its terminal is then read by this package. A program that reads a
+//! [`Terminal`] converts its events itself, by [`TryFrom`] or a
+//! [`Converter`]. What crossterm's type can't say comes back as the error:
+//!
+//! ```
+//! use crossterm::event::{Event, KeyCode, KeyEvent, KeyModifiers};
+//! use hedrugal::extended::{ExtendedEvent, ExtendedParser, Protocol};
+//!
+//! let mut events = ExtendedParser::new(Protocol::Legacy).parse_as_vec(b"\x1b[1;5A\x1b[?0u", true);
+//! let reply = events.pop().unwrap();
+//! let up = KeyEvent::new(KeyCode::Up, KeyModifiers::CONTROL);
+//! assert_eq!(Event::try_from(events.remove(0)), Ok(Event::Key(up)));
+//! assert_eq!(Event::try_from(reply), Err(ExtendedEvent::KeyboardFlags(0)));
+//! ```
+//!
+//! crossterm's type can't say:
+//!
+//! - replies: `CursorPosition`, `KeyboardFlags`, `Csi`, `Osc`, `Dcs`, `Apc`, `StringPart` and
+//!   `StringCut`
+//! - a wheel that is turned to a side, a `SideButton`, and a mouse report in pixels
+//! - the keys `Cancel`, `Clear`, `Select`, `Print`, `Execute`, `Help`, `Sleep`, `Copy`, `Cut` and
+//!   `Paste`, those of browsers, the marks of a paste, the modifiers without a side, and a functional
+//!   key of Kitty's table that is neither a modifier nor of a media player
+//! - of a key report that it has: what the key types with Shift or on the standard layout, and its
+//!   text
+//! - that the program goes on after it was stopped: [`event::read`] returns its size then
+use crate::extended::{ExtendedEvent, KeyEventKind, KeyReport, KittyModifiers, ReportedKey};
+use crate::input::{InputEvent, KeyCode, Modifiers, MouseButtons, MouseEvent};
+use crate::terminal::{restore, Event, Modes, Terminal};
+use ::crossterm::event as theirs;
+use std::io;
+use std::sync::{Mutex, MutexGuard, PoisonError};
+use std::time::{Duration, Instant};
+
+/// What `crossterm::event` has, with a `read` and a `poll` that read the terminal by this package.
+pub mod event {
+    pub use super::{poll, read};
+    pub use ::crossterm::event::*;
+}
+
+/// Converts events to crossterm's. A mouse report says which button is down, and crossterm's event
+/// what happened to it: so this keeps which one was down before. [`TryFrom`] takes none for that.
+///
+/// ```
+/// use crossterm::event::{Event, MouseButton, MouseEventKind};
+/// use hedrugal::crossterm::Converter;
+/// use hedrugal::extended::{ExtendedParser, Protocol};
+///
+/// let (press, moved, release) = (b"\x1b[<0;1;1M", b"\x1b[<32;2;1M", b"\x1b[<0;2;1m");
+/// let sent = [&press[..], moved, release].concat();
+/// let mut converter = Converter::default();
+/// let mut kinds = Vec::new();
+/// for event in ExtendedParser::new(Protocol::Legacy).parse_as_vec(&sent, true) {
+///     if let Ok(Event::Mouse(mouse)) = converter.convert(event) {
+///         kinds.push(mouse.kind);
+///     }
+/// }
+/// let left = MouseButton::Left;
+/// assert_eq!(
+///     kinds,
+///     [MouseEventKind::Down(left), MouseEventKind::Drag(left), MouseEventKind::Up(left)]
+/// );
+/// ```
+#[derive(Debug, Clone, Copy, Default)]
+pub struct Converter {
+    down: Option<theirs::MouseButton>,
+}
+
+impl Converter {
+    /// Converts an event.
+    ///
+    /// ```
+    /// use crossterm::event::Event;
+    /// use hedrugal::crossterm::Converter;
+    /// use hedrugal::extended::ExtendedEvent;
+    ///
+    /// let mut converter = Converter::default();
+    /// assert_eq!(converter.convert(ExtendedEvent::FocusLost), Ok(Event::FocusLost));
+    /// ```
+    ///
+    /// # Errors
+    ///
+    /// The event, if crossterm's type can't say it.
+    pub fn convert(&mut self, event: ExtendedEvent) -> Result<theirs::Event, ExtendedEvent> {
+        let converted = match &event {
+            ExtendedEvent::FocusGained => Some(theirs::Event::FocusGained),
+            ExtendedEvent::FocusLost => Some(theirs::Event::FocusLost),
+            ExtendedEvent::Resize { columns, rows, .. } => {
+                Some(theirs::Event::Resize(*columns, *rows))
+            }
+            ExtendedEvent::Input(InputEvent::Paste(text)) => {
+                Some(theirs::Event::Paste(text.clone()))
+            }
+            ExtendedEvent::Input(InputEvent::Mouse(mouse)) => {
+                self.mouse(mouse).map(theirs::Event::Mouse)
+            }
+            event => event
+                .key()
+                .and_then(|report| key(&report))
+                .map(theirs::Event::Key),
+        };
+        converted.ok_or(event)
+    }
+
+    fn mouse(&mut self, event: &MouseEvent) -> Option<theirs::MouseEvent> {
+        let kind = if event.mouse_buttons.contains(MouseButtons::HORZ_WHEEL) {
+            return None;
+        } else if event.mouse_buttons.contains(MouseButtons::VERT_WHEEL) {
+            wheel(event.mouse_buttons)
+        } else {
+            self.button(event.mouse_buttons)
+        };
+        Some(theirs::MouseEvent {
+            kind,
+            column: event.x.saturating_sub(1),
+            row: event.y.saturating_sub(1),
+            modifiers: modifiers(xterm_modifiers(event.modifiers)),
+        })
+    }
+
+    fn button(&mut self, buttons: MouseButtons) -> theirs::MouseEventKind {
+        let before = std::mem::replace(&mut self.down, button_of(buttons));
+        match (before, self.down) {
+            (None, None) => theirs::MouseEventKind::Moved,
+            (Some(button), None) => theirs::MouseEventKind::Up(button),
+            (Some(before), Some(now)) if before == now => theirs::MouseEventKind::Drag(now),
+            (_, Some(now)) => theirs::MouseEventKind::Down(now),
+        }
+    }
+}
+
+fn wheel(buttons: MouseButtons) -> theirs::MouseEventKind {
+    if buttons.contains(MouseButtons::WHEEL_POSITIVE) {
+        theirs::MouseEventKind::ScrollUp
+    } else {
+        theirs::MouseEventKind::ScrollDown
+    }
+}
+
+fn button_of(buttons: MouseButtons) -> Option<theirs::MouseButton> {
+    [
+        (MouseButtons::LEFT, theirs::MouseButton::Left),
+        (MouseButtons::RIGHT, theirs::MouseButton::Right),
+        (MouseButtons::MIDDLE, theirs::MouseButton::Middle),
+    ]
+    .into_iter()
+    .find(|(flag, _)| buttons.contains(*flag))
+    .map(|(_, button)| button)
+}
+
+// SHIFT, ALT and CTRL have the same bits in xterm's number.
+fn xterm_modifiers(modifiers: Modifiers) -> KittyModifiers {
+    KittyModifiers::from_bits_retain(modifiers.encode_xterm())
+}
+
+fn modifiers(held: KittyModifiers) -> theirs::KeyModifiers {
+    [
+        (KittyModifiers::SHIFT, theirs::KeyModifiers::SHIFT),
+        (KittyModifiers::ALT, theirs::KeyModifiers::ALT),
+        (KittyModifiers::CTRL, theirs::KeyModifiers::CONTROL),
+        (KittyModifiers::SUPER, theirs::KeyModifiers::SUPER),
+        (KittyModifiers::HYPER, theirs::KeyModifiers::HYPER),
+        (KittyModifiers::META, theirs::KeyModifiers::META),
+    ]
+    .into_iter()
+    .filter(|(flag, _)| held.contains(*flag))
+    .map(|(_, modifier)| modifier)
+    .collect()
+}
+
+fn state(held: KittyModifiers, is_keypad: bool) -> theirs::KeyEventState {
+    let mut state = theirs::KeyEventState::NONE;
+    state.set(theirs::KeyEventState::KEYPAD, is_keypad);
+    if held.contains(KittyModifiers::CAPS_LOCK) {
+        state.insert(theirs::KeyEventState::CAPS_LOCK);
+    }
+    if held.contains(KittyModifiers::NUM_LOCK) {
+        state.insert(theirs::KeyEventState::NUM_LOCK);
+    }
+    state
+}
+
+fn key(report: &KeyReport) -> Option<theirs::KeyEvent> {
+    let (code, is_keypad) = match report.key {
+        ReportedKey::Named(key) => match keypad_code(key) {
+            Some(code) => (code, true),
+            None => (named_code(key)?, false),
+        },
+        ReportedKey::Functional(number) => functional_code(number)?,
+    };
+    let mut modifiers = modifiers(report.modifiers);
+    let code = match code {
+        theirs::KeyCode::Tab if modifiers.contains(theirs::KeyModifiers::SHIFT) => {
+            theirs::KeyCode::BackTab
+        }
+        // crossterm says so of an upper case letter that is typed.
+        theirs::KeyCode::Char(c) if c.is_uppercase() => {
+            modifiers.insert(theirs::KeyModifiers::SHIFT);
+            code
+        }
+        code => code,
+    };
+    Some(theirs::KeyEvent {
+        code,
+        modifiers,
+        kind: match report.kind {
+            KeyEventKind::Press => theirs::KeyEventKind::Press,
+            KeyEventKind::Repeat => theirs::KeyEventKind::Repeat,
+            KeyEventKind::Release => theirs::KeyEventKind::Release,
+        },
+        state: state(report.modifiers, is_keypad),
+    })
+}
+
+// A key of the keypad, by what it types or does.
+fn keypad_code(key: KeyCode) -> Option<theirs::KeyCode> {
+    use theirs::KeyCode::{Char, End, Home, KeypadBegin, PageDown, PageUp};
+    Some(match key {
+        KeyCode::Numpad0 => Char('0'),
+        KeyCode::Numpad1 => Char('1'),
+        KeyCode::Numpad2 => Char('2'),
+        KeyCode::Numpad3 => Char('3'),
+        KeyCode::Numpad4 => Char('4'),
+        KeyCode::Numpad5 => Char('5'),
+        KeyCode::Numpad6 => Char('6'),
+        KeyCode::Numpad7 => Char('7'),
+        KeyCode::Numpad8 => Char('8'),
+        KeyCode::Numpad9 => Char('9'),
+        KeyCode::Multiply => Char('*'),
+        KeyCode::Add => Char('+'),
+        KeyCode::Separator => Char(','),
+        KeyCode::Subtract => Char('-'),
+        KeyCode::Decimal => Char('.'),
+        KeyCode::Divide => Char('/'),
+        KeyCode::KeyPadHome => Home,
+        KeyCode::KeyPadEnd => End,
+        KeyCode::KeyPadPageUp => PageUp,
+        KeyCode::KeyPadPageDown => PageDown,
+        KeyCode::KeyPadBegin => KeypadBegin,
+        _ => return None,
+    })
+}
+
+fn named_code(key: KeyCode) -> Option<theirs::KeyCode> {
+    use theirs::KeyCode::{Media, Modifier};
+    use theirs::{MediaKeyCode, ModifierKeyCode};
+    Some(match key {
+        KeyCode::Char(c) => theirs::KeyCode::Char(c),
+        KeyCode::Function(number) => theirs::KeyCode::F(number),
+        KeyCode::Backspace => theirs::KeyCode::Backspace,
+        KeyCode::Tab => theirs::KeyCode::Tab,
+        KeyCode::Enter => theirs::KeyCode::Enter,
+        KeyCode::Escape => theirs::KeyCode::Esc,
+        KeyCode::Insert => theirs::KeyCode::Insert,
+        KeyCode::Delete => theirs::KeyCode::Delete,
+        KeyCode::PageUp => theirs::KeyCode::PageUp,
+        KeyCode::PageDown => theirs::KeyCode::PageDown,
+        KeyCode::Home => theirs::KeyCode::Home,
+        KeyCode::End => theirs::KeyCode::End,
+        KeyCode::LeftArrow | KeyCode::ApplicationLeftArrow => theirs::KeyCode::Left,
+        KeyCode::RightArrow | KeyCode::ApplicationRightArrow => theirs::KeyCode::Right,
+        KeyCode::UpArrow | KeyCode::ApplicationUpArrow => theirs::KeyCode::Up,
+        KeyCode::DownArrow | KeyCode::ApplicationDownArrow => theirs::KeyCode::Down,
+        KeyCode::CapsLock => theirs::KeyCode::CapsLock,
+        KeyCode::ScrollLock => theirs::KeyCode::ScrollLock,
+        KeyCode::NumLock => theirs::KeyCode::NumLock,
+        KeyCode::PrintScreen => theirs::KeyCode::PrintScreen,
+        KeyCode::Pause => theirs::KeyCode::Pause,
+        KeyCode::Menu | KeyCode::LeftMenu | KeyCode::RightMenu | KeyCode::Applications => {
+            theirs::KeyCode::Menu
+        }
+        KeyCode::LeftShift => Modifier(ModifierKeyCode::LeftShift),
+        KeyCode::RightShift => Modifier(ModifierKeyCode::RightShift),
+        KeyCode::LeftControl => Modifier(ModifierKeyCode::LeftControl),
+        KeyCode::RightControl => Modifier(ModifierKeyCode::RightControl),
+        KeyCode::LeftAlt => Modifier(ModifierKeyCode::LeftAlt),
+        KeyCode::RightAlt => Modifier(ModifierKeyCode::RightAlt),
+        KeyCode::LeftWindows => Modifier(ModifierKeyCode::LeftSuper),
+        KeyCode::RightWindows => Modifier(ModifierKeyCode::RightSuper),
+        KeyCode::VolumeMute => Media(MediaKeyCode::MuteVolume),
+        KeyCode::VolumeDown => Media(MediaKeyCode::LowerVolume),
+        KeyCode::VolumeUp => Media(MediaKeyCode::RaiseVolume),
+        KeyCode::MediaNextTrack => Media(MediaKeyCode::TrackNext),
+        KeyCode::MediaPrevTrack => Media(MediaKeyCode::TrackPrevious),
+        KeyCode::MediaStop => Media(MediaKeyCode::Stop),
+        KeyCode::MediaPlayPause => Media(MediaKeyCode::PlayPause),
+        _ => return None,
+    })
+}
+
+// A key for which `KeyCode` has no name, and whether it is of the keypad.
+fn functional_code(number: u32) -> Option<(theirs::KeyCode, bool)> {
+    use theirs::KeyCode::{Char, Delete, Down, Enter, Insert, Left, Media, Modifier, Right, Up};
+    use theirs::{MediaKeyCode, ModifierKeyCode};
+    Some(match number {
+        57414 => (Enter, true),
+        57415 => (Char('='), true),
+        57417 => (Left, true),
+        57418 => (Right, true),
+        57419 => (Up, true),
+        57420 => (Down, true),
+        57425 => (Insert, true),
+        57426 => (Delete, true),
+        57428 => (Media(MediaKeyCode::Play), false),
+        57429 => (Media(MediaKeyCode::Pause), false),
+        57431 => (Media(MediaKeyCode::Reverse), false),
+        57433 => (Media(MediaKeyCode::FastForward), false),
+        57434 => (Media(MediaKeyCode::Rewind), false),
+        57437 => (Media(MediaKeyCode::Record), false),
+        57445 => (Modifier(ModifierKeyCode::LeftHyper), false),
+        57446 => (Modifier(ModifierKeyCode::LeftMeta), false),
+        57451 => (Modifier(ModifierKeyCode::RightHyper), false),
+        57452 => (Modifier(ModifierKeyCode::RightMeta), false),
+        57453 => (Modifier(ModifierKeyCode::IsoLevel3Shift), false),
+        57454 => (Modifier(ModifierKeyCode::IsoLevel5Shift), false),
+        _ => return None,
+    })
+}
+
+impl TryFrom<ExtendedEvent> for theirs::Event {
+    type Error = ExtendedEvent;
+
+    /// Does what a [`Converter`] does, of which no mouse button was down before.
+    fn try_from(event: ExtendedEvent) -> Result<theirs::Event, ExtendedEvent> {
+        Converter::default().convert(event)
+    }
+}
+
+impl TryFrom<Event> for theirs::Event {
+    type Error = Event;
+
+    /// Does the same. A part of a paste is a paste.
+    fn try_from(event: Event) -> Result<theirs::Event, Event> {
+        match event {
+            Event::Input(event) => theirs::Event::try_from(event).map_err(Event::Input),
+            Event::PastePart(text) => Ok(theirs::Event::Paste(text)),
+            Event::Resized { columns, rows } => Ok(theirs::Event::Resize(columns, rows)),
+            Event::Resumed => Err(event),
+        }
+    }
+}
+
+// The terminal of `read` and `poll`.
+struct Reader {
+    terminal: Terminal,
+    converter: Converter,
+    front: Option<theirs::Event>,
+}
+
+static READER: Mutex<Option<Reader>> = Mutex::new(None);
+
+impl Reader {
+    // The program turns modes on by itself.
+    fn open() -> io::Result<Reader> {
+        Ok(Reader {
+            terminal: Terminal::open_with(Modes::NONE)?,
+            converter: Converter::default(),
+            front: None,
+        })
+    }
+
+    // Waits until an event is at the front, at most for so long. Returns whether one is.
+    fn wait(&mut self, time: Option<Duration>) -> io::Result<bool> {
+        let end = time.and_then(|time| Instant::now().checked_add(time));
+        while self.front.is_none() {
+            if let Some(end) = end {
+                let left = end.saturating_duration_since(Instant::now());
+                if !self.terminal.poll(left)? {
+                    return Ok(false);
+                }
+            }
+            let event = self.terminal.read()?;
+            let event = event.ok_or(io::ErrorKind::UnexpectedEof)?;
+            self.front = self.convert(event)?;
+        }
+        Ok(true)
+    }
+
+    fn convert(&mut self, event: Event) -> io::Result<Option<theirs::Event>> {
+        Ok(match event {
+            Event::Input(event) => self.converter.convert(event).ok(),
+            Event::Resumed => {
+                let (columns, rows) = self.terminal.size()?;
+                Some(theirs::Event::Resize(columns, rows))
+            }
+            event => event.try_into().ok(),
+        })
+    }
+}
+
+fn locked() -> MutexGuard<'static, Option<Reader>> {
+    READER.lock().unwrap_or_else(PoisonError::into_inner)
+}
+
+// Waits until an event is at the front. A signal that ends the program does so once crossterm's raw
+// mode is off.
+fn wait(reader: &mut Option<Reader>, time: Option<Duration>) -> io::Result<bool> {
+    if reader.is_none() {
+        *reader = Some(Reader::open()?);
+    }
+    let opened = reader.as_mut().expect("it is open");
+    let waited = opened.wait(time);
+    if opened.terminal.ending().is_some() {
+        restore();
+        ::crossterm::terminal::disable_raw_mode()?;
+        *reader = None;
+    }
+    waited
+}
+
+/// Waits for an event, as `crossterm::event::read` does. What crossterm's type can't say is left
+/// out. The first call opens the program's terminal, in raw mode; the program turns on what it wants
+/// of it by crossterm's commands, and calls `enable_raw_mode` before.
+///
+/// ```no_run
+/// use hedrugal::crossterm::event::{self, Event};
+///
+/// if let Event::Key(key) = event::read()? {
+///     println!("{:?}", key.code);
+/// }
+/// # Ok::<(), std::io::Error>(())
+/// ```
+///
+/// # Errors
+///
+/// If there is no terminal, if it can't be read, or with `UnexpectedEof` where it is gone.
+pub fn read() -> io::Result<theirs::Event> {
+    let mut reader = locked();
+    wait(&mut reader, None)?;
+    let event = reader.as_mut().and_then(|reader| reader.front.take());
+    event.ok_or_else(|| io::ErrorKind::Interrupted.into())
+}
+
+/// Waits for an event, at most for so long, as `crossterm::event::poll` does. Returns whether
+/// [`read`] returns one at once.
+///
+/// ```no_run
+/// use hedrugal::crossterm::event;
+/// use std::time::Duration;
+///
+/// while !event::poll(Duration::from_millis(250))? {
+///     println!("still nothing");
+/// }
+/// # Ok::<(), std::io::Error>(())
+/// ```
+///
+/// # Errors
+///
+/// Those of [`read`].
+pub fn poll(time: Duration) -> io::Result<bool> {
+    wait(&mut locked(), Some(time))
+}

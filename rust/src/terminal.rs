@@ -1,0 +1,43 @@
+//! A program's terminal: raw mode that is restored whatever ends the program, and its events.
+//!
+//! [`Terminal`] reads events by [`read`](Terminal::read), [`poll`](Terminal::poll) or its iterator,
+//! with the limits in time of its parser, and asks its terminal questions by
+//! [`ask`](Terminal::ask). [`RawMode`] is the guard alone, for a program that reads by itself.
+//!
+//! ```no_run
+//! use hedrugal::terminal::Terminal;
+//!
+//! fn main() -> std::io::Result<()> {
+//!     let mut terminal = Terminal::open()?;
+//!     println!("q ends");
+//!     while let Some(event) = terminal.read()? {
+//!         println!("{event:?}");
+//!         if event.press().is_some_and(|press| press.to_string() == "q") {
+//!             break;
+//!         }
+//!     }
+//!     Ok(())
+//! }
+//! ```
+//!
+//! No other module of this package does input of its own.
+#[cfg(feature = "tokio")]
+mod decoder;
+mod events;
+mod modes;
+mod raw_mode;
+mod reader;
+#[cfg(feature = "mio")]
+mod source;
+#[cfg(feature = "tokio")]
+mod stream;
+mod unix;
+
+#[cfg(feature = "tokio")]
+pub use decoder::EventDecoder;
+pub use events::Event;
+pub use modes::Modes;
+pub use raw_mode::{restore, Heeded, RawMode};
+pub use reader::{Answers, Terminal};
+#[cfg(feature = "tokio")]
+pub use stream::EventStream;

@@ -1,0 +1,139 @@
+// A decoder for the codecs of tokio-util.
+use super::events::{refused, Events};
+use super::{Event, Modes};
+use crate::input::Policy;
+use bytes::BytesMut;
+use std::io;
+use std::time::{Duration, Instant};
+use tokio_util::codec::Decoder;
+
+/// Reads the events of a terminal that is at the other end of a connection, as that of a server for
+/// SSH or telnet. The feature `tokio` has it.
+///
+/// A codec knows no time. So the program waits for the next event and for
+/// [`timeout`](EventDecoder::timeout), whichever comes first, and then calls
+/// [`expire`](EventDecoder::expire).
+///
+/// ```
+/// use bytes::BytesMut;
+/// use hedrugal::terminal::{EventDecoder, Modes};
+/// use std::time::Duration;
+/// use tokio_util::codec::Decoder;
+///
+/// let mut decoder = EventDecoder::new(Modes::default())?;
+/// let mut bytes = BytesMut::from(&b"\x1b[A\x1b"[..]);
+/// let up = decoder.decode(&mut bytes)?.and_then(|event| event.press());
+/// assert_eq!(up.map(|press| press.to_string()).as_deref(), Some("up"));
+/// // ESC may still begin a sequence.
+/// assert_eq!(decoder.decode(&mut bytes)?, None);
+/// assert_eq!(decoder.timeout(), Some(Duration::from_millis(50)));
+/// # Ok::<(), std::io::Error>(())
+/// ```
+#[derive(Debug)]
+pub struct EventDecoder {
+    events: Events,
+}
+
+impl EventDecoder {
+    /// Makes a decoder for a terminal that was sent [`Modes::on`] of these modes.
+    ///
+    /// ```
+    /// use hedrugal::terminal::{EventDecoder, Modes};
+    ///
+    /// let mut decoder = EventDecoder::new(Modes::default())?;
+    /// assert_eq!(decoder.timeout(), None);
+    /// # Ok::<(), std::io::Error>(())
+    /// ```
+    ///
+    /// # Errors
+    ///
+    /// With `OutOfMemory`.
+    pub fn new(modes: Modes) -> io::Result<EventDecoder> {
+        let events = Events::new(&modes).map_err(refused)?;
+        Ok(EventDecoder { events })
+    }
+
+    /// Returns how long to wait for more bytes. `None` is forever.
+    ///
+    /// ```
+    /// use hedrugal::terminal::{EventDecoder, Modes};
+    ///
+    /// let mut decoder = EventDecoder::new(Modes::default())?;
+    /// assert_eq!(decoder.timeout(), None);
+    /// # Ok::<(), std::io::Error>(())
+    /// ```
+    #[must_use]
+    pub fn timeout(&mut self) -> Option<Duration> {
+        self.events.timeout(Instant::now())
+    }
+
+    /// Returns the events of what has waited so long: ESC is the Escape key then.
+    ///
+    /// ```
+    /// use hedrugal::terminal::{EventDecoder, Modes};
+    ///
+    /// let mut decoder = EventDecoder::new(Modes::default())?;
+    /// assert!(decoder.expire()?.is_empty());
+    /// # Ok::<(), std::io::Error>(())
+    /// ```
+    ///
+    /// # Errors
+    ///
+    /// With `OutOfMemory`. No event is lost: call again.
+    pub fn expire(&mut self) -> io::Result<Vec<Event>> {
+        self.events.expire(Instant::now()).map_err(refused)?;
+        let mut expired = Vec::new();
+        while let Some(event) = self.events.next().map_err(refused)? {
+            expired.push(event);
+        }
+        Ok(expired)
+    }
+
+    /// Sets how long each kind of bytes may stay buffered.
+    ///
+    /// ```
+    /// use hedrugal::terminal::{EventDecoder, Modes};
+    ///
+    /// let mut decoder = EventDecoder::new(Modes::default())?;
+    /// decoder.set_policy(hedrugal::input::Policy::usual())?;
+    /// # Ok::<(), std::io::Error>(())
+    /// ```
+    ///
+    /// # Errors
+    ///
+    /// With `OutOfMemory`. The limits are those from before.
+    pub fn set_policy(&mut self, policy: Policy) -> io::Result<()> {
+        self.events.set_policy(policy).map_err(refused)
+    }
+
+    /// Sets above how many bytes a paste comes in parts: before that, a megabyte.
+    ///
+    /// ```
+    /// use hedrugal::terminal::{EventDecoder, Modes};
+    ///
+    /// let mut decoder = EventDecoder::new(Modes::default())?;
+    /// decoder.set_paste_limit(4096);
+    /// # Ok::<(), std::io::Error>(())
+    /// ```
+    pub fn set_paste_limit(&mut self, limit: usize) {
+        self.events.set_paste_limit(limit);
+    }
+}
+
+impl Decoder for EventDecoder {
+    type Item = Event;
+    type Error = io::Error;
+
+    fn decode(&mut self, bytes: &mut BytesMut) -> io::Result<Option<Event>> {
+        self.events.feed(bytes).map_err(refused)?;
+        bytes.clear();
+        self.events.next().map_err(refused)
+    }
+
+    fn decode_eof(&mut self, bytes: &mut BytesMut) -> io::Result<Option<Event>> {
+        self.events.feed(bytes).map_err(refused)?;
+        bytes.clear();
+        self.events.end();
+        self.events.next().map_err(refused)
+    }
+}

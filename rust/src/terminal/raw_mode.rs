@@ -1,0 +1,583 @@
+// Raw mode, and the signals that come meanwhile.
+use super::unix::{self, Action, Settings};
+use super::unix::{SIGALRM, SIGCONT, SIGHUP, SIGINT, SIGQUIT, SIGTERM, SIGTSTP, SIGWINCH};
+use super::Modes;
+use std::ffi::c_int;
+use std::fs::File;
+use std::io::{self, IsTerminal, Read, Write};
+use std::os::fd::{AsFd, AsRawFd, BorrowedFd, RawFd};
+use std::os::unix::net::UnixStream;
+use std::sync::atomic::Ordering::SeqCst;
+use std::sync::atomic::{AtomicBool, AtomicI32, AtomicPtr, AtomicUsize};
+use std::sync::OnceLock;
+use std::{fmt, ptr, thread};
+
+// The terminal of the one guard that there may be, for the handler of signals.
+static ENTERED: AtomicPtr<Entered> = AtomicPtr::new(ptr::null_mut());
+// How many calls use what ENTERED leads to. It is freed when there are none.
+static USERS: AtomicUsize = AtomicUsize::new(0);
+// Whether the terminal is in raw mode, and whether its modes are still to be turned off.
+static IS_RAW: AtomicBool = AtomicBool::new(false);
+static IS_SWITCHED: AtomicBool = AtomicBool::new(false);
+// Signals are noted while the terminal is being set, and where a loop heeds them, unless another
+// program was lent the terminal meanwhile.
+static IS_BUSY: AtomicBool = AtomicBool::new(false);
+static HAS_LOOP: AtomicBool = AtomicBool::new(false);
+static IS_LENT: AtomicBool = AtomicBool::new(false);
+// What was noted.
+static ENDING: AtomicI32 = AtomicI32::new(0);
+static STOPPING: AtomicBool = AtomicBool::new(false);
+static CONTINUED: AtomicBool = AtomicBool::new(false);
+static RESIZED: AtomicBool = AtomicBool::new(false);
+// What the handler writes to, so that a wait of the loop ends. It stays open.
+static WAKE: AtomicI32 = AtomicI32::new(-1);
+
+const HANDLED: [c_int; 7] = [SIGHUP, SIGINT, SIGQUIT, SIGTERM, SIGTSTP, SIGCONT, SIGALRM];
+
+// A terminal that is in raw mode, or was left for another program.
+struct Entered {
+    input: File,
+    output: File,
+    saved: Settings,
+    raw: Settings,
+    on: String,
+    off: String,
+    // The signals that are handled, and what each did before.
+    before: Vec<(c_int, Action)>,
+}
+
+impl Entered {
+    // Sets raw mode. What was typed ahead is kept. Around SIGSTOP the terminal was never left: then
+    // modes are turned off first, since some of them nest.
+    fn enter(&self) -> io::Result<()> {
+        self.raw.apply(self.input.as_raw_fd())?;
+        IS_RAW.store(true, SeqCst);
+        self.turn_off(unix::write_all)?;
+        IS_SWITCHED.store(true, SeqCst);
+        unix::write_all(self.output.as_raw_fd(), self.on.as_bytes())
+    }
+
+    // Restores the terminal, unless another program has it, and discards what it sent meanwhile,
+    // so that no mouse report reaches the shell. One that is gone can't be restored, so errors
+    // count for nothing.
+    fn leave(&self) {
+        if IS_RAW.load(SeqCst) {
+            let _ = io::stdout().flush();
+            let _ = self.turn_off(unix::write_all);
+            let _ = self.saved.apply_and_discard(self.input.as_raw_fd());
+            IS_RAW.store(false, SeqCst);
+        }
+    }
+
+    // Does the same in a handler, where what can't be written at once is left out.
+    fn leave_at_once(&self) {
+        if IS_RAW.swap(false, SeqCst) {
+            let _ = self.turn_off(unix::write_at_once);
+            let _ = self.saved.apply_at_once(self.input.as_raw_fd());
+        }
+    }
+
+    // Not twice, also where a handler interrupts it.
+    fn turn_off(&self, write: fn(RawFd, &[u8]) -> io::Result<()>) -> io::Result<()> {
+        if IS_SWITCHED.swap(false, SeqCst) {
+            write(self.output.as_raw_fd(), self.off.as_bytes())?;
+        }
+        Ok(())
+    }
+
+    // Does what a signal asks for. A handler calls it.
+    fn act(&self, number: c_int) {
+        IS_BUSY.store(true, SeqCst);
+        let was_raw = IS_RAW.load(SeqCst);
+        match number {
+            SIGCONT => {}
+            SIGINT | SIGQUIT if IS_LENT.load(SeqCst) => {} // typed for the other program
+            SIGTSTP => {
+                self.leave_at_once();
+                self.stop();
+            }
+            _ => {
+                self.leave_at_once();
+                self.send_as_before(number);
+            }
+        }
+        // A signal that ends the program comes before raw mode, by which a program in the background
+        // would be stopped once more.
+        if was_raw && ENDING.load(SeqCst) == 0 {
+            let _ = self.enter();
+        }
+        self.settle();
+    }
+
+    // The terminal is set now: does what was noted meanwhile, unless a loop will.
+    fn settle(&self) {
+        IS_BUSY.store(false, SeqCst);
+        if is_noting() {
+            return;
+        }
+        let is_continued = CONTINUED.swap(false, SeqCst);
+        let is_stopping = STOPPING.swap(false, SeqCst);
+        match take_ending() {
+            Some(number) => self.act(number),
+            None if is_stopping => self.act(SIGTSTP),
+            None if is_continued => self.act(SIGCONT),
+            None => {}
+        }
+    }
+
+    // Has a signal do what it did before it was handled.
+    fn send_as_before(&self, number: c_int) {
+        let before = self.before.iter().find(|(it, _)| *it == number);
+        if before.is_some_and(|(_, action)| action.set(number).is_ok()) {
+            unix::send(number);
+            let _ = Action::handled_by(handle).set(number);
+        }
+    }
+
+    // Stops as a program does that handles no SIGTSTP. Returns once it is continued, or at once if no
+    // shell could continue it.
+    fn stop(&self) {
+        self.send_as_before(SIGTSTP);
+        STOPPING.store(false, SeqCst);
+        CONTINUED.store(false, SeqCst);
+    }
+}
+
+fn is_noting() -> bool {
+    IS_BUSY.load(SeqCst) || HAS_LOOP.load(SeqCst) && !IS_LENT.load(SeqCst)
+}
+
+// Calls a function with the terminal of the guard, if there is one.
+fn with_entered(call: impl FnOnce(&Entered)) {
+    USERS.fetch_add(1, SeqCst);
+    // SAFETY: it is freed only once it isn't there for new users, and there are none.
+    if let Some(entered) = unsafe { ENTERED.load(SeqCst).as_ref() } {
+        call(entered);
+    }
+    USERS.fetch_sub(1, SeqCst);
+}
+
+extern "C" fn handle(number: c_int) {
+    unix::keep_errno(|| {
+        with_entered(|entered| match number {
+            SIGALRM => end_at_once(entered),
+            SIGWINCH => note(number),
+            _ if is_noting() => note(number),
+            _ => entered.act(number),
+        });
+    });
+}
+
+// The program still runs a second after a signal that ends it: it may be in a write that blocks.
+fn end_at_once(entered: &Entered) {
+    if let Some(number) = take_ending() {
+        entered.leave_at_once();
+        entered.send_as_before(number);
+    }
+}
+
+fn note(number: c_int) {
+    match number {
+        SIGTSTP => STOPPING.store(true, SeqCst),
+        SIGCONT => CONTINUED.store(true, SeqCst),
+        SIGWINCH => RESIZED.store(true, SeqCst),
+        _ => note_ending(number),
+    }
+    let _ = unix::write_at_once(WAKE.load(SeqCst), b"!"); // a full socket ends the wait as well
+}
+
+fn note_ending(number: c_int) {
+    if ENDING.compare_exchange(0, number, SeqCst, SeqCst).is_ok() {
+        unix::set_alarm(1);
+    }
+}
+
+fn take_ending() -> Option<c_int> {
+    let number = ENDING.swap(0, SeqCst);
+    (number != 0).then(|| {
+        unix::set_alarm(0);
+        number
+    })
+}
+
+// What can be read once a signal was noted.
+fn wake() -> io::Result<&'static UnixStream> {
+    static ENDS: OnceLock<(UnixStream, UnixStream)> = OnceLock::new();
+    let (ours, handlers) = UnixStream::pair()?;
+    ours.set_nonblocking(true)?;
+    handlers.set_nonblocking(true)?;
+    let (ours, handlers) = ENDS.get_or_init(|| (ours, handlers));
+    WAKE.store(handlers.as_raw_fd(), SeqCst);
+    Ok(ours)
+}
+
+// The terminal behind standard input or output, or else that of the session.
+fn terminal_of(standard: impl AsFd + IsTerminal) -> io::Result<File> {
+    if standard.is_terminal() {
+        return Ok(File::from(standard.as_fd().try_clone_to_owned()?));
+    }
+    let opened = File::options().read(true).write(true).open("/dev/tty");
+    opened.map_err(|error| {
+        let told = format!("standard input and output have to be a terminal, or /dev/tty: {error}");
+        io::Error::new(error.kind(), told)
+    })
+}
+
+/// What [`RawMode::heed`] found.
+///
+/// ```no_run
+/// use hedrugal::terminal::{Heeded, Modes, RawMode};
+///
+/// let mut guard = RawMode::noting(Modes::default())?;
+/// let is_over = guard.heed()? == Heeded::Ending;
+/// # Ok::<(), std::io::Error>(())
+/// ```
+#[derive(Debug, Clone, Copy, PartialEq, Eq)]
+pub enum Heeded {
+    /// No signal that asks for anything.
+    Nothing,
+    /// The terminal has a new size.
+    Resized,
+    /// Another program had the terminal: what was buffered before no longer counts, and the size may
+    /// be new.
+    Resumed,
+    /// A signal ends the program, which drops the guard.
+    Ending,
+}
+
+/// A terminal in raw mode, which is restored when this is dropped, also by a panic.
+///
+/// Each byte arrives at once and as it is: ^C, ^Z and ^\ are keys like any other, and Enter is CR. A
+/// line that is written still ends with LF. What [`Modes`] says is turned on, and off again.
+///
+/// The terminal is restored too before SIGHUP, SIGINT, SIGQUIT or SIGTERM does what it did before the
+/// guard, which ends most programs, and before SIGTSTP stops it. After SIGCONT it is in raw mode again, also if SIGSTOP had stopped the
+/// program. A guard of [`RawMode::new`] does all this in the handler of the signal. That of
+/// [`RawMode::noting`] is for a program with a loop, which hears of signals by [`RawMode::heed`].
+/// Once the guard is dropped, these signals do what they did before, and one that was noted is sent
+/// again. SIGALRM is handled too. A signal that was ignored before stays ignored.
+///
+/// A program has one guard at a time. Nothing is restored by SIGKILL, by `abort` or by
+/// `std::process::exit`: call [`restore`] before these, and in a hook for panics that abort.
+///
+/// ```no_run
+/// use hedrugal::terminal::{Modes, RawMode};
+///
+/// let guard = RawMode::new(Modes::default())?;
+/// // The program reads keys.
+/// drop(guard);
+/// # Ok::<(), std::io::Error>(())
+/// ```
+pub struct RawMode {
+    wake: &'static UnixStream,
+}
+
+impl RawMode {
+    /// Sets the terminal to raw mode. It is that of standard input, or `/dev/tty` if standard input
+    /// is none. What turns modes on and off is written to standard output if that is a terminal, or
+    /// else to `/dev/tty`.
+    ///
+    /// ```no_run
+    /// use hedrugal::terminal::{Modes, RawMode};
+    ///
+    /// let guard = RawMode::new(Modes { focus: true, ..Modes::default() })?;
+    /// let (columns, rows) = guard.size()?;
+    /// # Ok::<(), std::io::Error>(())
+    /// ```
+    ///
+    /// # Errors
+    ///
+    /// If there is no terminal, if it can't be set, or if there is a guard already
+    /// ([`AlreadyExists`](io::ErrorKind::AlreadyExists)). The terminal is unchanged then.
+    pub fn new(modes: Modes) -> io::Result<RawMode> {
+        RawMode::begin(modes, false)
+    }
+
+    /// Does what [`RawMode::new`] does, and notes signals for the program's loop, SIGWINCH too.
+    ///
+    /// The program may still run a second after a signal that ends it, as in a write that blocks
+    /// since nobody reads. Then the terminal is restored but for what can't be written at once, and
+    /// the signal ends the program.
+    ///
+    /// ```no_run
+    /// use hedrugal::terminal::{Modes, RawMode};
+    ///
+    /// let guard = RawMode::noting(Modes::default())?;
+    /// // The program's loop waits for these two.
+    /// let descriptors = [std::os::fd::AsFd::as_fd(guard.input()), guard.wake()];
+    /// # Ok::<(), std::io::Error>(())
+    /// ```
+    ///
+    /// # Errors
+    ///
+    /// Those of [`RawMode::new`].
+    pub fn noting(modes: Modes) -> io::Result<RawMode> {
+        RawMode::begin(modes, true)
+    }
+
+    fn begin(modes: Modes, has_loop: bool) -> io::Result<RawMode> {
+        let wake = wake()?;
+        claim(Entered::find(modes, has_loop)?)?;
+        IS_BUSY.store(true, SeqCst);
+        HAS_LOOP.store(has_loop, SeqCst);
+        let guard = RawMode { wake };
+        for (number, _) in &guard.entered().before {
+            Action::handled_by(handle).set(*number)?;
+        }
+        guard.entered().enter()?;
+        guard.entered().settle();
+        Ok(guard)
+    }
+
+    fn entered(&self) -> &Entered {
+        // SAFETY: this guard, which is borrowed, put it there, and takes it away when it is dropped.
+        unsafe { &*ENTERED.load(SeqCst) }
+    }
+
+    /// Returns the terminal's columns and rows.
+    ///
+    /// ```no_run
+    /// use hedrugal::terminal::{Modes, RawMode};
+    ///
+    /// let (columns, rows) = RawMode::new(Modes::default())?.size()?;
+    /// # Ok::<(), std::io::Error>(())
+    /// ```
+    ///
+    /// # Errors
+    ///
+    /// If the terminal is gone.
+    pub fn size(&self) -> io::Result<(u16, u16)> {
+        unix::size(self.output().as_raw_fd())
+    }
+
+    /// Returns the terminal to read from. A program reads it by [`Read`] of `&File`, or by its
+    /// descriptor.
+    ///
+    /// ```no_run
+    /// use hedrugal::terminal::{Modes, RawMode};
+    /// use std::io::Read;
+    ///
+    /// let guard = RawMode::new(Modes::default())?;
+    /// let count = guard.input().read(&mut [0; 4096])?;
+    /// # Ok::<(), std::io::Error>(())
+    /// ```
+    #[must_use]
+    pub fn input(&self) -> &File {
+        &self.entered().input
+    }
+
+    /// Returns the terminal to write to, also if standard output is none.
+    ///
+    /// ```no_run
+    /// use hedrugal::terminal::{Modes, RawMode};
+    /// use std::io::Write;
+    ///
+    /// let guard = RawMode::new(Modes::default())?;
+    /// writeln!(guard.output(), "q ends")?;
+    /// # Ok::<(), std::io::Error>(())
+    /// ```
+    #[must_use]
+    pub fn output(&self) -> &File {
+        &self.entered().output
+    }
+
+    /// Returns what can be read once a signal was noted, for a loop that waits for several
+    /// descriptors. The loop then calls [`RawMode::heed`], and reads nothing of it.
+    ///
+    /// ```no_run
+    /// use hedrugal::terminal::{Modes, RawMode};
+    /// use std::os::fd::AsRawFd;
+    ///
+    /// let guard = RawMode::noting(Modes::default())?;
+    /// println!("{}", guard.wake().as_raw_fd());
+    /// # Ok::<(), std::io::Error>(())
+    /// ```
+    #[must_use]
+    pub fn wake(&self) -> BorrowedFd<'_> {
+        self.wake.as_fd()
+    }
+
+    /// Does what the signals that were noted ask for. SIGTSTP stops the program in this call, while a
+    /// shell has the terminal as it was.
+    ///
+    /// ```no_run
+    /// use hedrugal::terminal::{Heeded, Modes, RawMode};
+    ///
+    /// let mut guard = RawMode::noting(Modes::default())?;
+    /// // The loop found that `guard.wake()` can be read.
+    /// if guard.heed()? == Heeded::Resized {
+    ///     println!("{:?}", guard.size()?);
+    /// }
+    /// # Ok::<(), std::io::Error>(())
+    /// ```
+    ///
+    /// # Errors
+    ///
+    /// If raw mode can't be set again.
+    pub fn heed(&mut self) -> io::Result<Heeded> {
+        while self.wake.read(&mut [0; 64]).is_ok() {}
+        let is_stopping = STOPPING.load(SeqCst) && self.ending().is_none();
+        if is_stopping {
+            self.entered().leave();
+            self.entered().stop();
+        }
+        if self.ending().is_some() {
+            return Ok(Heeded::Ending); // before raw mode is set once more
+        }
+        if CONTINUED.swap(false, SeqCst) || is_stopping {
+            RESIZED.store(false, SeqCst);
+            self.entered().enter()?;
+            return Ok(Heeded::Resumed);
+        }
+        if RESIZED.swap(false, SeqCst) {
+            return Ok(Heeded::Resized);
+        }
+        Ok(Heeded::Nothing)
+    }
+
+    /// Returns the signal that ends the program, if one was noted.
+    ///
+    /// ```no_run
+    /// use hedrugal::terminal::{Modes, RawMode};
+    ///
+    /// let guard = RawMode::noting(Modes::default())?;
+    /// assert_eq!(guard.ending(), None);
+    /// # Ok::<(), std::io::Error>(())
+    /// ```
+    #[must_use]
+    pub fn ending(&self) -> Option<i32> {
+        Some(ENDING.load(SeqCst)).filter(|number| *number != 0)
+    }
+
+    /// Lends the terminal as it was to what a function runs, such as an editor, and then sets raw
+    /// mode again, whatever that did to the settings. Meanwhile SIGINT and SIGQUIT aren't for this
+    /// program, and other signals do at once what they ask for.
+    ///
+    /// ```no_run
+    /// use hedrugal::terminal::{Modes, RawMode};
+    /// use std::process::Command;
+    ///
+    /// let mut guard = RawMode::new(Modes::default())?;
+    /// let status = guard.lend(|| Command::new("vi").status())??;
+    /// # Ok::<(), std::io::Error>(())
+    /// ```
+    ///
+    /// # Errors
+    ///
+    /// If raw mode can't be set again.
+    pub fn lend<T>(&mut self, call: impl FnOnce() -> T) -> io::Result<T> {
+        IS_BUSY.store(true, SeqCst);
+        self.entered().leave();
+        IS_LENT.store(true, SeqCst);
+        self.entered().settle();
+        let done = call();
+        IS_BUSY.store(true, SeqCst);
+        IS_LENT.store(false, SeqCst);
+        self.entered().enter()?;
+        self.entered().settle();
+        Ok(done)
+    }
+}
+
+impl Entered {
+    // The terminal of this program, as it is before raw mode.
+    fn find(modes: Modes, has_loop: bool) -> io::Result<Entered> {
+        let input = terminal_of(io::stdin())?;
+        let output = terminal_of(io::stdout())?;
+        let saved = Settings::of(input.as_raw_fd())?;
+        let signals = HANDLED.into_iter().chain(has_loop.then_some(SIGWINCH));
+        let actions: io::Result<Vec<_>> = signals
+            .map(|number| Action::of(number).map(|action| (number, action)))
+            .collect();
+        let mut before = actions?;
+        before.retain(|(_, action)| !action.is_ignored());
+        Ok(Entered {
+            before,
+            input,
+            output,
+            saved,
+            raw: saved.to_raw(),
+            on: modes.on(),
+            off: modes.off(),
+        })
+    }
+}
+
+// Makes it the terminal of the one guard, if there is no other.
+fn claim(entered: Entered) -> io::Result<()> {
+    let entered = Box::into_raw(Box::new(entered));
+    let claimed = ENTERED.compare_exchange(ptr::null_mut(), entered, SeqCst, SeqCst);
+    claimed.map(|_| ()).map_err(|_| {
+        // SAFETY: nobody else has it.
+        drop(unsafe { Box::from_raw(entered) });
+        let told = "the terminal is in raw mode by another guard";
+        io::Error::new(io::ErrorKind::AlreadyExists, told)
+    })
+}
+
+/// Restores the terminal of a guard, if there is one. It isn't left twice: the guard then only has
+/// the signals do what they did before.
+///
+/// Call it before what drops no guard, and in a hook for panics, so that their messages are written
+/// to a terminal as it was:
+///
+/// ```
+/// use hedrugal::terminal::restore;
+/// use std::panic;
+///
+/// let hook = panic::take_hook();
+/// panic::set_hook(Box::new(move |panic| {
+///     restore();
+///     hook(panic);
+/// }));
+/// ```
+pub fn restore() {
+    with_entered(Entered::leave);
+}
+
+impl Drop for RawMode {
+    fn drop(&mut self) {
+        IS_BUSY.store(true, SeqCst);
+        self.entered().leave();
+        for (number, before) in &self.entered().before {
+            let _ = before.set(*number);
+        }
+        let entered = ENTERED.swap(ptr::null_mut(), SeqCst);
+        while USERS.load(SeqCst) > 0 {
+            thread::yield_now();
+        }
+        // SAFETY: this guard put it there, and no handler has it any more.
+        drop(unsafe { Box::from_raw(entered) });
+        send_noted();
+    }
+}
+
+// Sends what was noted and not heeded to what handles it now.
+fn send_noted() {
+    for flag in [
+        &IS_BUSY,
+        &HAS_LOOP,
+        &IS_LENT,
+        &IS_SWITCHED,
+        &CONTINUED,
+        &RESIZED,
+    ] {
+        flag.store(false, SeqCst);
+    }
+    let is_stopping = STOPPING.swap(false, SeqCst);
+    match take_ending() {
+        Some(number) => unix::send(number),
+        None if is_stopping => unix::send(SIGTSTP),
+        None => {}
+    }
+}
+
+impl fmt::Debug for RawMode {
+    fn fmt(&self, f: &mut fmt::Formatter<'_>) -> fmt::Result {
+        let entered = self.entered();
+        f.debug_struct("RawMode")
+            .field("input", &entered.input)
+            .field("output", &entered.output)
+            .finish_non_exhaustive()
+    }
+}

@@ -1,0 +1,450 @@
+// A terminal that a program reads events from.
+use super::events::{refused, Events};
+use super::unix::{self, EIO};
+use super::{Event, Heeded, Modes, RawMode};
+use crate::extended::ExtendedEvent;
+use crate::input::Policy;
+use std::collections::VecDeque;
+use std::fmt;
+use std::io::{self, ErrorKind, Read, Write};
+use std::os::fd::{AsFd, AsRawFd, BorrowedFd};
+use std::time::{Duration, Instant};
+
+/// What [`Terminal::ask`] was answered.
+///
+/// ```no_run
+/// use hedrugal::terminal::Terminal;
+/// use std::time::Duration;
+///
+/// let answers = Terminal::open()?.ask("\x1b[>q", Duration::from_secs(1))?;
+/// if !answers.is_whole {
+///     println!("the terminal answers slowly, or not at all");
+/// }
+/// # Ok::<(), std::io::Error>(())
+/// ```
+#[derive(Debug, Clone, PartialEq, Eq)]
+pub struct Answers {
+    /// The replies, in their order: `Csi`, `Osc`, `Dcs`, `Apc`, `StringPart`, `StringCut`,
+    /// `CursorPosition` and `KeyboardFlags`.
+    pub events: Vec<ExtendedEvent>,
+    /// Whether the last question, for the attributes, was answered: no reply is missing then but to
+    /// questions that the terminal doesn't know.
+    pub is_whole: bool,
+}
+
+/// A terminal in raw mode, and its events. It is restored when this is dropped, as [`RawMode`] says.
+///
+/// Keys, mouse reports, pastes and replies are read by an
+/// [`ExtendedParser`](crate::extended::ExtendedParser) with its limits in time, so Escape alone
+/// comes 50 ms after it was pressed. A paste above a megabyte comes in parts. A new size is an event
+/// too. SIGTSTP stops the program in the call that waits for events.
+///
+/// SIGHUP, SIGINT, SIGQUIT or SIGTERM ends the events, as the end of the input does. The program
+/// then saves what it has to, within a second, and drops the terminal. That restores it, and sends
+/// the signal again, which ends the program.
+///
+/// ```no_run
+/// use hedrugal::input::MouseTracking;
+/// use hedrugal::terminal::{Modes, Terminal};
+///
+/// let terminal = Terminal::open_with(Modes {
+///     mouse: Some(MouseTracking::Normal),
+///     ..Modes::default()
+/// })?;
+/// for event in terminal {
+///     println!("{:?}", event?);
+/// }
+/// # Ok::<(), std::io::Error>(())
+/// ```
+pub struct Terminal {
+    events: Events,
+    // What was read and refused memory by the parser.
+    unfed: Vec<u8>,
+    raw_mode: RawMode,
+}
+
+impl Terminal {
+    /// Sets the program's terminal to raw mode with bracketed paste.
+    ///
+    /// ```no_run
+    /// use hedrugal::terminal::Terminal;
+    ///
+    /// let mut terminal = Terminal::open()?;
+    /// println!("{:?}", terminal.read()?);
+    /// # Ok::<(), std::io::Error>(())
+    /// ```
+    ///
+    /// # Errors
+    ///
+    /// Those of [`RawMode::new`], or `OutOfMemory`.
+    pub fn open() -> io::Result<Terminal> {
+        Terminal::open_with(Modes::default())
+    }
+
+    /// Sets the program's terminal to raw mode with these modes.
+    ///
+    /// ```no_run
+    /// use hedrugal::terminal::{Modes, Terminal};
+    ///
+    /// let terminal = Terminal::open_with(Modes { focus: true, ..Modes::default() })?;
+    /// # Ok::<(), std::io::Error>(())
+    /// ```
+    ///
+    /// # Errors
+    ///
+    /// Those of [`Terminal::open`].
+    pub fn open_with(modes: Modes) -> io::Result<Terminal> {
+        Ok(Terminal {
+            events: Events::new(&modes).map_err(refused)?,
+            unfed: Vec::new(),
+            raw_mode: RawMode::noting(modes)?,
+        })
+    }
+
+    /// Waits for an event. Returns `None` at the end of the input, where the terminal is gone, and
+    /// where a signal ends the program.
+    ///
+    /// ```no_run
+    /// use hedrugal::terminal::Terminal;
+    ///
+    /// let mut terminal = Terminal::open()?;
+    /// while let Some(event) = terminal.read()? {
+    ///     println!("{event:?}");
+    /// }
+    /// # Ok::<(), std::io::Error>(())
+    /// ```
+    ///
+    /// # Errors
+    ///
+    /// If the terminal can't be read, or with `OutOfMemory`. No event is lost: call again.
+    pub fn read(&mut self) -> io::Result<Option<Event>> {
+        self.read_until(None)
+    }
+
+    /// Waits for an event, at most for so long. Returns whether [`Terminal::read`] returns at once:
+    /// an event is there, or there will be none.
+    ///
+    /// ```no_run
+    /// use hedrugal::terminal::Terminal;
+    /// use std::time::Duration;
+    ///
+    /// let mut terminal = Terminal::open()?;
+    /// if !terminal.poll(Duration::from_secs(1))? {
+    ///     println!("still nothing");
+    /// }
+    /// # Ok::<(), std::io::Error>(())
+    /// ```
+    ///
+    /// # Errors
+    ///
+    /// Those of [`Terminal::read`].
+    pub fn poll(&mut self, time: Duration) -> io::Result<bool> {
+        let event = self.read_until(Some(time))?;
+        let is_there = event.is_some() || self.is_over();
+        self.events.put_back(event.into_iter());
+        Ok(is_there)
+    }
+
+    /// Asks the terminal, and waits for its replies, at most for so long. Other events that come
+    /// meanwhile stay for [`Terminal::read`].
+    ///
+    /// A terminal doesn't reply to a question that it doesn't know. So ESC `[c`, to which all reply,
+    /// is asked last, and the call returns as soon as that is answered. Each ESC `[6n` in the
+    /// questions is expected to be answered by a position, whose bytes may be those of an F3.
+    ///
+    /// ```no_run
+    /// use hedrugal::extended::ExtendedEvent;
+    /// use hedrugal::terminal::Terminal;
+    /// use std::time::Duration;
+    ///
+    /// let mut terminal = Terminal::open()?;
+    /// for reply in terminal.ask("\x1b[6n\x1b]11;?\x1b\\", Duration::from_secs(1))?.events {
+    ///     if let ExtendedEvent::CursorPosition { row, column } = reply {
+    ///         println!("cursor in row {row}, column {column}");
+    ///     } else if let Some(reply) = reply.reply() {
+    ///         println!("{reply:?}");
+    ///     }
+    /// }
+    /// # Ok::<(), std::io::Error>(())
+    /// ```
+    ///
+    /// # Errors
+    ///
+    /// Those of [`Terminal::read`], or if the questions can't be written.
+    pub fn ask(&mut self, questions: &str, time: Duration) -> io::Result<Answers> {
+        io::stdout().flush()?;
+        for _ in questions.matches("\x1b[6n") {
+            self.events.parser().expect_position();
+        }
+        self.raw_mode.output().write_all(questions.as_bytes())?;
+        self.raw_mode.output().write_all(b"\x1b[c")?;
+        let mut others = VecDeque::new();
+        let answers = self.read_answers(Instant::now() + time, &mut others);
+        self.events.put_back(others.into_iter());
+        self.events.parser().forget_positions();
+        answers
+    }
+
+    fn read_answers(&mut self, end: Instant, others: &mut VecDeque<Event>) -> io::Result<Answers> {
+        let mut answers = Answers {
+            events: Vec::new(),
+            is_whole: false,
+        };
+        while !answers.is_whole {
+            let left = end.saturating_duration_since(Instant::now());
+            let Some(event) = self.read_until(Some(left))? else {
+                break;
+            };
+            answers.is_whole = event.is_attributes();
+            match event {
+                Event::Input(reply) if event.is_reply() => answers.events.push(reply),
+                other => others.push_back(other),
+            }
+        }
+        Ok(answers)
+    }
+
+    /// Lends the terminal as it was to what a function runs, such as an editor, as
+    /// [`RawMode::lend`] does. What was typed before and is no event yet no longer counts.
+    ///
+    /// ```no_run
+    /// use hedrugal::terminal::Terminal;
+    ///
+    /// let mut terminal = Terminal::open()?;
+    /// let status = terminal.lend(|| std::process::Command::new("vi").status())??;
+    /// # Ok::<(), std::io::Error>(())
+    /// ```
+    ///
+    /// # Errors
+    ///
+    /// If raw mode can't be set again.
+    pub fn lend<T>(&mut self, call: impl FnOnce() -> T) -> io::Result<T> {
+        let done = self.raw_mode.lend(call)?;
+        self.events.parser().reset();
+        Ok(done)
+    }
+
+    /// Returns the terminal's columns and rows.
+    ///
+    /// ```no_run
+    /// use hedrugal::terminal::Terminal;
+    ///
+    /// let mut terminal = Terminal::open()?;
+    /// let (columns, rows) = terminal.size()?;
+    /// # Ok::<(), std::io::Error>(())
+    /// ```
+    ///
+    /// # Errors
+    ///
+    /// If the terminal is gone.
+    pub fn size(&self) -> io::Result<(u16, u16)> {
+        self.raw_mode.size()
+    }
+
+    /// Returns the signal that ends the program, if one came.
+    ///
+    /// ```no_run
+    /// use hedrugal::terminal::Terminal;
+    ///
+    /// let mut terminal = Terminal::open()?;
+    /// assert_eq!(terminal.ending(), None);
+    /// # Ok::<(), std::io::Error>(())
+    /// ```
+    #[must_use]
+    pub fn ending(&self) -> Option<i32> {
+        self.raw_mode.ending()
+    }
+
+    /// Returns the guard, by which a program also writes to its terminal where standard output is
+    /// none.
+    ///
+    /// ```no_run
+    /// use hedrugal::terminal::Terminal;
+    ///
+    /// let mut terminal = Terminal::open()?;
+    /// std::io::Write::write_all(&mut terminal.raw_mode().output(), b"q ends\n")?;
+    /// # Ok::<(), std::io::Error>(())
+    /// ```
+    #[must_use]
+    pub fn raw_mode(&self) -> &RawMode {
+        &self.raw_mode
+    }
+
+    /// Sets how long each kind of bytes may stay buffered. Before that, the limits are those of
+    /// [`Policy::usual`].
+    ///
+    /// ```no_run
+    /// use hedrugal::input::Policy;
+    /// use hedrugal::terminal::Terminal;
+    /// use std::time::Duration;
+    ///
+    /// let escape = Some(Duration::from_millis(20));
+    /// Terminal::open()?.set_policy(Policy { escape, ..Policy::usual() })?;
+    /// # Ok::<(), std::io::Error>(())
+    /// ```
+    ///
+    /// # Errors
+    ///
+    /// With `OutOfMemory`. The limits are those from before.
+    pub fn set_policy(&mut self, policy: Policy) -> io::Result<()> {
+        self.events.set_policy(policy).map_err(refused)
+    }
+
+    /// Sets above how many bytes a paste comes in parts: before that, a megabyte.
+    ///
+    /// ```no_run
+    /// use hedrugal::terminal::Terminal;
+    ///
+    /// let mut terminal = Terminal::open()?;
+    /// terminal.set_paste_limit(4096);
+    /// # Ok::<(), std::io::Error>(())
+    /// ```
+    pub fn set_paste_limit(&mut self, limit: usize) {
+        self.events.set_paste_limit(limit);
+    }
+
+    /// Returns how long a loop of the program's own may wait at most. `None` is forever.
+    ///
+    /// Such a loop waits until one of [`Terminal::descriptors`] can be read, or this time is over.
+    /// Then it calls [`Terminal::poll`] with no time, and [`Terminal::read`], until there is no event.
+    ///
+    /// ```no_run
+    /// use hedrugal::terminal::Terminal;
+    ///
+    /// let mut terminal = Terminal::open()?;
+    /// assert_eq!(terminal.timeout(), None);
+    /// # Ok::<(), std::io::Error>(())
+    /// ```
+    #[must_use]
+    pub fn timeout(&mut self) -> Option<Duration> {
+        self.events.timeout(Instant::now())
+    }
+
+    /// Returns what a loop of the program's own waits for: the terminal, and the signals that came.
+    ///
+    /// ```no_run
+    /// use hedrugal::terminal::Terminal;
+    ///
+    /// let mut terminal = Terminal::open()?;
+    /// let [input, signals] = terminal.descriptors();
+    /// # Ok::<(), std::io::Error>(())
+    /// ```
+    #[must_use]
+    pub fn descriptors(&self) -> [BorrowedFd<'_>; 2] {
+        [self.raw_mode.input().as_fd(), self.raw_mode.wake()]
+    }
+
+    // The next event, if it comes within this time.
+    fn read_until(&mut self, time: Option<Duration>) -> io::Result<Option<Event>> {
+        let end = time.and_then(|time| Instant::now().checked_add(time));
+        loop {
+            let event = self.next_event()?;
+            if event.is_some() || self.is_over() {
+                return Ok(event);
+            }
+            let left = end.map(|end| end.saturating_duration_since(Instant::now()));
+            if !self.wait(left)? && left == Some(Duration::ZERO) {
+                return self.next_event();
+            }
+        }
+    }
+
+    // Whether no event comes any more.
+    pub(crate) fn is_over(&self) -> bool {
+        self.events.is_ended() || self.raw_mode.ending().is_some()
+    }
+
+    // An event that is there.
+    pub(crate) fn next_event(&mut self) -> io::Result<Option<Event>> {
+        if !self.unfed.is_empty() {
+            self.events.feed(&self.unfed).map_err(refused)?;
+            self.unfed.clear();
+        }
+        self.events.next().map_err(refused)
+    }
+
+    // Waits for input, a signal or a limit in time, at most for so long. Bytes that are there go
+    // before a limit, since they may complete what is overdue. Returns whether input or a signal
+    // came.
+    fn wait(&mut self, time: Option<Duration>) -> io::Result<bool> {
+        let limits = [time, self.timeout()];
+        let came = self.handle_ready(limits.into_iter().flatten().min())?;
+        if !came {
+            self.expire()?;
+        }
+        Ok(came)
+    }
+
+    // Waits for input or a signal, and handles it. Returns whether one came.
+    pub(crate) fn handle_ready(&mut self, time: Option<Duration>) -> io::Result<bool> {
+        match self.is_ready(time)? {
+            [_, true] => self.heed()?,
+            [true, false] => self.read_input()?,
+            [false, false] => return Ok(false),
+        }
+        Ok(true)
+    }
+
+    // Whether there is input, and whether a signal came.
+    fn is_ready(&self, time: Option<Duration>) -> io::Result<[bool; 2]> {
+        let polled = self.descriptors().map(|it| it.as_raw_fd());
+        match unix::poll_all(polled, time) {
+            Err(error) if error.kind() == ErrorKind::Interrupted => Ok([false, true]),
+            ready => ready,
+        }
+    }
+
+    fn heed(&mut self) -> io::Result<()> {
+        match self.raw_mode.heed()? {
+            Heeded::Resumed => {
+                self.events.parser().reset();
+                self.events.push(Event::Resumed);
+            }
+            Heeded::Resized => self.note_size(),
+            Heeded::Nothing | Heeded::Ending => {}
+        }
+        Ok(())
+    }
+
+    // One that is gone has no size, which the next read tells.
+    fn note_size(&mut self) {
+        if let Ok((columns, rows)) = self.size() {
+            self.events.push(Event::Resized { columns, rows });
+        }
+    }
+
+    pub(crate) fn expire(&mut self) -> io::Result<()> {
+        self.events.expire(Instant::now()).map_err(refused)
+    }
+
+    // Reads what is there. A terminal that is gone is at its end.
+    fn read_input(&mut self) -> io::Result<()> {
+        let mut bytes = [0; 4096];
+        match self.raw_mode.input().read(&mut bytes) {
+            Ok(0) => self.events.end(),
+            Ok(count) => self.unfed.extend_from_slice(&bytes[..count]),
+            Err(error) if error.raw_os_error() == Some(EIO) => self.events.end(),
+            Err(error)
+                if matches!(error.kind(), ErrorKind::WouldBlock | ErrorKind::Interrupted) => {}
+            Err(error) => return Err(error),
+        }
+        Ok(())
+    }
+}
+
+impl Iterator for Terminal {
+    type Item = io::Result<Event>;
+
+    /// Does what [`Terminal::read`] does.
+    fn next(&mut self) -> Option<io::Result<Event>> {
+        self.read().transpose()
+    }
+}
+
+impl fmt::Debug for Terminal {
+    fn fmt(&self, f: &mut fmt::Formatter<'_>) -> fmt::Result {
+        f.debug_struct("Terminal")
+            .field("raw_mode", &self.raw_mode)
+            .finish_non_exhaustive()
+    }
+}

@@ -1,0 +1,128 @@
+// The decoder for the codecs of tokio-util, which the feature `tokio` has. The stream is tested on a
+// pseudo-terminal, by examples/with/stream.rs.
+use bytes::BytesMut;
+use hedrugal::terminal::{Event, EventDecoder, Modes};
+use std::future::poll_fn;
+use std::pin::Pin;
+use std::time::Duration;
+use tokio::io::{duplex, AsyncWriteExt};
+use tokio_util::codec::{Decoder, FramedRead};
+
+const SENT: &[u8] = b"a\x1b[A\x1b[200~text\x1b[201~\x1b[24;80R\x1b]11;rgb:1/2/3\x1b\\\xc3\xa9\x1b";
+
+fn decoder() -> EventDecoder {
+    EventDecoder::new(Modes::default()).expect("memory is granted")
+}
+
+fn decode(decoder: &mut EventDecoder, bytes: &[u8], is_end: bool) -> Vec<Event> {
+    let mut bytes = BytesMut::from(bytes);
+    let next = || {
+        let decoded = if is_end {
+            decoder.decode_eof(&mut bytes)
+        } else {
+            decoder.decode(&mut bytes)
+        };
+        decoded.expect("memory is granted")
+    };
+    std::iter::from_fn(next).collect()
+}
+
+fn names(events: &[Event]) -> Vec<String> {
+    events
+        .iter()
+        .map(|event| match event.press() {
+            Some(press) => press.to_string(),
+            None => format!("{event:?}"),
+        })
+        .collect()
+}
+
+fn wanted() -> Vec<String> {
+    [
+        "a",
+        "up",
+        "Input(Input(Paste(\"text\")))",
+        "Input(CursorPosition { row: 24, column: 80 })",
+        "Input(Osc([49, 49, 59, 114, 103, 98, 58, 49, 47, 50, 47, 51]))",
+        "é",
+        "escape",
+    ]
+    .map(String::from)
+    .to_vec()
+}
+
+#[test]
+fn decodes_however_bytes_are_cut() {
+    for size in [1, 2, 3, 7, SENT.len()] {
+        let mut decoder = decoder();
+        let mut events = Vec::new();
+        for bytes in SENT.chunks(size) {
+            events.extend(decode(&mut decoder, bytes, false));
+        }
+        events.extend(decode(&mut decoder, b"", true));
+        assert_eq!(names(&events), wanted(), "reads of {size}");
+    }
+}
+
+#[test]
+fn ends_an_open_paste_at_the_end() {
+    let events = decode(&mut decoder(), b"\x1b[200~text\x1b[20", true);
+    assert_eq!(names(&events), ["Input(Input(Paste(\"text\\u{1b}[20\")))"]);
+}
+
+#[test]
+fn gives_a_long_paste_in_parts() {
+    let mut decoder = decoder();
+    decoder.set_paste_limit(3);
+    let events = decode(&mut decoder, b"\x1b[200~text", false);
+    assert_eq!(events, [Event::PastePart("text".to_string())]);
+    let events = decode(&mut decoder, b"s\x1b[201~", false);
+    assert_eq!(names(&events), ["Input(Input(Paste(\"s\")))"]);
+}
+
+#[test]
+fn reads_by_kittys_protocol_once_a_reply_came() {
+    let modes = Modes {
+        keyboard: hedrugal::input::KittyKeyboardFlags::REPORT_EVENT_TYPES,
+        ..Modes::default()
+    };
+    let mut decoder = EventDecoder::new(modes).expect("memory is granted");
+    let events = decode(&mut decoder, b"\x1b[1;5R\x1b[?2u\x1b[1;5R", false);
+    assert_eq!(
+        names(&events),
+        [
+            "ctrl+f3",
+            "Input(KeyboardFlags(2))",
+            "Input(CursorPosition { row: 1, column: 5 })"
+        ]
+    );
+}
+
+// What a server does: it waits for the next event, and for the limit in time.
+#[tokio::test]
+async fn reads_a_connection_with_limits() {
+    let (mut terminal, server) = duplex(64);
+    let sends = tokio::spawn(async move {
+        terminal.write_all(b"a\x1b").await.expect("it is read");
+        tokio::time::sleep(Duration::from_millis(500)).await;
+        terminal.write_all(b"[A").await.expect("it is read");
+    });
+    let mut frames = FramedRead::new(server, decoder());
+    let mut events = Vec::new();
+    loop {
+        let time = frames.decoder_mut().timeout().unwrap_or(Duration::MAX);
+        let next =
+            poll_fn(|context| futures_core::Stream::poll_next(Pin::new(&mut frames), context));
+        tokio::select! {
+            event = next => match event {
+                Some(event) => events.push(event.expect("memory is granted")),
+                None => break,
+            },
+            () = tokio::time::sleep(time) => {
+                events.extend(frames.decoder_mut().expire().expect("memory is granted"));
+            }
+        }
+    }
+    sends.await.expect("all is sent");
+    assert_eq!(names(&events), ["a", "escape", "[", "A"]);
+}

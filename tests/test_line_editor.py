@@ -1,0 +1,138 @@
+"""prompt_toolkit's line editor over the input of hedrugal.prompt_toolkit, on a pseudo-terminal."""
+import re
+import signal
+import sys
+
+import pytest
+from helpers import listings
+from terminal import END, START, Terminal
+
+PROGRAM = """
+import sys
+from hedrugal.prompt_toolkit import Input
+from prompt_toolkit import PromptSession
+from prompt_toolkit.completion import WordCompleter
+from prompt_toolkit.history import InMemoryHistory
+
+words = WordCompleter(["alpha", "alphabet", "beta"])
+history = InMemoryHistory(["first", "second line"])
+session = PromptSession(
+    "> ", input=Input(), history=history, completer=words, complete_while_typing=False, **{how}
+)
+while True:
+    try:
+        print("got", ascii(session.prompt()), flush=True)
+    except (EOFError, KeyboardInterrupt) as error:
+        print("raised", type(error).__name__, flush=True)
+        break
+"""
+UP, LEFT, ENTER, ESCAPE = b"\033[A", b"\033[D", b"\r", b"\033"
+# What is typed, as bytes and pauses; then the lines that the program gets.
+EMACS = {
+    "text": ([b"a b\xc3\xa9"], ["a bé"]),
+    "keys of a line": ([b"bc\033[Ha\033[Fd\033[D\033[3~"], ["abc"]),
+    "keys with Ctrl": ([b"bc\001a\005d\002\010"], ["abd"]),
+    "a word back and forth": ([b"one two\033bX\033[1;5DY\033fZ"], ["one YXtwoZ"]),
+    "history": ([UP, UP], ["first"]),
+    "a search of the history": ([b"\022sec", 0.2, b"\r"], ["second line"]),
+    "completion": ([b"be\t", "ta"], ["beta"]),
+    "a menu of completions": ([b"al\t", "pha", b"\t", "alphabet", b"\033[B"], ["alphabet"]),
+    "a paste": ([START + b"one\rtwo\033[A" + END], ["one\ntwo\x1b[A"]),
+    "a paste, cut by a pause": ([START + b"on\033", 0.3, b"[De" + END], ["on\x1b[De"]),
+    "an arrow, cut by a pause": ([b"ab\033[1;", 0.7, b"5Dc"], ["cab"]),
+    "a position of the cursor": ([b"a\033[1;5Rb"], ["ab"]),
+    "undo": ([b"a b\027\037"], ["a b"]),
+    "focus and mouse": ([b"a\033[I\033[<0;3;4M\033[<0;3;4mb"], ["ab"]),
+}
+VI = {
+    "insert": ([b"abc"], ["abc"]),
+    "Escape and commands": (
+        [b"one two", ESCAPE, 0.3, b"0cethree", ESCAPE, 0.3, b"$aX"],
+        ["three twoX"],
+    ),
+    "replace": ([b"abc", ESCAPE, 0.3, b"r\xc3\xa9"], ["abé"]),
+    "history": ([ESCAPE, 0.3, b"kk"], ["first"]),
+    "a paste": ([START + b"one\rtwo" + END], ["one\ntwo"]),
+    "Escape and an arrow at once": ([b"abc\033[D\033[Dx"], ["axbc"]),
+}
+
+
+class Prompt(Terminal):
+    def modes(self):
+        """Without those that a terminal begins with: a line wraps, and the cursor is shown."""
+        return super().modes() - {7, 25}
+
+    def lines(self):
+        return re.findall(rb"(?:got|raised) [^\r]*", self.output)
+
+    def answer(self):
+        """Answers the question for the cursor's position, which is written with each prompt."""
+        self.play(["\033[6n", b"\033[1;1R", "\033[?25h"])
+        assert self.is_raw()
+
+    def enter(self, steps):
+        """Types a line, and Enter once its prompt is drawn."""
+        for step in steps:
+            self.play([step])
+        self.play([ENTER, "got "])
+
+
+@pytest.fixture
+def prompt():
+    """Starts a program, and waits for its prompt."""
+    prompts = []
+
+    def start(text):
+        it = Prompt([sys.executable, "-W", "error", "-c", text])
+        prompts.append(it)
+        it.answer()
+        return it
+
+    yield start
+    for it in prompts:
+        it.close()
+
+
+def check(program, steps, lines):
+    program.enter(steps)
+    program.answer()
+    program.play([b"\x04", "raised EOFError"])
+    program.check_end(0)
+    wanted = [f"got {ascii(line)}".encode() for line in lines] + [b"raised EOFError"]
+    assert program.lines() == wanted
+
+
+@pytest.mark.timed
+@pytest.mark.parametrize("steps, lines", EMACS.values(), ids=EMACS)
+def test_emacs(prompt, steps, lines):
+    check(prompt(PROGRAM.format(how={})), steps, lines)
+
+
+@pytest.mark.timed
+@pytest.mark.parametrize("steps, lines", VI.values(), ids=VI)
+def test_vi(prompt, steps, lines):
+    check(prompt(PROGRAM.format(how={"vi_mode": True})), steps, lines)
+
+
+def test_listing(prompt):
+    """That of docs/python.md."""
+    text, printed = listings()[2]
+    program = prompt(text)
+    program.play([b"abc\033[D\177\r", printed.strip()])
+    program.check_end(0)
+
+
+def test_interrupt(prompt):
+    program = prompt(PROGRAM.format(how={}))
+    program.play([b"ab\x03", "raised KeyboardInterrupt"])
+    program.check_end(0)
+
+
+def test_end_of_the_input(prompt):
+    """The terminal is gone."""
+    program = prompt(PROGRAM.format(how={}))
+    program.kill(signal.SIGSTOP)
+    program.wait_for_stop()
+    program.hang_up()
+    program.kill(signal.SIGCONT)
+    program.wait_for_end()

@@ -1,0 +1,674 @@
+"""The module hedrugal.terminal, by small programs on a pseudo-terminal.
+
+Whatever goes wrong, no event is lost, and the terminal's settings and modes are restored. What the
+examples over the module do is in test_live.py, test_edit.py and python/test_terminal.py."""
+import os
+import re
+import select
+import signal
+import subprocess
+import sys
+
+import pytest
+from terminal import END, ENDING_SIGNALS, START, Terminal
+
+PROGRAM = """
+import asyncio, errno, fcntl, os, signal, subprocess, sys, threading, time
+from hedrugal import *
+from hedrugal.terminal import PastePart, Resumed, Terminal
+Q, CTRL_C = KeyEvent("q"), KeyEvent("c", Modifiers.CTRL)
+def show(*events):
+    for event in events:
+        print(event.key if isinstance(event, KeyEvent) else event, flush=True)
+def show_until_q(terminal):
+    for event in terminal:
+        show(event)
+        if event == Q:
+            return
+def ready():
+    print("ready", flush=True)
+"""
+# What switches modes, but for those of DECSET, which tests/terminal.py keeps.
+SWITCH = re.compile(rb"\033\[[?<>]?[\d;]*[hlmnuc]|\033\]11;\?\033\\")
+
+
+class Program(Terminal):
+    FIRST = "ready"
+
+    def lines(self):
+        """The lines that the program printed, without what it asked and switched."""
+        return SWITCH.sub(b"", self.output).decode().split("\r\n")[:-1]
+
+    def ends_with(self, *lines, status=0):
+        self.check_end(status)
+        assert self.lines() == [self.FIRST, *lines]
+
+
+@pytest.fixture
+def run(on_terminal):
+    def start(text, **how):
+        return on_terminal(Program([sys.executable, "-W", "error", "-c", PROGRAM + text], **how))
+
+    return start
+
+
+SHOW = "with Terminal() as terminal: ready(); show_until_q(terminal)"
+
+
+def test_events(run):
+    program = run(SHOW)
+    program.send(b"a\033[A" + START + "é\r".encode() + END + b"\033[24;80R\033[Iq")
+    program.ends_with(
+        *["a", "KeyCode.UP_ARROW", r"Paste(text='é\r')"],
+        *["CursorPosition(row=24, column=80)", "FocusGained()", "q"],
+    )
+
+
+@pytest.mark.timed
+def test_limits(run):
+    """ESC is a key soon, and half a sequence waits for its end."""
+    program = run(SHOW)
+    program.play([b"\033", "KeyCode.ESCAPE\r\n", b"\033[1;", 0.2, b"5Aq"])
+    program.ends_with("KeyCode.ESCAPE", "KeyCode.UP_ARROW", "q")
+
+
+def test_no_modes(run):
+    program = run("with Terminal(paste=False) as terminal: ready(); show_until_q(terminal)")
+    program.send(b"q")
+    program.ends_with("q")
+    assert b"\033" not in program.output
+
+
+MOUSE = {"X10": 9, "NORMAL": 1000, "BUTTON": 1002, "ANY": 1003}
+
+
+@pytest.mark.parametrize("tracking, mode", MOUSE.items(), ids=MOUSE)
+def test_modes(run, tracking, mode):
+    program = run(
+        f"""
+with Terminal(mouse=MouseTracking.{tracking}, focus=True) as terminal:
+    ready()
+    show_until_q(terminal)
+"""
+    )
+    assert program.modes() == {2004, 1004, 1006, mode}
+    program.send(b"q")
+    program.ends_with("q")
+
+
+def test_kitty(run):
+    """Keys are read by Kitty's protocol once the terminal said that it has it, from then on."""
+    program = run(
+        """
+flags = KittyKeyboardFlags.DISAMBIGUATE_ESCAPE_CODES
+enter, leave = b"\\033[?1049h", b"\\033[?1049l"
+with Terminal(kitty=flags, modify_other_keys=2, enter=enter, leave=leave) as terminal:
+    ready()
+    show_until_q(terminal)
+"""
+    )
+    on, off = b"\033[?1049h\033[?2004h\033[>4;2m\033[>1u\033[?u", b"\033[<u\033[>4m\033[?2004l"
+    assert program.output.startswith(on)
+    program.send(b"\033[1;5R\033[?1u\033[1;5Rq")
+    program.ends_with(
+        "Function(number=3)",
+        "KeyboardFlags(flags=KittyKeyboardFlags.DISAMBIGUATE_ESCAPE_CODES, unnamed=0)",
+        "CursorPosition(row=1, column=5)",
+        "q",
+    )
+    assert program.output.endswith(off + b"\033[?1049l")
+
+
+def test_sizes(run):
+    program = run(
+        """
+with Terminal() as terminal:
+    ready()
+    show(terminal.size())
+    show_until_q(terminal)
+"""
+    )
+    program.play(["columns=80, height=0, width=0)\r\n"])
+    program.resize(100, 40)
+    program.play(["columns=100, height=0, width=0)\r\n", b"q"])
+    sizes = [
+        f"Resize(rows={rows}, columns={columns}, height=0, width=0)"
+        for rows, columns in ((24, 80), (40, 100))
+    ]
+    program.ends_with(*sizes, "q")
+
+
+def test_long_paste(run):
+    """It comes in parts, each of which is a Paste too."""
+    program = run(
+        """
+with Terminal(paste_limit=10000) as terminal:
+    ready()
+    parts = []
+    for event in terminal:
+        assert isinstance(event, Paste) == (event != Q), event
+        if event == Q:
+            break
+        parts.append(event)
+assert [type(it) for it in parts[-2:]] == [PastePart, Paste]
+assert "".join(it.text for it in parts) == "q\\033" * 50000
+print(max(len(it.text) for it in parts) < 20000, flush=True)
+"""
+    )
+    program.send(START + b"q\033" * 50000 + END + b"q")
+    program.ends_with("True")
+
+
+WAYS = {
+    "an exception": ("raise KeyError('here')", 1),
+    "SystemExit": ("sys.exit(3)", 3),
+    "SystemExit of a function at the end": (
+        "import atexit; atexit.register(print); sys.exit(3)",
+        3,
+    ),
+    "nothing": ("pass", 0),
+    "no end of the block": ("stack.pop_all()", 0),
+}
+
+
+@pytest.mark.parametrize("statement, status", WAYS.values(), ids=WAYS)
+def test_ways_out(run, statement, status):
+    program = run(
+        f"""
+import contextlib
+with contextlib.ExitStack() as stack:
+    terminal = stack.enter_context(Terminal(mouse=MouseTracking.ANY))
+    ready()
+    show(terminal.read())
+    {statement}
+"""
+    )
+    program.send(b"a")
+    program.check_end(status)
+
+
+@pytest.mark.parametrize("number", ENDING_SIGNALS, ids=lambda it: it.name)
+def test_signals_of_the_program(run, number):
+    """A handler of the program's own is left alone, and may raise what it likes."""
+    program = run(
+        f"""
+def end(*_):
+    sys.exit(7)
+signal.signal({number.value}, end)
+try:
+    with Terminal(mouse=MouseTracking.ANY) as terminal:
+        ready()
+        show_until_q(terminal)
+finally:
+    print(signal.getsignal({number.value}) is end, signal.getsignal(signal.SIGWINCH).name)
+"""
+    )
+    program.kill(number)
+    program.ends_with("True SIG_DFL", status=7)
+
+
+def test_ignored_signal(run):
+    program = run("signal.signal(signal.SIGTERM, signal.SIG_IGN)\n" + SHOW)
+    program.kill(signal.SIGTERM)
+    program.send(b"q")
+    program.ends_with("q")
+
+
+def test_keyboard_interrupt(run):
+    """Ctrl-C is a key. A SIGINT from elsewhere is an exception, as ever."""
+    program = run(
+        """
+signal.signal(signal.SIGINT, signal.default_int_handler)
+with Terminal() as terminal:
+    ready()
+    try:
+        show_until_q(terminal)
+    except KeyboardInterrupt:
+        show("interrupted")
+    show_until_q(terminal)
+"""
+    )
+    program.play([b"a\x03b", "b\r\n"])
+    program.kill(signal.SIGINT)
+    program.play(["interrupted\r\n", b"cq"])
+    program.ends_with("a", "c", "b", "interrupted", "c", "q")
+
+
+def test_signals_in_the_middle(run):
+    """Of a read, of a call of the parser, of a write: nothing is lost."""
+    count = 20000
+    program = run(
+        f"""
+signal.signal(signal.SIGUSR1, lambda *_: None)
+with Terminal() as terminal:
+    ready()
+    wanted = [KeyEvent(chr(97 + at % 16)) for at in range({count})]
+    keys, sizes = [], 0
+    for event in terminal:
+        if event == Q:
+            break
+        if isinstance(event, Resize):
+            sizes += 1
+        else:
+            keys.append(event)
+        if len(keys) % 1000 == 0:
+            terminal.write("." * 1000)
+print("\\n", keys == wanted, sizes > 0, flush=True)
+"""
+    )
+    text = bytes(97 + at % 16 for at in range(count))
+    for at in range(0, count, 500):
+        program.send(text[at : at + 500])
+        program.kill(signal.SIGUSR1)
+        program.kill(signal.SIGWINCH)
+    program.send(b"q")
+    program.check_end(0)
+    assert program.lines()[-1].endswith("True True")
+
+
+def test_descriptor_that_does_not_block(run):
+    """The reads and the writes wait all the same."""
+    program = run(
+        """
+for descriptor in (0, 1):
+    os.set_blocking(descriptor, False)
+with Terminal() as terminal:
+    terminal.write("ready\\n")
+    event = terminal.read()
+    terminal.write("x" * 300000 + "\\n")
+    terminal.write(f"{event.key}\\n")
+    terminal.write(f"{terminal.read().key}\\n")
+"""
+    )
+    program.play([b"a", 0.2, "a\r\n", b"b"])
+    program.check_end(0)
+    assert program.lines() == ["ready", "x" * 300000, "a", "b"]
+
+
+@pytest.mark.parametrize("number", [signal.SIGHUP, signal.SIGTERM], ids=lambda it: it.name)
+def test_signal_while_output_is_blocked(run, number):
+    """Nobody reads what is written. Then it ends soon, and the settings are restored."""
+    program = run(
+        """
+with Terminal() as terminal:
+    ready()
+    terminal.read()
+    terminal.write("x" * 300000)
+"""
+    )
+    program.send(b"a")
+    assert select.select([program.child_fd], [], [], 30)[0]
+    program.kill(number)
+    assert program.told.poll(30)
+    assert program.settings() == program.settings_before
+    assert program.wait_for_end() == -number
+
+
+def test_terminal_that_is_gone(run, tmp_path):
+    """With SIGHUP ignored the events end, after those of what was buffered."""
+    file = tmp_path / "events"
+    program = run(
+        f"""
+signal.signal(signal.SIGHUP, signal.SIG_IGN)
+events = []
+with Terminal() as terminal:
+    ready()
+    show(terminal.read())
+    events += [*terminal]
+    assert terminal.ended and terminal.read() is None
+    try:
+        terminal.write("more")
+    except OSError as error:
+        events.append(error.errno == errno.EIO)
+with open({str(file)!r}, "w") as opened:
+    print(events, file=opened)
+"""
+    )
+    program.play([b"a" + START + b"pasted", "a\r\n"])
+    program.hang_up()
+    assert os.waitstatus_to_exitcode(program.next_status()) == 0
+    program.is_running = False
+    assert file.read_text() == "[Paste(text='pasted'), True]\n"
+
+
+def test_end_of_the_input(run):
+    program = run(SHOW)
+    program.let_end_input()
+    program.send(b"a\033[\x04\x04")
+    program.ends_with("a", "[")
+
+
+def test_not_a_terminal(run, tmp_path):
+    """What isn't is refused, and nothing changes."""
+    program = run(
+        f"""
+ready()
+for descriptors in ({{"output": os.open({str(tmp_path / "file")!r}, os.O_CREAT | os.O_WRONLY)}},
+                    {{"input": os.open("/dev/null", os.O_RDONLY)}}, {{"input": 99}}):
+    try:
+        with Terminal(**descriptors):
+            print("entered")
+    except OSError as error:
+        show(error.errno == errno.ENOTTY)
+{SHOW}
+""".replace(
+            "ready()\nfor", "for"
+        )
+    )
+    program.send(b"q")
+    program.check_end(0)
+    assert program.lines() == ["True", "True", "True", "ready", "q"]
+
+
+def test_no_terminal_at_all():
+    """Standard input is none, and the process has none."""
+    text = "from hedrugal.terminal import Terminal\nTerminal().__enter__()"
+    words = [sys.executable, "-c", text]
+    done = subprocess.run(
+        words,
+        stdin=subprocess.DEVNULL,
+        capture_output=True,
+        text=True,
+        start_new_session=True,
+        timeout=60,
+    )
+    assert (done.returncode, done.stdout) == (1, "") and "'/dev/tty'" in done.stderr
+
+
+def test_input_that_is_a_pipe(run):
+    """Then it is the terminal of the process."""
+    program = run(
+        """
+os.dup2(os.open("/dev/null", os.O_RDONLY), 0)
+"""
+        + SHOW
+    )
+    program.send(b"aq")
+    program.ends_with("a", "q")
+
+
+def test_two_at_once(run):
+    """The second is refused, and the first goes on."""
+    program = run(
+        """
+with Terminal() as terminal:
+    ready()
+    for other in (Terminal(), terminal):
+        try:
+            with other:
+                show("entered")
+        except RuntimeError as error:
+            show(error)
+    show_until_q(terminal)
+with terminal:
+    show_until_q(terminal)
+"""
+    )
+    program.play([b"aq", "a\r\nq\r\n"])
+    program.wait_for(program.is_raw, "raw mode")
+    program.send(b"bq")
+    refused = "a Terminal is entered already"
+    program.ends_with(refused, refused, "a", "q", "b", "q")
+
+
+CHILD = """
+with Terminal(mouse=MouseTracking.ANY) as terminal:
+    ready()
+    show(terminal.read())
+    {with_or_not}:
+        subprocess.run(["sh", "-c", "stty sane -echo; echo child; read line; echo $line"])
+    show_until_q(terminal)
+"""
+
+
+def test_child_in_a_pause(run):
+    """It gets the terminal as it was, and may leave it as it likes."""
+    program = run(CHILD.format(with_or_not="with terminal.paused()"))
+    program.play([b"a", "child\r\n"])
+    assert not program.modes() and not program.is_raw()
+    program.play([b"typed\n", "typed\r\n"])
+    program.wait_for(lambda: program.modes() == {1003, 1006, 2004}, "modes")
+    assert program.is_raw()
+    program.send(b"bq")
+    program.ends_with("a", "child", "typed", "b", "q")
+
+
+def test_child_that_changes_the_modes(run):
+    """Without a pause it gets lines, and the program too. At the end the settings are those from
+    before."""
+    program = run(CHILD.format(with_or_not="if True"))
+    program.play([b"a", "child\r\n", b"typed\n", "typed\r\n", b"bq\n"])
+    program.ends_with("a", "child", "typed", "b", "q")
+
+
+def test_forked_process(run):
+    """It leaves the terminal to its parent, by whatever way it ends."""
+    program = run(
+        """
+with Terminal(mouse=MouseTracking.ANY) as terminal:
+    ready()
+    for number in (0, signal.SIGTERM):
+        child = os.fork()
+        if not child:
+            if number:
+                os.kill(os.getpid(), number)
+            sys.exit(5)
+        show(os.waitstatus_to_exitcode(os.waitpid(child, 0)[1]))
+    show_until_q(terminal)
+"""
+    )
+    program.play([f"5\r\n{-signal.SIGTERM}\r\n"])
+    assert program.is_raw() and program.modes() == {1003, 1006, 2004}
+    program.send(b"q")
+    program.ends_with("5", str(-signal.SIGTERM), "q")
+
+
+def test_thread(run):
+    """A thread may enter it. The signals are then left alone."""
+    program = run(
+        f"""
+def work():
+    {SHOW}
+thread = threading.Thread(target=work)
+thread.start()
+thread.join()
+"""
+    )
+    program.send(b"aq")
+    program.ends_with("a", "q")
+
+
+QUESTION = r'b"\033[6n\033]11;?\033\\"'
+ANSWERS = [
+    "CursorPosition(row=1, column=5)",
+    "Osc(data=b'11;rgb:0/0/0')",
+    "Csi(data=b'?62;22c')",
+]
+ASK = {
+    "": "show(*terminal.ask({0}, {1})); show('asked'); show_until_q(terminal)",
+    "async ": """
+    async def main():
+        show(*await terminal.ask_async({0}, {1}))
+        show("asked")
+        async for event in terminal:
+            show(event)
+            if event == Q:
+                break
+    asyncio.run(main())""",
+}
+
+
+@pytest.fixture(params=ASK.values(), ids=["ask", "ask_async"])
+def asking(run, request):
+    def start(seconds):
+        asks = request.param.format(QUESTION, seconds)
+        return run(f"with Terminal() as terminal:\n    ready()\n    {asks.strip()}")
+
+    return start
+
+
+def test_ask(asking):
+    """What is typed meanwhile stays an event. The position isn't taken for F3."""
+    program = asking(60)
+    program.play(["\033[6n\033]11;?\033\\\033[c"])
+    program.send(b"a\033[1;5R\033[Ab\033]11;rgb:0/0/0\033\\c\033[?62;22c" + b"\033[?1;2c\033[1;5Rq")
+    typed = ["a", "KeyCode.UP_ARROW", "b", "c"]
+    program.ends_with(*ANSWERS, "asked", *typed, "Csi(data=b'?1;2c')", "Function(number=3)", "q")
+
+
+def test_ask_in_vain(asking):
+    """What came in time is returned."""
+    program = asking(1.0)
+    program.play(["\033[c", b"a\033[1;5R", "asked\r\n", b"\033[?62cq"])
+    program.ends_with(ANSWERS[0], "asked", "a", "Csi(data=b'?62c')", "q")
+
+
+def test_ask_that_is_interrupted(run):
+    """What came until then is an event."""
+    program = run(
+        """
+def interrupt(*_):
+    raise KeyError
+signal.signal(signal.SIGUSR1, interrupt)
+with Terminal() as terminal:
+    ready()
+    try:
+        terminal.ask(b"", 60)
+    except KeyError:
+        show("interrupted")
+    show_until_q(terminal)
+"""
+    )
+    program.play(["\033[c", b"\033[?1;2$y\033[200~", 0.1])
+    program.kill(signal.SIGUSR1)
+    program.play(["interrupted\r\n", END + b"q"])
+    program.ends_with("interrupted", "Csi(data=b'?1;2$y')", "Paste(text='')", "q")
+
+
+ASYNC = """
+async def main():
+    async def tick():
+        nonlocal ticks
+        while True:
+            await asyncio.sleep(0.01)
+            ticks += 1
+    ticks, ticking = 0, asyncio.ensure_future(tick())
+    with Terminal() as terminal:
+        ready()
+        async for event in terminal:
+            show(event)
+            if event == Q:
+                break
+    ticking.cancel()
+    print(ticks > 3)
+asyncio.run(main())
+"""
+
+
+@pytest.mark.timed
+def test_asyncio(run):
+    """Other tasks go on, and the limits and the sizes are those of the loop over events."""
+    program = run(ASYNC)
+    program.play([b"a\033", "KeyCode.ESCAPE\r\n", b"\033[1;", 0.2, b"5A", "UP_ARROW\r\n"])
+    program.resize(100, 40)
+    program.play(["Resize", b"q"])
+    size = "Resize(rows=40, columns=100, height=0, width=0)"
+    program.ends_with("a", "KeyCode.ESCAPE", "KeyCode.UP_ARROW", size, "q", "True")
+
+
+def test_asyncio_and_the_end(run):
+    program = run(ASYNC)
+    program.let_end_input()
+    program.play([0.1, b"a\033[\x04\x04"])
+    program.ends_with("a", "[", "True")
+
+
+def test_cancelled_waits(run):
+    """No event is lost."""
+    program = run(
+        """
+async def main():
+    keys = []
+    with Terminal() as terminal:
+        ready()
+        while not keys or keys[-1] != Q:
+            try:
+                keys.append(await asyncio.wait_for(terminal.__anext__(), 0.001))
+            except asyncio.TimeoutError:
+                pass
+    print("".join(it.key for it in keys), flush=True)
+asyncio.run(main())
+"""
+    )
+    for at in range(200):
+        program.play([b"%d" % (at % 10), 0.002])
+    program.send(b"q")
+    program.ends_with("0123456789" * 20 + "q")
+
+
+def test_loop_of_another_kind(run):
+    """It waits for the descriptor, as long as it is told."""
+    program = run(
+        """
+import select
+with Terminal() as terminal:
+    ready()
+    event = None
+    while event != Q:
+        select.select([terminal], [], [], terminal.timeout())
+        while event := terminal.read(0):
+            show(event)
+            if event == Q:
+                break
+"""
+    )
+    program.play([b"\033", "ESCAPE\r\n", b"aq"])
+    program.ends_with("KeyCode.ESCAPE", "a", "q")
+
+
+@pytest.mark.parametrize("program", [SHOW, ASYNC], ids=["loop", "asyncio"])
+def test_stop(run, program):
+    """While it is stopped a shell has the terminal. Then all is to be drawn again."""
+    program = run(program)
+    program.play([b"a" + START + b"b", "a\r\n"])
+    program.stop()
+    program.continue_in_foreground()
+    program.play(["Resumed()\r\nResize(rows=24, columns=80, height=0, width=0)\r\n"])
+    assert program.is_raw() and program.modes() == {2004}
+    program.send(b"q")
+    program.check_end(0)
+    assert program.lines()[:2] == ["ready", "a"] and "q" in program.lines()
+
+
+MEMORY = """
+from unittest import mock
+with Terminal() as terminal:
+    ready()
+    refused = 0
+    def refuse(*_):
+        global refused
+        refused += 1
+        if refused < 3:
+            raise MemoryError
+        patch.stop()
+        return {call}
+    patch = mock.patch.object(terminal.parser, "{name}", {value})
+    patch.start()
+    while True:
+        try:
+            show_until_q(terminal)
+            break
+        except MemoryError:
+            show("refused")
+"""
+
+
+@pytest.mark.parametrize("name", ["feed", "parse", "take_paste"])
+def test_refused_memory(run, name):
+    """The same events come once it is granted."""
+    call = f"ExtendedParser.{name}(terminal.parser, *_)"
+    program = run(MEMORY.format(name=name, call=call, value="refuse"))
+    program.play([b"a\033[A", "refused\r\n", b"bq"])
+    program.check_end(0)
+    shown = [line for line in program.lines() if line != "refused"]
+    assert shown == ["ready", "a", "KeyCode.UP_ARROW", "b", "q"]

@@ -1,0 +1,675 @@
+"""The program relay, rust/examples/relay, on a pseudo-terminal. It runs tests/relay_child.py, which
+sets modes and tells what it reads.
+
+What the child gets has to be what a terminal sends in the child's modes, whatever the terminal of
+relay sends. What the child writes is passed on, but for its modes, and relay restores its terminal
+however it ends."""
+import contextlib
+import os
+import re
+import select
+import signal
+import socket
+import sys
+import threading
+from dataclasses import replace
+from pathlib import Path
+
+import pytest
+from conftest import run_without_terminal
+from relay_child import long_text
+from terminal import END, ENDING_SIGNALS, PAUSE, SECONDS, START, Terminal
+from terminal_data import FOLDER, load
+
+from hedrugal import (
+    ExtendedParser,
+    KeyEvent,
+    KeyPress,
+    KittyKeyboardFlags,
+    Protocol,
+    encode_paste,
+    key_report,
+)
+
+CHILD = Path(__file__).with_name("relay_child.py")
+# What relay tells its terminal at the start, and at its end.
+ON, OFF = "\033=\033[?2004h\033[>4;2m\033[>31u\033[?u", "\033[<u\033[>4m\033[?2004l\033>"
+# How a terminal with Kitty's protocol replies, and which flags a child may ask for.
+HAS_KITTY = b"\033[?31u"
+FLAGS = [1, 5, 15, 31]
+MEGABYTES = 3 << 20
+
+
+class Child:
+    """The child, at the other end of its socket."""
+
+    def __init__(self, connection):
+        self.socket = connection
+        self.changed = threading.Condition()
+        self.read, self.signals = bytearray(), []
+        threading.Thread(target=self.receive, daemon=True).start()
+
+    def receive(self):
+        with contextlib.suppress(OSError):
+            while packet := self.socket.recv(1 << 16):
+                with self.changed:
+                    if packet[:1] == b"i":
+                        self.read += packet[1:]
+                    else:
+                        self.signals.append([int(it) for it in packet[1:].split()])
+                    self.changed.notify()
+
+    def do(self, letter, data=b""):
+        self.socket.send(letter + (data if isinstance(data, bytes) else b"%d" % data))
+
+    def gets(self, data):
+        """The next bytes that it reads are these."""
+        with self.changed:
+            self.changed.wait_for(lambda: len(self.read) >= len(data), SECONDS)
+            got = bytes(self.read[: len(data)])
+            del self.read[: len(data)]
+        assert got == data
+
+    def is_told(self, *numbers):
+        """It is sent this signal, and its terminal has this size."""
+        with self.changed:
+            told = self.changed.wait_for(lambda: [*numbers] in self.signals, SECONDS)
+            assert told, self.signals
+            self.signals.remove([*numbers])
+
+
+class Relay(Terminal):
+    """A relay with the child."""
+
+    def __init__(self, program, folder, has_kitty=False, words=(), **how):
+        path = folder / "socket"
+        path.unlink(missing_ok=True)
+        self.listener = socket.socket(socket.AF_UNIX, socket.SOCK_SEQPACKET)
+        self.listener.bind(str(path))
+        self.listener.listen()
+        self.listener.settimeout(SECONDS)
+        super().__init__([*program, *words, sys.executable, CHILD, path], **how)
+        self.child = Child(self.listener.accept()[0])
+        self.expect_exact(ON)
+        if has_kitty:
+            self.send(HAS_KITTY)
+
+    def close(self):
+        super().close()
+        self.child.socket.close()
+        self.listener.close()
+
+    def passes(self, written, passed=b""):
+        """The child writes this, and of it the terminal gets that."""
+        self.child.do(b"w", written + b"|")
+        self.expect_exact("|")
+        assert self.before == passed
+
+    def check_keys(self, sent, got):
+        """The terminal sends this, and the child gets that and nothing more."""
+        self.send(sent + b"\033[?64c")
+        self.child.gets(got + b"\033[?64c")
+
+    def check_end(self, status):
+        super().check_end(status)
+        assert not re.search(rb"\033\[\?u|\033\[[<>=]", self.output.split(OFF.encode())[-1])
+
+    def end(self):
+        self.child.do(b"x")
+        self.check_end(0)
+
+
+@pytest.fixture(scope="session")
+def program(example):
+    return example("rust", "relay")
+
+
+@pytest.fixture
+def start(program, tmp_path):
+    with contextlib.ExitStack() as stack:
+        yield lambda *has, **how: stack.enter_context(Relay(program, tmp_path, *has, **how))
+
+
+# Modes that the child sets, what the terminal sends by Kitty's protocol, and what the child gets.
+KITTY_TO_LEGACY = {
+    "a character": (b"", b"\033[97;;97u", b"a"),
+    "Shift": (b"", b"\033[97:65;2;65u", b"A"),
+    "a repeat": (b"", b"\033[97;1:2;97u", b"a"),
+    "releases": (b"", b"\033[97;1:3u\033[13;1:3u\033[1;1:3A", b""),
+    "modifiers alone": (b"", b"\033[57441;2u\033[57442;5u\033[57358u", b""),
+    "Enter, Tab, Backspace, Escape": (b"", b"\033[13u\033[9u\033[127u\033[27u", b"\r\t\x7f\033"),
+    "Shift-Tab, Shift-Enter": (b"", b"\033[9;2u\033[13;2u", b"\033[Z\r"),
+    "Ctrl": (b"", b"\033[99;5u\033[91;5u\033[32;5u", b"\x03\x1b\0"),
+    "Ctrl and Shift": (b"", b"\033[97:65;6u", b"\x01"),
+    "Alt": (b"", b"\033[97;3u\033[97:65;4u\033[233;3u", "\033a\033A\033é".encode()),
+    "Super, Hyper, Meta": (b"", b"\033[97;9u\033[97;17u\033[97;33u\033[1;9A", b""),
+    "locks": (b"", b"\033[97;65;65u\033[99;69u\033[1;129B", b"A\x03\033[B"),
+    "arrows": (b"", b"\033[A\033[1;5A\033[1;1:2D\033[H", b"\033[A\033[1;5A\033[D\033[H"),
+    "function keys": (b"", b"\033[P\033[13~\033[15;2~", b"\033OP\033OR\033[15;2~"),
+    "F13, F25 and a key for volume": (b"", b"\033[57376u\033[57388u\033[57438u", b"\033[25~"),
+    "F3 of kitty 0.26": (b"", b"\033[1;2R", b"\033[1;2R"),
+    "a layout": (b"", "\033[1092::97;;1092u\033[1092::97;5u".encode(), "ф\1".encode()),
+    "two characters": (b"", b"\033[0;;102:105u", b"fi"),
+    "the keypad": (b"", b"\033[57404;129;53u\033[57414u\033[57413;;43u", b"5\r+"),
+    "cursor keys": (b"\033[?1h", b"\033[A\033[1;5A\033[H\033[F", b"\033OA\033[1;5A\033OH\033OF"),
+    "cursor keys, reset": (b"\033[?1h\033[?1l", b"\033[A", b"\033[A"),
+    "the keypad's mode": (b"\033=", b"\033[57414u\033[57404u\033[57404;;53u", b"\033OM\033Ou5"),
+    "the keypad, Num Lock": (b"\033=", b"\033[57414;129u\033[57404;129;53u", b"\033OM5"),
+    "the keypad, modifiers": (b"\033[?66h", b"\033[57414;5u\033[57413;3u", b"\r\033+"),
+    "the keypad's mode, reset": (b"\033=\033>", b"\033[57414u", b"\r"),
+    "modifyOtherKeys 1": (b"\033[>4;1m", b"\033[13;5u\033[105;5u", b"\033[27;5;13~\t"),
+    "modifyOtherKeys 2": (b"\033[>4;2m", b"\033[105;5u\033[9;5u", b"\033[27;5;105~\033[27;5;9~"),
+    "modifyOtherKeys, reset": (b"\033[>4;2m\033[>4m", b"\033[105;5u", b"\t"),
+}
+# The same from a terminal without the protocol, and with flags that the child asks for.
+LEGACY = b"a\x03\033[1;5A\033OA\r\t\x7f\033[Z\033x\xc3\xa9\033OP\033Ok"
+LEGACY_TO_ANY = {
+    "no modes": (b"", LEGACY, b"a\x03\033[1;5A\033[A\r\t\x7f\033[Z\033x\xc3\xa9\033OP+"),
+    "cursor keys": (b"\033[?1h", b"\033[A\033OA\033[1;5A", b"\033OA\033OA\033[1;5A"),
+    "the keypad's mode": (b"\033=", b"\033Ok\033OM\033Ou", b"\033Ok\033OM\033Ou"),
+    "flag 1": (b"\033[>1u", b"a\x03\r\033[A", b"a\033[99;5u\r\033[A"),
+    "flag 8": (b"\033[=8u", b"a\x03\r\033[A", b"\033[97u\033[99;5u\033[13u\033[A"),
+    "all flags": (b"\033[>31u", b"aA\r\t", b"\033[97;;97u\033[65;;65u\033[13u\033[9u"),
+    "modifyOtherKeys": (b"\033[>4;2m", b"\033[27;5;105~\t", b"\033[27;5;105~\t"),
+}
+
+
+@pytest.mark.parametrize("modes, sent, got", KITTY_TO_LEGACY.values(), ids=KITTY_TO_LEGACY)
+def test_kitty_outside(start, modes, sent, got):
+    relay = start(True)
+    relay.passes(modes)
+    relay.check_keys(sent, got)
+    relay.end()
+
+
+@pytest.mark.parametrize("modes, sent, got", LEGACY_TO_ANY.values(), ids=LEGACY_TO_ANY)
+def test_legacy_outside(start, modes, sent, got):
+    relay = start()
+    relay.passes(modes)
+    relay.check_keys(sent, got)
+    relay.end()
+
+
+def test_newline_mode(start):
+    """A terminal by Kitty's protocol tells the key alone. Another one adds the line feed itself."""
+    relay = start(True)
+    relay.passes(b"\033[20h", b"\033[20h")
+    relay.check_keys(b"\033[13u\033[13;3u", b"\r\n\033\r\n")
+    relay.passes(b"\033[20l", b"\033[20l")
+    relay.check_keys(b"\033[13u", b"\r")
+    relay.end()
+
+
+def recorded(name, mode, kind="press"):
+    """The presses of a terminal in a mode, and the bytes that it sent for each."""
+    _, lines = load(FOLDER / f"{name}.tsv")
+    told = [it for it in lines if it.kind == kind and mode in it.modes.split(",")]
+    return {press: it.bytes for it in told for press in it.what.split()}
+
+
+def one_key(data):
+    """The report of a key, with what it types, if these bytes are one without Kitty's protocol."""
+    with ExtendedParser(Protocol.LEGACY) as parser:
+        events = parser.parse(data, maybe_more=False)
+    press = KeyPress.of_event(events[0]) if len(events) == 1 else None
+    if press is None:
+        return None
+    report = key_report(events[0])
+    typed = press.text if isinstance(events[0], KeyEvent) else None
+    return replace(report, text=typed or report.text)
+
+
+def relayed(relay, texts):
+    """What the child gets for each of these texts of the terminal. A reply parts them."""
+    ends = [b"\033[?64;%dc" % number for number in range(len(texts))]
+    got, rest = [], None
+    relay.send(b"".join(text + end for text, end in zip(texts, ends)))
+    with relay.child.changed:
+        relay.child.changed.wait_for(lambda: relay.child.read.endswith(ends[-1]), SECONDS)
+        rest = bytes(relay.child.read)
+        relay.child.read.clear()
+    for end in ends:
+        text, found, rest = rest.partition(end)
+        assert found == end
+        got.append(text)
+    return got
+
+
+# tmux has other codes for Home and End, and sends Tab without modifiers, and any key without Super.
+OTHERS = r"home|end|(ctrl|alt)\+.*tab|super\+.*"
+
+
+@pytest.mark.timed
+def test_recorded_kitty(start):
+    """For what kitty sends by its protocol the child gets what another multiplexer, tmux, sends."""
+    relay, sent = start(True), recorded("kitty", "kitty31")
+    got = dict(zip(sent, relayed(relay, sent.values())))
+    wanted = recorded("tmux-xterm", "default")
+    told = [press for press in sent if press in wanted and not re.fullmatch(OTHERS, press)]
+    assert [it for it in told if got[it] != wanted[it]] == [] and len(told) > 600
+    assert {got[press] for press in sent if press.startswith("super")} == {b""}
+    released = recorded("kitty", "kitty31", "release").values()
+    assert {*relayed(relay, released)} == {b""}
+    relay.end()
+
+
+@pytest.mark.timed
+def test_flags(start):
+    """From a terminal without the protocol the child gets what `encode_kitty` writes."""
+    presses = [it for it in recorded("xterm", "default").values() if one_key(it)]
+    relay = start()
+    for flags in FLAGS:
+        relay.passes(b"\033[>%du" % flags)
+        wanted = [one_key(it).encode(KittyKeyboardFlags(flags)) for it in presses]
+        assert relayed(relay, presses) == wanted
+    assert len(presses) > 500
+    relay.end()
+
+
+# Reports of mode 1006: the left button is pressed, moved with Shift and released, the wheel is
+# turned with Ctrl, and the mouse is moved. The last place is beyond what the oldest form can tell.
+PRESS, DRAG, RELEASE = b"\033[<0;3;4M", b"\033[<36;5;4M", b"\033[<0;5;4m"
+WHEEL, MOVE, FAR = b"\033[<80;3;4M", b"\033[<35;6;4M", b"\033[<2;300;4M\033[<2;300;4m"
+CLICK, ALL = PRESS + RELEASE, PRESS + DRAG + RELEASE + WHEEL + MOVE + FAR
+SIDE = b"\033[<128;3;4M\033[<128;3;4m"
+NO_MOVES = CLICK + WHEEL + FAR + SIDE
+# The modes of the child, those of the terminal, what it sends, and what the child gets.
+REPORTS = {
+    "9": ("9", "1000 1006", CLICK + WHEEL + SIDE, b"\033[M #$\033[M`#$"),
+    "1000": ("1000", "1000 1006", CLICK + FAR + SIDE, b"\033[M #$\033[M#%$"),
+    "1002": ("1002", "1002 1006", PRESS + DRAG + RELEASE, b"\033[M #$\033[MD%$\033[M#%$"),
+    "1003": ("1003", "1003 1006", MOVE + FAR + WHEEL, b"\033[MC&$\033[Mp#$"),
+    "1015": ("1000;1015", "1000 1006", CLICK + SIDE, b"\033[32;3;4M\033[35;5;4M"),
+    "9 and 1006": ("9;1006", "1000 1006", CLICK + SIDE, PRESS + SIDE[:11]),
+    "1000 and 1006": ("1006;1000", "1000 1006", NO_MOVES, NO_MOVES),
+    "1002 and 1006": ("1002;1006", "1002 1006", ALL, ALL.replace(MOVE, b"")),
+    "1003 and 1006": ("1000;1003;1006", "1003 1006", ALL, ALL),
+    "1003 and 1016": ("1003;1016", "1003 1006 1016", ALL, ALL),
+    "1005": ("1000;1005", "1000 1006", CLICK, b"\033[M #$\033[M#%$"),
+}
+
+
+def switches(modes):
+    return b"".join(b"\033[?%sh" % it.encode() for it in modes.split())
+
+
+@pytest.mark.parametrize("modes, told, sent, got", REPORTS.values(), ids=REPORTS)
+def test_mouse(start, modes, told, sent, got):
+    relay = start()
+    relay.check_keys(ALL, b"")
+    relay.passes(f"\033[?{modes}h".encode(), switches(told))
+    relay.check_keys(sent, got)
+    relay.child.do(b"w", f"\033[?{modes}l|".encode())
+    relay.expect_exact("|")
+    assert not relay.modes() - {2004}
+    relay.check_keys(ALL, b"")
+    relay.end()
+
+
+def test_two_buttons(start):
+    """No event says which of two is released, so it is the one that was pressed last."""
+    relay = start()
+    relay.passes(b"\033[?1002;1006h", switches("1002 1006"))
+    down = [b"\033[<0;1;1M", b"\033[<2;1;1M"]
+    up = [it.lower() for it in down]
+    relay.check_keys(b"".join(down + up), b"".join(down + up[::-1]))
+    relay.end()
+
+
+def test_focus(start):
+    relay = start()
+    relay.check_keys(b"\033[I\033[O", b"")
+    relay.passes(b"\033[?1004h", b"\033[?1004h")
+    relay.check_keys(b"\033[I\033[O", b"\033[I\033[O")
+    relay.passes(b"\033[?1004l", b"\033[?1004l")
+    relay.check_keys(b"\033[I", b"")
+    relay.end()
+
+
+# What the terminal sends; what the child gets with mode 2004, and without.
+PASTES = {
+    "lines": (START + b"a\nb\r\nc\td" + END, START + b"a\rb\rc\td" + END, b"a\rb\rc\td"),
+    "the beginning of END": (
+        START + b"rm\033[20" + END + b"1~x",
+        START + "rm␛[20".encode() + END + b"1~x",
+        "rm␛[201~x".encode(),
+    ),
+    "START and control characters": (
+        START + b"a\033[200~\x03\xc2\x9b201~" + END,
+        START + "a␛[200~␃\ufffd201~".encode() + END,
+        "a␛[200~␃\ufffd201~".encode(),
+    ),
+    "a terminal that passes END on": (
+        START + b"a" + END + b"ls\r" + END + b"x",
+        START + b"a" + END + b"ls\rx",
+        b"als\rx",
+    ),
+    "nothing": (START + END, START + END, b""),
+}
+
+
+@pytest.mark.parametrize("sent, bracketed, typed", PASTES.values(), ids=PASTES)
+def test_pastes(start, sent, bracketed, typed):
+    relay = start()
+    relay.check_keys(sent, typed)
+    relay.passes(b"\033[?2004h")
+    relay.check_keys(sent, bracketed)
+    relay.passes(b"\033[?2004l")
+    relay.check_keys(sent, typed)
+    relay.end()
+
+
+@pytest.mark.parametrize("bracketed", [True, False])
+def test_long_paste(start, bracketed):
+    """It comes in parts, wherever these are cut, and is one paste."""
+    text = "é\r\n\033[201\n".encode() * 50000
+    relay = start()
+    relay.passes(b"\033[?2004h" if bracketed else b"")
+    relay.check_keys(START + text + END, encode_paste(text, bracketed))
+    relay.end()
+
+
+def test_question_within_a_paste(start):
+    """The reply is no part of the pasted text."""
+    relay, text = start(), b"a" * 200000
+    relay.passes(b"\033[?2004h\033[>5u")
+    relay.send(START + text)
+    relay.child.gets(START + text[: len(text) // 2])
+    relay.passes(b"\033[?u")
+    relay.check_keys(END, text[len(text) // 2 :] + END + b"\033[?5u")
+    relay.end()
+
+
+def test_modes_at_once(start):
+    """Several in one sequence, which is written byte by byte."""
+    relay = start(True)
+    for byte in b"\033[?25;1;1002;1006;2004;1004h":
+        relay.child.do(b"w", bytes([byte]))
+    relay.passes(b"", switches("25 1002 1006 1004"))
+    keys = b"\033[A" + START + b"a\n" + END + b"\033[I" + PRESS + DRAG
+    got = keys.replace(b"\033[A", b"\033OA").replace(b"\n", b"\r")
+    relay.check_keys(keys, got)
+    relay.passes(
+        b"\033[?25;1;1002;1006;2004;1004l", switches("25 1004 1006 1002").replace(b"h", b"l")
+    )
+    relay.check_keys(keys, b"\033[Aa\r")
+    relay.end()
+
+
+def test_flags_are_stacked(start):
+    """By pushes and pops, apart for each screen, and so are those of the terminal."""
+    relay = start(True)
+    up = b"\033[1;1:2A"
+    relay.passes(b"\033[>1u\033[>3u\033[?u")
+    relay.check_keys(up, b"\033[?3u" + up)
+    relay.passes(b"\033[?1049h", b"\033[?1049h\033[>31u")
+    relay.check_keys(up, b"\033[A")
+    relay.passes(b"\033[=8;2u")
+    relay.check_keys(b"\033[97;;97u", b"\033[97u")
+    relay.passes(b"\033[?1049l", b"\033[<u\033[?1049l")
+    relay.check_keys(up, up)
+    relay.passes(b"\033[<u")
+    relay.check_keys(up + b"\033[27u", b"\033[A\033[27u")
+    relay.passes(b"\033[<u\033[?u")
+    relay.check_keys(b"\033[27u", b"\033[?0u\033")
+    relay.end()
+
+
+@pytest.mark.parametrize("has_kitty", [True, False])
+def test_relay_in_a_relay(start, program, has_kitty):
+    """The inner one is a child as any other, and gets all that its terminal tells."""
+    relay = start(has_kitty, words=program)
+    relay.passes(b"\033[?1h\033[?2004;1002;1006h", switches("1002 1006"))
+    keys = b"\033[A\r\x03" + START + b"a\033b" + END + PRESS + DRAG + RELEASE
+    relay.check_keys(keys, keys.replace(b"\033[A", b"\033OA").replace(b"\033b", "␛b".encode()))
+    relay.passes(b"\033[>31u\033[?u")
+    relay.check_keys(b"\033[97;5u", b"\033[?31u\033[97;5u")
+    if has_kitty:
+        relay.check_keys(b"\033[97;5:3u\033[1;1:2A", b"\033[97;5:3u\033[1;1:2A")
+    relay.end()
+
+
+@pytest.mark.parametrize("reset", [b"\033c", b"\033[!p"])
+def test_reset(start, reset):
+    """The terminal goes on to tell what it told before."""
+    relay = start(True)
+    relay.passes(b"\033[?1h\033[>31u\033[>4;2m")
+    relay.passes(reset, reset + b"\033=\033[?2004h\033[>4;2m\033[=31;1u")
+    relay.check_keys(b"\033[A\033[97;;97u", b"\033[Aa")
+    relay.end()
+
+
+# What the terminal sends is passed on, whether the child asked for it or not.
+REPLIES = {
+    "attributes": b"\033[?62;22c\033[>1;10;0c",
+    "a mode": b"\033[?2026;2$y",
+    "a colour": b"\033]11;rgb:1e1e/1e1e/1e1e\033\\",
+    "a version": b"\033P>|XTerm(379)\033\\",
+    "graphics": b"\033_Gi=31;OK\033\\",
+    "a size": b"\033[48;24;80;480;800t\033[8;24;80t",
+}
+
+
+@pytest.mark.parametrize("reply", REPLIES.values(), ids=REPLIES)
+def test_replies(start, reply):
+    relay = start()
+    relay.check_keys(reply, reply)
+    relay.end()
+
+
+@pytest.mark.parametrize("has_kitty", [True, False])
+def test_position(start, has_kitty):
+    """The reply has the form that was asked for, and without a question it is a key."""
+    relay = start(has_kitty)
+    relay.passes(b"\033[>31u\033[6n", b"\033[6n")
+    relay.check_keys(b"\033[1;5R", b"\033[1;5R")
+    relay.passes(b"\033[?6n", b"\033[?6n")
+    relay.check_keys(b"\033[?1;5R", b"\033[?1;5R")
+    if not has_kitty:
+        relay.check_keys(b"\033[1;5R", b"\033[13;5~")
+    relay.end()
+
+
+def test_long_reply(start):
+    """What is longer than the parser's limit isn't passed on, nor any part of it."""
+    relay = start()
+    relay.check_keys(b"\033]52;c;" + b"QUJD" * 50000 + b"\033\\", b"")
+    relay.check_keys(REPLIES["a colour"], REPLIES["a colour"])
+    relay.end()
+
+
+@pytest.mark.timed
+def test_escape(start):
+    """It is the key once nothing followed it in time."""
+    relay = start()
+    relay.send(b"\033")
+    relay.child.gets(b"\033")
+    relay.send(b"\033[1;")
+    relay.play([PAUSE, b"5A"])
+    relay.child.gets(b"\033[1;5A")
+    relay.end()
+
+
+def test_new_size(start):
+    relay = start()
+    relay.child.is_told(8, 80, 24)
+    relay.resize(100, 40)
+    relay.child.is_told(signal.SIGWINCH, 100, 40)
+    relay.end()
+
+
+@pytest.mark.parametrize("number", ENDING_SIGNALS, ids=lambda it: it.name)
+def test_signal(start, number):
+    """The child gets it too. Of both screens nothing is left."""
+    relay = start()
+    relay.child.do(b"w", b"\033[?1049h\033[?1003;1004h|")
+    relay.expect_exact("|")
+    relay.kill(number)
+    relay.child.is_told(number)
+    relay.check_end(-number)
+    assert relay.output.endswith(b"\033[<u\033[?1049l" + OFF.encode())
+
+
+@pytest.mark.parametrize("status", [0, 3, 255])
+def test_status(start, status):
+    relay = start()
+    relay.child.do(b"x", status)
+    relay.check_end(status)
+
+
+@pytest.mark.parametrize("number", [signal.SIGHUP, signal.SIGKILL, signal.SIGTERM])
+def test_child_that_a_signal_ends(start, number):
+    relay = start()
+    relay.child.do(b"w", b"\033[?1049h\033[")
+    relay.child.do(b"k", number)
+    relay.check_end(128 + number)
+
+
+@pytest.mark.parametrize("number", [signal.SIGTSTP, signal.SIGSTOP], ids=lambda it: it.name)
+def test_stop(start, number):
+    """What was buffered before no longer counts. The child draws anew."""
+    relay = start(True)
+    relay.passes(b"\033[?1049;1003;2004h", b"\033[?1049h\033[>31u" + switches("1003 1006"))
+    relay.send(START + b"a" * 100000)
+    relay.child.gets(START + b"a" * 65536)
+    if number == signal.SIGTSTP:
+        relay.stop()
+    else:
+        relay.kill(number)
+        relay.wait_for_stop()
+    relay.continue_in_foreground()
+    relay.expect_exact(ON[:-4] + "\033[?1049h\033[>31u\033[?1003h\033[?1006h\033[?u")
+    assert relay.is_raw()
+    relay.child.is_told(signal.SIGWINCH, 80, 24)
+    relay.send(MOVE)
+    with relay.child.changed:
+        relay.child.changed.wait_for(lambda: relay.child.read[-1:] == b"$", SECONDS)
+    assert re.fullmatch(rb"a*\033\[201~a*\033\[M..\$", relay.child.read)
+    relay.child.read.clear()
+    relay.end()
+
+
+def test_sigtstp_where_no_shell_could_continue_it(start):
+    relay = start(is_orphaned=True)
+    relay.kill(signal.SIGTSTP)
+    relay.expect_exact(ON)
+    relay.check_keys(b"a", b"a")
+    relay.end()
+
+
+def test_terminal_that_is_gone(start):
+    relay = start()
+    relay.hang_up()
+    relay.wait_for_end()
+    relay.child.is_told(signal.SIGHUP)
+
+
+@pytest.mark.parametrize("number", [signal.SIGHUP, signal.SIGTERM], ids=lambda it: it.name)
+def test_signal_while_nobody_reads(program, number):
+    """It ends soon, although its output blocks."""
+    with Terminal([*program, "sleep", "1000"], is_stopped=True) as terminal:
+        terminal.wait_for(terminal.is_raw, "raw mode")
+        terminal.kill(number)
+        assert terminal.told.poll(10)
+        terminal.check_end(-number)
+
+
+def most_memory(relay):
+    return int(re.search(r"VmHWM:\s*(\d+)", Path(f"/proc/{relay.job}/status").read_text())[1]) << 10
+
+
+def screen(relay, count):
+    """So many bytes that the terminal gets."""
+    got = bytearray()
+    while len(got) < count and select.select([relay.child_fd], [], [], SECONDS)[0]:
+        got += os.read(relay.child_fd, min(count - len(got), 1 << 16))
+    return bytes(got)
+
+
+def test_long_output(start):
+    """Nothing is lost while the terminal takes nothing for a time, also at the child's end."""
+    relay = start()
+    relay.child.do(b"f", MEGABYTES)
+    relay.child.do(b"x", 5)
+    assert not relay.told.poll(PAUSE)
+    assert screen(relay, MEGABYTES) == long_text(MEGABYTES)
+    relay.check_end(5)
+
+
+def test_both_ways(start):
+    """The child writes megabytes and reads nothing, while as many are pasted. Neither is kept."""
+    relay, text = start(), b"0123456789abcde\r" * (MEGABYTES // 16)
+    relay.passes(b"\033[?2004h")
+    memory = most_memory(relay)
+    relay.child.do(b"p")
+    paste = threading.Thread(target=relay.send, args=[START + text + END])
+    paste.start()
+    relay.child.do(b"f", MEGABYTES)
+    assert screen(relay, MEGABYTES) == long_text(MEGABYTES)
+    relay.child.do(b"p")
+    relay.child.gets(START + text + END)
+    paste.join()
+    assert most_memory(relay) - memory < MEGABYTES // 2
+    relay.end()
+
+
+def test_questions_without_end(start):
+    """A child that asks and reads nothing gets some of the replies, and relay keeps few."""
+    relay = start()
+    relay.child.do(b"p")
+    for _ in range(20):
+        relay.passes(b"\033[?u" * 10000)
+    relay.child.do(b"p")
+    with relay.child.changed:
+        assert relay.child.changed.wait_for(lambda: len(relay.child.read) > 10000, SECONDS)
+    assert most_memory(relay) < 64 << 20
+    relay.child.do(b"x")
+    relay.check_end(0)
+
+
+OTHER_CHILDREN = {
+    "one that closes its terminal": ("exec <&- >&- 2>&-; sleep 0.2; exit 4", 4),
+    "one that leaves a process": ("trap '' HUP; yes & exit 3", 3),
+    "one that is interrupted": ("kill -INT $$", 130),
+}
+
+
+@pytest.mark.parametrize("command, status", OTHER_CHILDREN.values(), ids=OTHER_CHILDREN)
+def test_other_children(program, command, status):
+    with Terminal([*program, "sh", "-c", command]) as terminal:
+        terminal.check_end(status)
+
+
+def test_shell(program):
+    """Without a program it is the shell of the environment."""
+    for words in [], ["--"]:
+        with Terminal([*program, *words], env={"SHELL": "/bin/pwd"}) as terminal:
+            terminal.expect_exact(f"{Path.cwd()}\r\n")
+            terminal.check_end(0)
+
+
+NOT_RUN = {
+    "no such program": ("/nothing/here", 127, "No such file or directory"),
+    "no program": ("/", 126, "Permission denied"),
+}
+
+
+@pytest.mark.parametrize("path, status, says", NOT_RUN.values(), ids=NOT_RUN)
+def test_program_that_is_not_run(program, path, status, says):
+    with Terminal([*program, "--", path]) as terminal:
+        terminal.check_end(status)
+        assert re.fullmatch(rf"relay: {path}: {says}[^\n]*\r\n", terminal.output.decode())
+
+
+def test_without_terminal(program):
+    done = run_without_terminal([*program, "true"])
+    says = b"relay: standard input and output have to be a terminal\n"
+    assert (done.returncode, done.stderr, done.stdout) == (1, says, b"")
+
+
+def test_help(program):
+    done = run_without_terminal([*program, "--help"])
+    usage, _, rest = done.stdout.partition(b"\n")
+    assert done.returncode == 0 and rest
+    done = run_without_terminal([*program, "--foo"])
+    assert (done.returncode, done.stderr, done.stdout) == (2, usage + b"\n", b"")
