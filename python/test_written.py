@@ -115,11 +115,11 @@ LONG = [
 
 
 @pytest.mark.parametrize("reading", [LEGACY, KITTY])
-@pytest.mark.parametrize("event, sent", ROWS)
+@pytest.mark.parametrize("event, sent", ROWS, ids=lambda it: repr(it)[:40])
 def test_rows(event, sent, reading):
     assert encode_event(event, reading) == sent
     parser = ExtendedParser(reading.protocol)
-    assert list(parser.parse(sent, more=not isinstance(event, KeyEvent))) == [event]
+    assert list(parser.parse(sent, maybe_more=not isinstance(event, KeyEvent))) == [event]
     assert parser.waiting_len == 0
 
 
@@ -184,7 +184,7 @@ def test_what_is_read_is_written(reading):
     for text in texts():
         parser.reset()
         parser.reading = reading
-        seen.update(parser.parse(text, more=False))
+        seen.update(parser.parse(text, maybe_more=False))
         parser.reset()
     whole = [event for event in seen if not isinstance(event, (StringPart, StringCut))]
     assert len(whole) > 1000
@@ -194,7 +194,7 @@ def test_what_is_read_is_written(reading):
         sent = encode_event(event, reading)
         parser.reset()
         parser.reading = reading
-        assert list(parser.parse(sent, more=not isinstance(event, KeyEvent))) == [event], sent
+        assert list(parser.parse(sent, maybe_more=not isinstance(event, KeyEvent))) == [event], sent
         assert parser.waiting_len == 0
 
 
