@@ -32,8 +32,8 @@ enum {
   STRING_MAX = 1 << 17
 };
 enum { ALL_FLAGS = 2 * HED_KITTY_FLAG_REPORT_ASSOCIATED_TEXT - 1, SEQUENCE_MAX = 256, ENCODED_KEYS = 40, REPLIES = 40, REPLY_MAX = 4096 };
-/* For a key and for a control sequence or a string the sequence table is made, so that few of them are written. */
-enum { WRITTEN = 4, WRITTEN_MAX = 4096, AROUND_MAX = 12 };
+/* For a key and for a control sequence or a string the sequence table is made, so that they are written for one stream in eight. */
+enum { WRITTEN = 4, STREAMS = 8, WRITTEN_MAX = 4096, AROUND_MAX = 12 };
 
 static bool is_key(const event *it) {
   return it->kind == HED_KIND_KEY || it->kind == HED_KIND_REPORT;
@@ -328,13 +328,18 @@ static void write_replies(const event *it) {
   }
 }
 
+static bool needs_table(const event *it) {
+  return it->kind == HED_KIND_KEY || it->kind >= HED_KIND_CSI;
+}
+
 /* The first events are written by the reading that gave them: each position of the cursor answers a question. */
 static void write_events(void) {
   told_event it = { whole.events, whole.texts, first_reading };
   const event *end = whole.events + whole.count;
   for (unsigned count = 0; it.told < end && count < WRITTEN; it.bytes += it.told++->text_len) {
     bool is_position = it.told->kind == HED_KIND_CURSOR_POSITION;
-    if (it.told->text_len <= WRITTEN_MAX) write_event(&it), count++;
+    bool is_for_this = !needs_table(it.told) || whole.count % STREAMS == 0;
+    if (it.told->text_len <= WRITTEN_MAX && is_for_this) write_event(&it), count++;
     if (is_position) write_replies(it.told);
     if (is_position && it.by.questions > 0) it.by.questions--;
   }
