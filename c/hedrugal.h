@@ -961,10 +961,10 @@ uint32_t hed_encode_mouse(const hed_mouse_report *report, uint32_t tracking, uin
  *
  * Returns an enum hed_encoded. With HED_ENCODED_TEXT *sent_len is the number of all these bytes, and out has as many of them as len says:
  * if *sent_len is above len, call again with more room. The rest of out is unchanged. Otherwise *sent_len is 0 and out is unchanged:
- * HED_ENCODED_NO_TEXT if no bytes are read as the event, as for HED_KIND_PASTE_PART, HED_KIND_STRING_PART, HED_KIND_STRING_CUT, a paste that
- * has ESC [201~ in it, and an event that no parser makes; HED_ENCODED_TOO_LONG if the sequence would have more than 256 bytes, or the string
- * 65535 before its end; HED_ENCODED_BAD_TEXT if the text of a paste or a key report isn't UTF-8; HED_ENCODED_REFUSED_MEMORY if memory was
- * refused; HED_ENCODED_BAD_NUMBER if a number names nothing, or a bit of the modifiers has no name. */
+ * HED_ENCODED_NO_TEXT if no bytes are read as the event, as for HED_KIND_STRING_PART, HED_KIND_STRING_CUT, a paste that has ESC [201~ in it,
+ * and an event that no parser makes; HED_ENCODED_TOO_LONG if the sequence would have more than 256 bytes, or the string 65535 before its end;
+ * HED_ENCODED_BAD_TEXT if the text of a paste or a key report isn't UTF-8; HED_ENCODED_REFUSED_MEMORY if memory was refused;
+ * HED_ENCODED_BAD_NUMBER if a number names nothing, as the kind HED_KIND_PASTE_PART does here, or a bit of the modifiers has no name. */
 uint32_t hed_encode_event(const hed_extended_event *event, const uint8_t *text, size_t text_len, const hed_reading *reading, uint8_t *out,
                           size_t len, size_t *sent_len);
 

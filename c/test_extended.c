@@ -1359,8 +1359,10 @@ static const struct written written[] = {
   { HED_PROTOCOL_LEGACY, TEXT("\033[1;5A"), "\033[1;5A" },
   { HED_PROTOCOL_LEGACY, TEXT("\r"), "\r" },
   { HED_PROTOCOL_LEGACY, TEXT("\033["), "\033[" },
-  { HED_PROTOCOL_LEGACY, TEXT("\033[9;1u"), "\t" },
-  { HED_PROTOCOL_LEGACY, TEXT("a"), "a" },
+  { HED_PROTOCOL_LEGACY, TEXT("\033[9u"), "\033[9;1u" },
+  { HED_PROTOCOL_LEGACY, TEXT("\033[27;1;9~"), "\t" },
+  { HED_PROTOCOL_LEGACY, TEXT("a"), "\033[27;1;97~" },
+  { HED_PROTOCOL_KITTY, TEXT("a"), "a" },
   { HED_PROTOCOL_LEGACY, TEXT("\033\303\251"), "\033\303\251" },
   { HED_PROTOCOL_KITTY, TEXT("\033[A"), "\033[1;1:1A" },
   { HED_PROTOCOL_KITTY, TEXT("\033[97;5u"), "\033[97;5:1u" },
@@ -1455,8 +1457,8 @@ static void refuses_events(void) {
   refuses_event((hed_extended_event){ .kind = HED_KIND_FOCUS_LOST }, NULL, 0, HED_PROTOCOL_KITTY + 1, HED_ENCODED_BAD_NUMBER);
 }
 
-static void is_written(uint32_t answer, const uint8_t *room, size_t sent_len, const char *wanted) {
-  EXPECT(answer == HED_ENCODED_TEXT && sent_len == strlen(wanted) && memcmp(room, wanted, sent_len) == 0);
+static void is_written(uint32_t answer, const uint8_t *room, const size_t *sent_len, const char *wanted) {
+  EXPECT(answer == HED_ENCODED_TEXT && *sent_len == strlen(wanted) && memcmp(room, wanted, *sent_len) == 0);
 }
 
 /* What a terminal replies. */
@@ -1464,12 +1466,12 @@ static void writes_replies(void) {
   static const uint16_t numbers[64] = { 62, 22 };
   uint8_t room[256] = { '.' };
   size_t sent_len;
-  is_written(hed_encode_cursor_position(1, 5, true, room, sizeof room, &sent_len), room, sent_len, "\033[?1;5R");
-  is_written(hed_encode_cursor_position(65535, 0, false, room, sizeof room, &sent_len), room, sent_len, "\033[65535;0R");
-  is_written(hed_encode_colour_scheme(true, room, sizeof room, &sent_len), room, sent_len, "\033[?997;1n");
-  is_written(hed_encode_colour_scheme(false, room, sizeof room, &sent_len), room, sent_len, "\033[?997;2n");
-  is_written(hed_encode_device_attributes(numbers, 2, room, sizeof room, &sent_len), room, sent_len, "\033[?62;22c");
-  is_written(hed_encode_device_attributes(NULL, 0, room, sizeof room, &sent_len), room, sent_len, "\033[?c");
+  is_written(hed_encode_cursor_position(1, 5, true, room, sizeof room, &sent_len), room, &sent_len, "\033[?1;5R");
+  is_written(hed_encode_cursor_position(65535, 0, false, room, sizeof room, &sent_len), room, &sent_len, "\033[65535;0R");
+  is_written(hed_encode_colour_scheme(true, room, sizeof room, &sent_len), room, &sent_len, "\033[?997;1n");
+  is_written(hed_encode_colour_scheme(false, room, sizeof room, &sent_len), room, &sent_len, "\033[?997;2n");
+  is_written(hed_encode_device_attributes(numbers, 2, room, sizeof room, &sent_len), room, &sent_len, "\033[?62;22c");
+  is_written(hed_encode_device_attributes(NULL, 0, room, sizeof room, &sent_len), room, &sent_len, "\033[?c");
   EXPECT(hed_encode_device_attributes(numbers, 64, NULL, 0, &sent_len) == HED_ENCODED_TEXT && sent_len == 3 + 5 + 62 * 2 + 1);
   uint16_t many[256];
   memset(many, 0xff, sizeof many);

@@ -115,19 +115,23 @@ LONG = [
 
 
 @pytest.mark.parametrize("reading", [LEGACY, KITTY])
-@pytest.mark.parametrize("event, sent", ROWS)
+@pytest.mark.parametrize("event, sent", ROWS, ids=lambda it: repr(it)[:40])
 def test_rows(event, sent, reading):
     assert encode_event(event, reading) == sent
     parser = ExtendedParser(reading.protocol)
-    assert list(parser.parse(sent, more=not isinstance(event, KeyEvent))) == [event]
+    assert list(parser.parse(sent, maybe_more=not isinstance(event, KeyEvent))) == [event]
     assert parser.waiting_len == 0
 
 
 def test_rows_of_one_reading():
     up = KeyEvent(KeyCode.UP_ARROW, CTRL)
     assert encode_event(up, LEGACY) == b"\x1b[1;5A"
+    assert encode_event(up, KITTY) == b"\x1bOa"
     with pytest.raises(EncodeError, match="no bytes are read as this KeyEvent"):
-        encode_event(up, KITTY)
+        encode_event(KeyEvent(KeyCode.UP_ARROW), KITTY)
+    # A character of ASCII has rows, which are key reports by Kitty's protocol.
+    assert encode_event(KeyEvent("a"), LEGACY) == b"\x1b[27;1;97~"
+    assert encode_event(KeyEvent("a"), KITTY) == b"a"
     # While a reply is expected, this row is the position of the cursor.
     asked = Reading(Protocol.LEGACY, questions=1)
     assert encode_event(KeyEvent(hedrugal.Function(3), CTRL), asked) != b"\x1b[1;5R"
@@ -180,7 +184,7 @@ def test_what_is_read_is_written(reading):
     for text in texts():
         parser.reset()
         parser.reading = reading
-        seen.update(parser.parse(text, more=False))
+        seen.update(parser.parse(text, maybe_more=False))
         parser.reset()
     whole = [event for event in seen if not isinstance(event, (StringPart, StringCut))]
     assert len(whole) > 1000
@@ -190,7 +194,7 @@ def test_what_is_read_is_written(reading):
         sent = encode_event(event, reading)
         parser.reset()
         parser.reading = reading
-        assert list(parser.parse(sent, more=not isinstance(event, KeyEvent))) == [event], sent
+        assert list(parser.parse(sent, maybe_more=not isinstance(event, KeyEvent))) == [event], sent
         assert parser.waiting_len == 0
 
 

@@ -1,11 +1,24 @@
-"""What is written for a paste or a mouse report is what real terminals sent for it: the recordings
-of tests/terminals. The rule for pastes is VTE's."""
+"""What is written for a paste, a mouse report or a change of the focus is what real terminals sent
+for it: the recordings of tests/terminals. The rule for pastes is VTE's."""
 import re
+from collections import Counter
 
 import pytest
 from terminal_data import data_files, load
 
-from hedrugal import Modifiers, MouseButton, MouseEncoding, MouseReport, MouseTracking, encode_paste
+from hedrugal import (
+    FocusGained,
+    FocusLost,
+    Modifiers,
+    MouseButton,
+    MouseEncoding,
+    MouseReport,
+    MouseTracking,
+    Protocol,
+    Reading,
+    encode_event,
+    encode_paste,
+)
 
 TRACKING = {
     "x10": MouseTracking.X10,
@@ -85,3 +98,15 @@ def test_mouse_reports(path):
     pattern = OTHERWISE.get(path.stem, ("nothing", ""))[0]
     assert [it for it in others if not re.match(pattern, it)] == []
     assert same >= 60 and bool(others) == (path.stem in OTHERWISE)
+
+
+FOCUS = {"gained": FocusGained(), "lost": FocusLost()}
+
+
+def test_focus():
+    """Seven terminals told of both changes, and foot only that it lost the focus."""
+    lines = [line for path in data_files() for line in load(path)[1] if line.kind == "focus"]
+    assert Counter(line.what for line in lines) == {"gained": 7, "lost": 8}
+    for line in lines:
+        for protocol in Protocol:
+            assert encode_event(FOCUS[line.what], Reading(protocol)) == line.bytes

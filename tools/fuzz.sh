@@ -7,7 +7,7 @@
 # There are seven harnesses in tools/fuzz, and the head of each says more of what it checks:
 #
 #     cuts        a stream read whole and in pieces
-#     extended    the same for the extended parser, whose keys are encoded and read back and whose replies are read
+#     extended    the same for the extended parser, whose keys and events are written and read back and whose replies are read
 #     calls       calls in any order, with requests for memory refused
 #     maps        a key map beside a plain one
 #     keys        texts of keys, and what is sent for key reports

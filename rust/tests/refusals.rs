@@ -5,8 +5,8 @@
 mod malloc;
 
 use hedrugal::extended::{
-    BindErrorKind, Bindings, Chord, ExtendedEvent, ExtendedParser, KeyEventKind, KeyReport,
-    KittyEncodeError, KittyModifiers, Protocol, Reading, ReportedKey, StringKind,
+    BindErrorKind, Bindings, Chord, EncodeEventError, ExtendedEvent, ExtendedParser, KeyEventKind,
+    KeyReport, KittyEncodeError, KittyModifiers, Protocol, Reading, ReportedKey, StringKind,
 };
 use hedrugal::input::{try_encode_paste, MouseButton, MouseEncoding, MouseError};
 use hedrugal::input::{
@@ -725,6 +725,22 @@ fn sends_pastes_and_mouse_reports_after_a_refusal() {
     };
     let send = || report.try_encode(MouseTracking::Any, MouseEncoding::Sgr);
     sends_after_a_refusal(send, &MouseError::Memory, &b"\x1b[<0;1;1M".to_vec());
+}
+
+#[test]
+fn writes_events_after_a_refusal() {
+    let reading = Reading::new(Protocol::Legacy);
+    let mut parser = ExtendedParser::new(Protocol::Legacy);
+    for written in [
+        &b"\x1b[A"[..],
+        b"\x1b[<0;1;1M",
+        b"\x1b[?62;22c",
+        b"\x1b]52;c;some text that needs memory\x1b\\",
+    ] {
+        let events = parser.parse_as_vec(written, false);
+        let write = || events[0].try_encode(reading);
+        sends_after_a_refusal(write, &EncodeEventError::Memory, &written.to_vec());
+    }
 }
 
 // A map of so many keys, each with its number.

@@ -9,7 +9,10 @@
  * read back whole. Under other flags, one set for each key, a room that is too short gets the front of what is sent. The press of each is
  * its own press.
  *
- * The first sequences and strings are read as replies, with room for all that they say and with less. */
+ * The first sequences and strings are read as replies, with room for all that they say and with less.
+ *
+ * The first events are written, into a room that has enough and into one that may not, and what is written is read as the event. A place of
+ * the cursor is also written as a reply, as are colours and attributes of its numbers. */
 #include "fuzz.h"
 #include <string.h>
 
@@ -29,6 +32,8 @@ enum {
   STRING_MAX = 1 << 17
 };
 enum { ALL_FLAGS = 2 * HED_KITTY_FLAG_REPORT_ASSOCIATED_TEXT - 1, SEQUENCE_MAX = 256, ENCODED_KEYS = 40, REPLIES = 40, REPLY_MAX = 4096 };
+/* For a key and for a control sequence or a string the sequence table is made, so that they are written for one stream in eight. */
+enum { WRITTEN = 4, STREAMS = 8, WRITTEN_MAX = 4096, AROUND_MAX = 12 };
 
 static bool is_key(const event *it) {
   return it->kind == HED_KIND_KEY || it->kind == HED_KIND_REPORT;
@@ -247,6 +252,99 @@ static void read_replies(void) {
   }
 }
 
+/* An event that is written, with the bytes that it brings, and how it is read. */
+typedef struct told_event {
+  const event *told;
+  const uint8_t *bytes;
+  hed_reading by;
+} told_event;
+
+static uint32_t write_told(const void *key, uint8_t *out, size_t capacity, size_t *len) {
+  static room numbers, bytes, by;
+  const told_event *it = key;
+  room_with(&numbers, it->told, sizeof *it->told);
+  room_with(&bytes, it->bytes, it->told->text_len);
+  room_with(&by, &it->by, sizeof it->by);
+  uint32_t encoded =
+      hed_encode_event((event *)numbers.at, pointer_to(&bytes), it->told->text_len, (hed_reading *)by.at, out, capacity, len);
+  HOLDS(is_unchanged(&numbers, it->told) && is_unchanged(&bytes, it->bytes) && is_unchanged(&by, &it->by));
+  return encoded;
+}
+
+/* What is written is read as the event. With more to come that is so for all but keys. */
+static void read_written(const sent *all, const told_event *it) {
+  static uint8_t of_read[WRITTEN_MAX];
+  static const hed_reading kitty = { HED_PROTOCOL_KITTY, false, 0 };
+  event read, other;
+  bool more = it->told->kind != HED_KIND_KEY;
+  HOLDS(hed_extended_set_reading(&back, &it->by) && hed_extended_feed(&back, all->bytes, all->len));
+  HOLDS(hed_extended_next(&back, more, &read) == HED_NEXT_EVENT && same_extended_event(&read, it->told));
+  HOLDS(read.text_len == 0 || hed_extended_text(&back, of_read, sizeof of_read) == it->told->text_len);
+  HOLDS(memcmp(of_read, it->bytes, read.text_len) == 0);
+  HOLDS(hed_extended_next(&back, more, &other) == HED_NEXT_NONE && hed_extended_waiting_len(&back) == 0);
+  HOLDS(hed_extended_set_reading(&back, &kitty));
+}
+
+/* Each event but a part of a string and a string that was cut off is written. */
+static void write_event(const told_event *it) {
+  static sent all, front;
+  bool is_part = it->told->kind == HED_KIND_STRING_PART || it->told->kind == HED_KIND_STRING_CUT;
+  size_t some = it->told->text_len % 8;
+  encode(&all, write_told, it, WRITTEN_MAX + AROUND_MAX);
+  encode(&front, write_told, it, some);
+  HOLDS(all.encoded == (is_part ? HED_ENCODED_NO_TEXT : HED_ENCODED_TEXT) && same_sent(&all, &front, some));
+  if (!is_part) read_written(&all, it);
+  note(0xa0000u | it->told->kind, all.encoded);
+}
+
+static uint32_t write_position(const void *key, uint8_t *out, size_t capacity, size_t *len) {
+  const event *it = key;
+  return hed_encode_cursor_position(it->row, it->column, it->row & 1, out, capacity, len);
+}
+
+static uint32_t write_scheme(const void *key, uint8_t *out, size_t capacity, size_t *len) {
+  return hed_encode_colour_scheme(((const event *)key)->row & 1, out, capacity, len);
+}
+
+static uint32_t write_attributes(const void *key, uint8_t *out, size_t capacity, size_t *len) {
+  static room numbers;
+  enum { COUNT = 2 };
+  const event *it = key;
+  const uint16_t told[COUNT] = { it->row, it->column };
+  room_with(&numbers, told, sizeof told);
+  uint32_t encoded = hed_encode_device_attributes((uint16_t *)numbers.at, COUNT, out, capacity, len);
+  HOLDS(is_unchanged(&numbers, told));
+  return encoded;
+}
+
+/* A place of the cursor, and other replies with its numbers, into rooms that have enough and that may not. */
+static void write_replies(const event *it) {
+  static encoder *const calls[] = { write_position, write_scheme, write_attributes };
+  static sent all, front;
+  for (size_t i = 0; i < sizeof calls / sizeof *calls; i++) {
+    encode(&all, calls[i], it, SEQUENCE_MAX);
+    encode(&front, calls[i], it, it->column % 8);
+    HOLDS(all.encoded == HED_ENCODED_TEXT && all.len <= SEQUENCE_MAX && same_sent(&all, &front, it->column % 8));
+  }
+}
+
+static bool needs_table(const event *it) {
+  return it->kind == HED_KIND_KEY || it->kind >= HED_KIND_CSI;
+}
+
+/* The first events are written by the reading that gave them: each position of the cursor answers a question. */
+static void write_events(void) {
+  told_event it = { whole.events, whole.texts, first_reading };
+  const event *end = whole.events + whole.count;
+  for (unsigned count = 0; it.told < end && count < WRITTEN; it.bytes += it.told++->text_len) {
+    bool is_position = it.told->kind == HED_KIND_CURSOR_POSITION;
+    bool is_for_this = !needs_table(it.told) || whole.count % STREAMS == 0;
+    if (it.told->text_len <= WRITTEN_MAX && is_for_this) write_event(&it), count++;
+    if (is_position) write_replies(it.told);
+    if (is_position && it.by.questions > 0) it.by.questions--;
+  }
+}
+
 /* A string of STRING_MAX bytes, which has no end. Each event brings the opening and the next bytes, and none is a key. */
 static void read_long_string(const uint8_t *bytes, size_t len, size_t size) {
   static uint8_t string[STRING_MAX] = "\033]52;", got[STRING_MAX];
@@ -280,4 +378,5 @@ void try_input(input *it) {
   check_questions();
   encode_keys();
   read_replies();
+  write_events();
 }
