@@ -1,7 +1,7 @@
 r"""Events to the bytes that a parser reads as them, and what a terminal replies.
 
-    >>> from hedrugal import KeyEvent, Modifiers, NamedKey
-    >>> encode_event(KeyEvent(NamedKey.UP_ARROW, Modifiers.CTRL))
+    >>> from hedrugal import KeyCode, KeyEvent, Modifiers
+    >>> encode_event(KeyEvent(KeyCode.UP_ARROW, Modifiers.CTRL))
     b'\x1b[1;5A'
     >>> encode_event(Csi(b"?62;22c"))
     b'\x1b[?62;22c'
@@ -66,6 +66,7 @@ from .extended import (
     KeyboardFlags,
     KeyReport,
     Osc,
+    Protocol,
     Reading,
     Resize,
     SideButton,
@@ -80,7 +81,7 @@ from .extended import (
 from .replies import ColourScheme
 
 
-def encode_event(event: ExtendedEvent, reading: Reading = Reading()) -> bytes:
+def encode_event(event: ExtendedEvent, reading: Reading = Reading(Protocol.LEGACY)) -> bytes:
     """Returns bytes that an ExtendedParser with this reading reads as the event, whatever the
     terminal sent. A multiplexer passes replies on by it, and a test writes what it feeds to a
     parser.
