@@ -538,7 +538,7 @@ def test_stop(start, number):
         relay.kill(number)
         relay.wait_for_stop()
     relay.continue_in_foreground()
-    relay.expect_exact(ON[:-4] + "\033[?1049h\033[>31u\033[?1003h\033[?1006h\033[?u")
+    relay.expect_exact(ON + "\033[?1049h\033[>31u\033[?1003h\033[?1006h")
     assert relay.is_raw()
     relay.child.is_told(signal.SIGWINCH, 80, 24)
     relay.send(MOVE)

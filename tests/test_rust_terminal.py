@@ -74,6 +74,22 @@ def test_stop_and_continue(start, words, number):
     cases.quit()
 
 
+@pytest.mark.parametrize("number", [signal.SIGTSTP, signal.SIGSTOP], ids=lambda it: it.name)
+def test_modes_of_the_program(start, number):
+    """What was told to the guard last is turned off before its own modes, and on after them."""
+    on, off = b"\033[?1004h\033[?2031h", b"\033[?2031l\033[?1004l"
+    cases = start("")
+    cases.play([b"o", "own\r\n"])
+    assert b"2031" not in cases.output
+    cases.kill(number)
+    cases.wait_for_stop()
+    cases.continue_in_foreground()
+    cases.expect_exact(on)
+    cases.quit()
+    assert (cases.output.count(on), cases.output.count(off)) == (1, 2)
+    assert b"told" not in cases.output and b"either" not in cases.output
+
+
 def test_guard_where_no_shell_could_continue_it(start):
     guard = start("guard", is_orphaned=True)
     guard.kill(signal.SIGTSTP)

@@ -18,32 +18,30 @@ mod mouse;
 mod output;
 mod pty;
 mod scanner;
-#[allow(dead_code)]
 mod terminal;
 mod unix;
 
 use hedrugal::extended::{ExtendedEvent, ExtendedParser, Protocol, Reading};
+use hedrugal::terminal::Heeded;
 use input::Sender;
 use modes::Wanted;
 use output::Output;
 use pty::PtyChild;
-use std::ffi::{c_short, OsString};
+use std::ffi::OsString;
 use std::fs::{File, OpenOptions};
 use std::io::{self, ErrorKind, Read, Write};
 use std::os::fd::AsRawFd;
 use std::os::unix::fs::OpenOptionsExt;
 use std::os::unix::process::ExitStatusExt;
 use std::process::{ExitCode, ExitStatus};
-use std::sync::atomic::Ordering::SeqCst;
 use std::time::{Duration, Instant};
-use terminal::{Terminal, Woken};
-use unix::{poll_all, signals, POLLIN};
+use terminal::Terminal;
+use unix::{poll_all, POLLIN, POLLOUT};
 
 const HELP: &str = "usage: relay [--] [PROGRAM [ARGUMENT..]]
 
 Runs a program, or else $SHELL, on a terminal of its own, and passes keys, mouse
 reports, pastes and the focus on in the modes that the program set.";
-const POLLOUT: c_short = 4;
 const O_NONBLOCK_NOCTTY: i32 = 0o4400;
 const PASTE_LIMIT: usize = 1 << 16;
 /// Nothing more is read for a side that hasn't taken so many bytes yet.
@@ -97,8 +95,7 @@ struct Relay {
 
 impl Relay {
     fn new(words: &[OsString]) -> Result<Relay, Failure> {
-        let wanted = Wanted::default();
-        let terminal = Terminal::find(wanted.switches())?;
+        let (settings, size) = terminal::found()?;
         let mut options = OpenOptions::new();
         options.write(true).custom_flags(O_NONBLOCK_NOCTTY);
         let screen = options.open("/proc/self/fd/1").map_err(|error| Failure {
@@ -106,22 +103,22 @@ impl Relay {
             says: format!("the terminal can't be opened: {error}"),
         })?;
         let parser = ExtendedParser::try_new(Protocol::Legacy).map_err(io::Error::other)?;
-        let child = PtyChild::start(words, &terminal.saved, terminal.size()?);
+        let child = PtyChild::start(words, &settings, size).map_err(|error| Failure {
+            status: if error.kind() == ErrorKind::NotFound {
+                127
+            } else {
+                126
+            },
+            says: format!("{}: {error}", words[0].to_string_lossy()),
+        })?;
         Ok(Relay {
             parser,
             sender: Sender::default(),
             output: Output::default(),
-            child: child.map_err(|error| Failure {
-                status: if error.kind() == ErrorKind::NotFound {
-                    127
-                } else {
-                    126
-                },
-                says: format!("{}: {error}", words[0].to_string_lossy()),
-            })?,
+            child,
             ended: None,
-            terminal,
-            wanted,
+            terminal: Terminal::enter(&settings)?,
+            wanted: Wanted::default(),
             screen,
             to_terminal: Vec::new(),
             to_child: Vec::new(),
@@ -130,7 +127,6 @@ impl Relay {
     }
 
     fn run(&mut self) -> io::Result<u8> {
-        self.terminal.enter()?;
         loop {
             match self.step()? {
                 Next::Step => {}
@@ -153,21 +149,30 @@ impl Relay {
         let if_any = |waits: bool, events| if waits { events } else { 0 };
         let from_child = if_any(reads_child, POLLIN);
         let to_child = if_any(!self.to_child.is_empty(), POLLOUT);
+        let guard = &self.terminal.guard;
         let descriptors = [
-            (self.terminal.wake.as_raw_fd(), POLLIN),
-            (self.terminal.input.as_raw_fd(), if_any(reads_keys, POLLIN)),
+            (guard.wake().as_raw_fd(), POLLIN),
+            (
+                self.child.end.as_raw_fd(),
+                if_any(self.ended.is_none(), POLLIN),
+            ),
+            (guard.input().as_raw_fd(), if_any(reads_keys, POLLIN)),
             (self.child.terminal.as_raw_fd(), from_child | to_child),
             (
                 self.screen.as_raw_fd(),
                 if_any(!self.to_terminal.is_empty(), POLLOUT),
             ),
         ];
-        let [wake, keys, child, screen] = match poll_all(descriptors, time) {
+        let [wake, end, keys, child, screen] = match poll_all(descriptors, time) {
             Err(error) if error.kind() == ErrorKind::Interrupted => return Ok(Next::Step),
             ready => ready?,
         };
         if wake != 0 {
             return self.handle_signals();
+        }
+        if end != 0 {
+            self.ended = self.child.status()?.map(|status| (status, MOST_LEFT));
+            return Ok(Next::Step);
         }
         if keys != 0 {
             self.read_keys()?;
@@ -199,34 +204,27 @@ impl Relay {
     }
 
     fn handle_signals(&mut self) -> io::Result<Next> {
-        if signals::STOPPING.load(SeqCst) || signals::ending().is_some() {
-            // So the terminal isn't left within a sequence. It may be gone.
-            let _ = io::stdout().write_all(&self.to_terminal);
-            self.to_terminal.clear();
-        }
-        match self.terminal.handle_signals()? {
-            Woken::Ending => {
-                self.child.signal(signals::ending().unwrap_or_default());
+        match self.terminal.heed(&mut self.to_terminal)? {
+            Heeded::Ending => {
+                let number = self.terminal.guard.ending();
+                self.child.signal(number.unwrap_or_default());
                 return Ok(Next::Signal);
             }
-            Woken::Resumed => {
+            Heeded::Resumed => {
                 self.parser.reset();
                 self.to_child.append(&mut self.sender.reset());
                 self.child.resize(self.terminal.size()?)?;
                 self.child.redraw();
             }
-            Woken::Resized => self.child.resize(self.terminal.size()?)?,
-            Woken::Input | Woken::Pause => {}
-        }
-        if self.ended.is_none() && signals::CHILD.swap(false, SeqCst) {
-            self.ended = self.child.status()?.map(|status| (status, MOST_LEFT));
+            Heeded::Resized => self.child.resize(self.terminal.size()?)?,
+            Heeded::Nothing => {}
         }
         Ok(Next::Step)
     }
 
     fn read_keys(&mut self) -> io::Result<()> {
         let mut bytes = [0; 4096];
-        let count = self.terminal.input.read(&mut bytes)?;
+        let count = self.terminal.guard.input().read(&mut bytes)?;
         if count == 0 {
             return Err(io::Error::other("the terminal is gone"));
         }
@@ -286,7 +284,7 @@ impl Relay {
         let wanted = self.output.modes.wanted();
         if wanted != self.wanted {
             self.wanted = wanted;
-            self.terminal.modes = wanted.switches();
+            self.terminal.set_wanted(&wanted);
         }
         if let Some((_, left)) = &mut self.ended {
             *left = left.saturating_sub(if count == 0 { MOST_LEFT } else { count });
@@ -338,7 +336,6 @@ fn main() -> ExitCode {
         return ExitCode::from(2);
     };
     let ended = Relay::new(&words).and_then(|mut relay| Ok(relay.run()?));
-    signals::end_by_signal();
     match ended {
         Ok(status) => ExitCode::from(status),
         Err(Failure { status, says }) => {

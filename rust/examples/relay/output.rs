@@ -1,35 +1,39 @@
 //! What the child writes, on its way to the terminal, and the modes that the terminal is in.
 use crate::modes::{ChildModes, Effect, Wanted};
 use crate::scanner::{Piece, Scanner};
-use crate::terminal;
+use hedrugal::input::KittyKeyboardFlags;
+use hedrugal::terminal::Modes;
 
 /// The modes in which a terminal tells most of keys and pastes: the keypad's own codes, bracketed
-/// pastes, modifyOtherKeys, and all of Kitty's flags, of which each screen has a stack.
-const KEYS_ON: &str = "\x1b=\x1b[?2004h\x1b[>4;2m";
-const KEYS_OFF: &str = "\x1b[>4m\x1b[?2004l\x1b>";
+/// pastes and modifyOtherKeys.
+const KEYS: Modes = Modes {
+    paste: true,
+    other_keys: true,
+    also_on: "\x1b=",
+    also_off: "\x1b>",
+    ..Modes::NONE
+};
+/// These, and all of Kitty's flags, of which each screen has a stack.
+pub const MODES: Modes = Modes {
+    keyboard: KittyKeyboardFlags::all(),
+    ..KEYS
+};
 const PUSH: &str = "\x1b[>31u";
 const POP: &str = "\x1b[<u";
 /// Sets the flags without a new entry of the stack.
 const SET: &str = "\x1b[=31;1u";
-/// A terminal replies if it has Kitty's protocol.
-const ASK: &str = "\x1b[?u";
 
 impl Wanted {
-    /// Switches the terminal's modes on, and off again.
-    pub fn switches(&self) -> terminal::Modes {
-        let (screen_on, screen_off) = self.screen();
-        terminal::Modes {
-            on: format!("{KEYS_ON}{PUSH}{screen_on}{}{ASK}", self.reports_on()).into(),
-            off: format!("{}{screen_off}{POP}{KEYS_OFF}", self.reports_off()).into(),
-        }
+    /// Switches on what the child wants beside [`MODES`].
+    pub fn on(&self) -> String {
+        let screen = self.alternate.map(|mode| format!("\x1b[?{mode}h{PUSH}"));
+        screen.unwrap_or_default() + &self.reports_on()
     }
 
-    /// Goes to the alternate screen if the child is there, and back.
-    fn screen(&self) -> (String, String) {
-        let mode = self.alternate;
-        let on = mode.map(|mode| format!("\x1b[?{mode}h{PUSH}"));
-        let off = mode.map(|mode| format!("{POP}\x1b[?{mode}l"));
-        (on.unwrap_or_default(), off.unwrap_or_default())
+    /// Switches it off again.
+    pub fn off(&self) -> String {
+        let screen = self.alternate.map(|mode| format!("{POP}\x1b[?{mode}l"));
+        self.reports_off() + &screen.unwrap_or_default()
     }
 
     /// Mouse reports are always those of mode 1006, which tell most.
@@ -104,7 +108,7 @@ impl Passed {
         }
         match effect {
             Effect::Question => self.questions += 1,
-            Effect::Reset => self.tell(&format!("{KEYS_ON}{SET}{}", after.reports_on())),
+            Effect::Reset => self.tell(&format!("{}{SET}{}", KEYS.on(), after.reports_on())),
             _ if before.reports_on() != after.reports_on() => {
                 self.tell(&before.reports_off());
                 self.tell(&after.reports_on());
@@ -301,17 +305,10 @@ mod tests {
             ),
             r"\x1b[?0u\x1b[?1u\x1b[?2u",
         );
-        let modes = run("\x1b[?1049h\x1b[?1003h", 1)
-            .output
-            .modes
-            .wanted()
-            .switches();
-        assert!(modes
-            .off
-            .ends_with("\x1b[<u\x1b[?1049l\x1b[<u\x1b[>4m\x1b[?2004l\x1b>"));
-        assert!(modes
-            .on
-            .contains("\x1b[>31u\x1b[?1049h\x1b[>31u\x1b[?1003h\x1b[?1006h"));
+        let run = run("\x1b[?1049h\x1b[?1003h", 1);
+        let wanted = run.output.modes.wanted();
+        assert_eq!(wanted.on(), "\x1b[?1049h\x1b[>31u\x1b[?1003h\x1b[?1006h");
+        assert_eq!(wanted.off(), "\x1b[?1006l\x1b[?1003l\x1b[<u\x1b[?1049l");
     }
 
     #[test]

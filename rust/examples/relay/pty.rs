@@ -1,5 +1,5 @@
 //! A child on a pseudo-terminal of its own.
-use crate::unix::{checked, Settings, WindowSize};
+use crate::unix::{checked, end_of, Settings, WindowSize};
 use std::ffi::{c_char, c_int, c_ulong, OsString};
 use std::fs::File;
 use std::io;
@@ -33,6 +33,8 @@ extern "C" {
 /// A child that has a pseudo-terminal. When this is dropped, the system hangs up that terminal.
 pub struct PtyChild {
     process: Child,
+    /// Can be read once the child has ended.
+    pub end: OwnedFd,
     /// Our side of it. Reads and writes don't wait.
     pub terminal: File,
     /// The child's side, kept open so that a child which closes it for a while ends no read.
@@ -72,8 +74,10 @@ impl PtyChild {
             .stderr(theirs.try_clone()?);
         // SAFETY: what runs between fork and exec only calls the system.
         unsafe { command.pre_exec(take_terminal) };
+        let process = command.spawn()?;
         Ok(PtyChild {
-            process: command.spawn()?,
+            end: end_of(process.id())?,
+            process,
             terminal: ours,
             _theirs: theirs,
         })

@@ -34,14 +34,22 @@ static WAKE: AtomicI32 = AtomicI32::new(-1);
 
 const HANDLED: [c_int; 7] = [SIGHUP, SIGINT, SIGQUIT, SIGTERM, SIGTSTP, SIGCONT, SIGALRM];
 
+// What turns modes on, and what turns them off.
+#[derive(Default)]
+struct Switches {
+    on: String,
+    off: String,
+}
+
 // A terminal that is in raw mode, or was left for another program.
 struct Entered {
     input: File,
     output: File,
     saved: Settings,
     raw: Settings,
-    on: String,
-    off: String,
+    modes: Switches,
+    // What the program turned on by itself since. Handlers read it, so it is replaced as a whole.
+    own: AtomicPtr<Switches>,
     // The signals that are handled, and what each did before.
     before: Vec<(c_int, Action)>,
 }
@@ -54,7 +62,15 @@ impl Entered {
         IS_RAW.store(true, SeqCst);
         self.turn_off(unix::write_all)?;
         IS_SWITCHED.store(true, SeqCst);
-        unix::write_all(self.output.as_raw_fd(), self.on.as_bytes())
+        for switches in [&self.modes, self.own()] {
+            unix::write_all(self.output.as_raw_fd(), switches.on.as_bytes())?;
+        }
+        Ok(())
+    }
+
+    fn own(&self) -> &Switches {
+        // SAFETY: it is freed only once it isn't there for new users, and there are none.
+        unsafe { &*self.own.load(SeqCst) }
     }
 
     // Restores the terminal, unless another program has it, and discards what it sent meanwhile,
@@ -80,7 +96,9 @@ impl Entered {
     // Not twice, also where a handler interrupts it.
     fn turn_off(&self, write: fn(RawFd, &[u8]) -> io::Result<()>) -> io::Result<()> {
         if IS_SWITCHED.swap(false, SeqCst) {
-            write(self.output.as_raw_fd(), self.off.as_bytes())?;
+            for switches in [self.own(), &self.modes] {
+                write(self.output.as_raw_fd(), switches.off.as_bytes())?;
+            }
         }
         Ok(())
     }
@@ -155,6 +173,13 @@ fn with_entered(call: impl FnOnce(&Entered)) {
         call(entered);
     }
     USERS.fetch_sub(1, SeqCst);
+}
+
+// Waits until no call uses what isn't there for new ones.
+fn wait_for_users() {
+    while USERS.load(SeqCst) > 0 {
+        thread::yield_now();
+    }
 }
 
 extern "C" fn handle(number: c_int) {
@@ -416,7 +441,7 @@ impl RawMode {
     /// If raw mode can't be set again.
     pub fn heed(&mut self) -> io::Result<Heeded> {
         while self.wake.read(&mut [0; 64]).is_ok() {}
-        let is_stopping = STOPPING.load(SeqCst) && self.ending().is_none();
+        let is_stopping = self.is_stopping();
         if is_stopping {
             self.entered().leave();
             self.entered().stop();
@@ -449,6 +474,47 @@ impl RawMode {
         Some(ENDING.load(SeqCst)).filter(|number| *number != 0)
     }
 
+    /// Returns whether SIGTSTP was noted, so that [`RawMode::heed`] is going to stop the program.
+    /// What has to be written before that is written now.
+    ///
+    /// ```no_run
+    /// use hedrugal::terminal::{Modes, RawMode};
+    ///
+    /// let guard = RawMode::noting(Modes::default())?;
+    /// assert!(!guard.is_stopping());
+    /// # Ok::<(), std::io::Error>(())
+    /// ```
+    #[must_use]
+    pub fn is_stopping(&self) -> bool {
+        STOPPING.load(SeqCst) && self.ending().is_none()
+    }
+
+    /// Tells the guard what the program has turned on by itself since, and what turns that off. It
+    /// takes the place of what was told before. Nothing is written by this call: `off` is written
+    /// wherever the guard turns its own modes off, before them, and `on` after it turned them on
+    /// again.
+    ///
+    /// ```no_run
+    /// use hedrugal::terminal::{Modes, RawMode};
+    /// use std::io::Write;
+    ///
+    /// let guard = RawMode::new(Modes::default())?;
+    /// let (on, off) = ("\x1b[?1049h", "\x1b[?1049l");
+    /// guard.set_own(on, off);
+    /// guard.output().write_all(on.as_bytes())?;
+    /// # Ok::<(), std::io::Error>(())
+    /// ```
+    pub fn set_own(&self, on: &str, off: &str) {
+        let own = Box::new(Switches {
+            on: on.to_string(),
+            off: off.to_string(),
+        });
+        let before = self.entered().own.swap(Box::into_raw(own), SeqCst);
+        wait_for_users();
+        // SAFETY: nobody has it any more: calls that aren't users have the guard for themselves.
+        drop(unsafe { Box::from_raw(before) });
+    }
+
     /// Lends the terminal as it was to what a function runs, such as an editor, and then sets raw
     /// mode again, whatever that did to the settings. Meanwhile SIGINT and SIGQUIT aren't for this
     /// program, and other signals do at once what they ask for.
@@ -479,6 +545,13 @@ impl RawMode {
     }
 }
 
+impl Drop for Entered {
+    fn drop(&mut self) {
+        // SAFETY: nobody else has what is dropped.
+        drop(unsafe { Box::from_raw(*self.own.get_mut()) });
+    }
+}
+
 impl Entered {
     // The terminal of this program, as it is before raw mode.
     fn find(modes: Modes, has_loop: bool) -> io::Result<Entered> {
@@ -497,8 +570,11 @@ impl Entered {
             output,
             saved,
             raw: saved.to_raw(),
-            on: modes.on(),
-            off: modes.off(),
+            modes: Switches {
+                on: modes.on(),
+                off: modes.off(),
+            },
+            own: AtomicPtr::new(Box::into_raw(Box::default())),
         })
     }
 }
@@ -543,9 +619,7 @@ impl Drop for RawMode {
             let _ = before.set(*number);
         }
         let entered = ENTERED.swap(ptr::null_mut(), SeqCst);
-        while USERS.load(SeqCst) > 0 {
-            thread::yield_now();
-        }
+        wait_for_users();
         // SAFETY: this guard put it there, and no handler has it any more.
         drop(unsafe { Box::from_raw(entered) });
         send_noted();

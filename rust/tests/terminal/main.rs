@@ -54,6 +54,11 @@ fn handle(terminal: &mut Terminal, key: &str, command: &str) -> io::Result<bool>
             print(&format!("lent {done}"))?;
         }
         "g" => print_second_guard()?,
+        "o" => {
+            terminal.raw_mode().set_own("not told", "either");
+            terminal.raw_mode().set_own("\x1b[?2031h", "\x1b[?2031l");
+            print("own")?;
+        }
         "p" => panic!("a panic"),
         "s" => {
             print("asleep")?;
