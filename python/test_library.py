@@ -28,6 +28,7 @@ from hedrugal import (
     extended,
     replies,
     sending,
+    written,
 )
 from helpers import HERE, LIBRARY, constants, read, run_python
 
@@ -58,7 +59,7 @@ def test_enums(kind, prefix):
 
 def test_docstrings_of_members():
     """Each member has one of its own, which help shows."""
-    modules = (hedrugal, extended, replies, sending)
+    modules = (hedrugal, extended, replies, sending, written)
     enums = {it for module in modules for it in vars(module).values() if inspect.isclass(it)}
     enums = [it for it in enums if issubclass(it, enum.Enum) and it.__members__]
     assert len(enums) == 20
@@ -135,7 +136,7 @@ def test_calls():
     header = re.sub(r"/\*.*?\*/", "", read("c/hedrugal.h"), flags=re.S)
     calls = re.findall(r"^[a-z].*?[ *](hed_\w+)\(([^;]*)\);", header, flags=re.M)
     counts = {name: 0 if taken == "void" else taken.count(",") + 1 for name, taken in calls}
-    modules = (hedrugal, extended, replies, sending)
+    modules = (hedrugal, extended, replies, sending, written)
     declared = {name: call for it in modules for name, call in it._CALLS.items()}
     assert counts == {name: len(taken) for name, (_, taken) in declared.items()}
 

@@ -946,10 +946,10 @@ _CHORD_MOST = 32
 _NAME_ROOM = 64
 
 _PARSER = ctypes.POINTER(_RawExtended)
-_READING = ctypes.POINTER(_RawReading)
+_READING: Any = ctypes.POINTER(_RawReading)
 _REPORT = ctypes.POINTER(_RawReport)
 _PRESS = ctypes.POINTER(_RawPress)
-_EVENT = ctypes.POINTER(_RawExtendedEvent)
+_EVENT: Any = ctypes.POINTER(_RawExtendedEvent)
 _BINDINGS = ctypes.POINTER(_RawBindings)
 _MATCHER = ctypes.POINTER(_RawMatcher)
 _OUTCOME = ctypes.POINTER(_RawOutcome)
