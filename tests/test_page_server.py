@@ -348,9 +348,8 @@ def test_at_one_time(client):
     def work(letter):
         for length in range(1, 20):
             items = client.told("/api/read", letter.encode() * length)["items"]
-            written = {"bytes": letter.encode().hex(), "length": 1}
-            shown = [1, f"key U+{ord(letter):04X} NONE", letter, letter, written]
-            assert items == [shown] * length
+            shown = [1, f"key U+{ord(letter):04X} NONE", letter, letter]
+            assert [it[:4] for it in items] == [shown] * length
 
     with client.connect() as slow, ThreadPoolExecutor(2 * AT_ONCE) as threads:
         head = f"POST /api/read HTTP/1.1\r\nHost: {client.host}\r\nContent-Length: 5\r\n\r\nq"
@@ -457,8 +456,9 @@ PRESSES = dict(zip((it for _, it, _ in REPORTS if "report" in it and "release" n
 @pytest.mark.parametrize("reading", ["extended", "kitty"])
 @pytest.mark.parametrize("data, line, glyphs", REPORTS)
 def test_lines_beyond_the_table(client, reading, data, line, glyphs):
-    items, told = client.check(data, "more", reading)
-    assert (items, told["waits"]) == ([[len(data), line, glyphs, PRESSES.get(line, "")]], None)
+    [[*item, written]], told = client.check(data, "more", reading)
+    assert (item, told["waits"]) == ([len(data), line, glyphs, PRESSES.get(line, "")], None)
+    assert written["length"] >= len(written["bytes"]) // 2 > 2
 
 
 def test_second_press(client):

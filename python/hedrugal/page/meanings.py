@@ -48,6 +48,7 @@ from hedrugal import (
     __version__,
     _KIND_STRING_PART,
     encode,
+    encode_event,
 )
 
 # The items that one answer lists, the reads of one byte that it lists, and the events that it lists
@@ -208,8 +209,6 @@ def printed(text: str) -> str:
 def written(event: ExtendedEvent, reading: str) -> Json:
     """What an event is written as, to be read as it in this reading: the first of its bytes and
     their number, or why there are none."""
-    from hedrugal import encode_event
-
     try:
         data = encode_event(event, Reading(PROTOCOLS[reading]))
     except EncodeError as error:
