@@ -118,3 +118,16 @@ def refused(call):
     except MemoryError as error:
         return error, None
 """
+
+
+def assert_documented(*modules_and_classes):
+    """Each public member that is ours has a docstring, which begins with a capital letter."""
+    types = {"Event", "ExtendedEvent", "Found", "Key", "Reply", "ReportedKey", "TerminalEvent"}
+    for it in modules_and_classes:
+        ours = [
+            base for base in getattr(it, "__mro__", ()) if base.__module__.startswith("hedrugal")
+        ]
+        names = {name for base in ours for name in vars(base) if name[0] != "_"}
+        for name in {*getattr(it, "__all__", names)} - types:
+            said = getattr(it, name).__doc__
+            assert said and said[0].isupper(), name

@@ -11,8 +11,7 @@ import pytest
 
 import hedrugal
 from hedrugal import ExtendedParser, InputParser, KeyMap, extended, replies, terminal
-from hedrugal import prompt_toolkit as for_prompt_toolkit
-from helpers import HERE, LIBRARY, SECONDS, TOP, assert_prints, listings
+from helpers import HERE, LIBRARY, SECONDS, TOP, assert_documented, assert_prints, listings
 
 
 @pytest.mark.parametrize("module", [hedrugal, extended, replies, terminal])
@@ -22,16 +21,7 @@ def test_docstrings(module):
 
 
 def test_every_call_says_what_it_does():
-    types = {"Event", "ExtendedEvent", "Found", "Key", "Reply", "ReportedKey", "TerminalEvent"}
-    classes = InputParser, KeyMap, ExtendedParser, terminal.Terminal, for_prompt_toolkit.Parser
-    for it in (hedrugal, terminal, for_prompt_toolkit, *classes, for_prompt_toolkit.Input):
-        ours = [
-            base for base in getattr(it, "__mro__", ()) if base.__module__.startswith("hedrugal")
-        ]
-        names = {name for base in ours for name in vars(base) if name[0] != "_"}
-        for name in {*getattr(it, "__all__", names)} - types:
-            said = getattr(it, name).__doc__
-            assert said and said[0].isupper(), name
+    assert_documented(hedrugal, terminal, InputParser, KeyMap, ExtendedParser, terminal.Terminal)
 
 
 ANSWERS_TOLD_APART = """

@@ -3,12 +3,16 @@ docs/python.md says why not."""
 import re
 
 import pytest
-from prompt_toolkit.input.ansi_escape_sequences import ANSI_SEQUENCES
-from prompt_toolkit.input.vt100_parser import Vt100Parser
-from prompt_toolkit.keys import Keys
 
-from hedrugal.prompt_toolkit import Parser
-from helpers import read
+pytest.importorskip("prompt_toolkit")
+
+from prompt_toolkit.input.ansi_escape_sequences import ANSI_SEQUENCES  # noqa: E402
+from prompt_toolkit.input.vt100_parser import Vt100Parser  # noqa: E402
+from prompt_toolkit.keys import Keys  # noqa: E402
+
+from hedrugal import prompt_toolkit as for_prompt_toolkit  # noqa: E402
+from hedrugal.prompt_toolkit import Parser  # noqa: E402
+from helpers import assert_documented, read  # noqa: E402
 
 
 def key_presses(make, *texts):
@@ -105,3 +109,7 @@ def test_reset():
 def test_typed(text):
     assert key_presses(Parser, text) == key_presses(Vt100Parser, text)
     assert key_presses(Parser, *text) == key_presses(Parser, text)
+
+
+def test_every_call_says_what_it_does():
+    assert_documented(for_prompt_toolkit, Parser, for_prompt_toolkit.Input)

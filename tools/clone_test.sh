@@ -110,7 +110,10 @@ check 'make uninstall' on_machine "make uninstall && find /usr/local -type f -ex
 archive=$prebuilt/libhedrugal.a
 pip='/root/own/v/bin/pip install ./python'
 check 'damaged library' refused "$archive isn't what" "echo damage >> $archive" 'make keys' 'cd rust; cargo build' "$pip"
-check 'no library' refused "there is no $prebuilt" "rm -r $prebuilt" 'make flags' 'cd rust; cargo build' "$pip"
+check 'no library' refused "there is no $prebuilt" "rm -r $prebuilt" 'make flags' "$pip"
+# Without a library cargo builds the package, and no program.
+check 'no library in Rust' on_machine "rm -rf ~/clone; git clone -q . ~/clone; cd ~/clone/rust; rm -r ../$prebuilt
+    if cargo build --example live 2> ~/said; then exit 1; fi; grep -F 'there is no $prebuilt' ~/said"
 check 'no compiler' refused "there is no compiler 'none'" 'export CC=none' 'make -e' "$pip"
 check 'another version' refused 'of version 9.8.7' "sed -i '/^__version__/s/\".*\"/\"9.8.7\"/' python/hedrugal/__init__.py
     sed -i '/^version/s/\".*\"/\"9.8.7\"/' rust/Cargo.*" 'cd rust; cargo build' "$pip"
