@@ -10,7 +10,7 @@ turn, and of each the least time counts. What is printed is what docs/PERFORMANC
 - how many events each parser makes of an input, where these aren't its items
 - what many parsers cost that get reads in turn
 - what names of keys, bindings and a matcher cost, from C
-- processor time for an event through each layer over a terminal: those of the Rust package, and
+- processor time for an event through each layer over a terminal: those in C, Rust and Python, and
   crossterm's
 
 The parsers are C (InputParser), Legacy and Kitty (the extended parser under that protocol, from C),
@@ -110,12 +110,24 @@ class Builder:
         return [f"{built}/examples/measure"]
 
     def layers(self):
-        """The layers of rust/with. Cargo writes a lock file there, so this is a copy."""
+        """The words of a program for each layer over a terminal, by the layer's name."""
+        layers = {"`hed_terminal_next`, in C": self.terminal_from_c()}
+        program = self.rust_layers()
+        layers.update((title, [program, layer]) for layer, title in RUST_LAYERS.items())
+        return layers | {"`hedrugal.terminal`, in Python": self.python("terminal.py")}
+
+    def terminal_from_c(self):
+        program, library = f"{self.work}/terminal", f"{self.library}/libhedrugal.a"
+        sources = [f"{TOOLS}/terminal.c", f"{TOP}/c/hedrugal_terminal.c"]
+        run("cc", "-O2", f"-I{self.library}", f"-I{TOP}/c", "-o", program, *sources, library)
+        return [program]
+
+    def rust_layers(self):
+        """The program of rust/with. Cargo writes a lock file there, so this is a copy."""
         copy, config = f"{self.work}/rust", f"{TOP}/rust/with/system.toml"
         shutil.copytree(f"{TOP}/rust", copy, ignore=shutil.ignore_patterns("target"))
         words = ["--example", "layers", "--features", "tokio,crossterm", "--config", config]
-        built = self.cargo(f"{copy}/with/Cargo.toml", *words)
-        return [f"{TOOLS}/layers.py"], f"{built}/examples/layers"
+        return self.cargo(f"{copy}/with/Cargo.toml", *words) + "/examples/layers"
 
     def crossterm(self):
         """Its parser is private. So a copy of the crate gets functions that call it."""
@@ -130,9 +142,9 @@ class Builder:
         built = self.cargo(f"{self.work}/Cargo.toml", *words)
         return self.linked(f"{built}/libpeer.a", "-lpthread", "-ldl", "-lm")
 
-    def in_python(self, name):
+    def python(self, script, *words):
         env = [f"HEDRUGAL_LIBRARY={self.library}/libhedrugal.so", f"PYTHONPATH={TOP}/python"]
-        return ["env", *env, PYTHON, "-B", f"{TOOLS}/measure.py", name]
+        return ["env", *env, PYTHON, "-B", f"{TOOLS}/{script}", *words]
 
 
 PARSERS = {
@@ -140,27 +152,27 @@ PARSERS = {
     "Legacy": lambda it: it.from_c("-DPROTOCOL=HED_PROTOCOL_LEGACY"),
     "Kitty": lambda it: it.from_c("-DPROTOCOL=HED_PROTOCOL_KITTY"),
     "Rust": Builder.rust,
-    "Python": lambda it: it.in_python("hedrugal"),
-    "Python Legacy": lambda it: it.in_python("legacy"),
-    "Python Keys": lambda it: it.in_python("keys"),
+    "Python": lambda it: it.python("measure.py", "hedrugal"),
+    "Python Legacy": lambda it: it.python("measure.py", "legacy"),
+    "Python Keys": lambda it: it.python("measure.py", "keys"),
     "libtermkey": lambda it: it.linked(f"{TOOLS}/libtermkey.c", "-ltermkey"),
     "crossterm": Builder.crossterm,
-    "prompt_toolkit": lambda it: it.in_python("prompt_toolkit"),
+    "prompt_toolkit": lambda it: it.python("measure.py", "prompt_toolkit"),
 }
 # The parsers that may be many. Their inputs stay in the processor's cache.
 OWN = "C with a table each"
 MANY = ["C", OWN, "Legacy", "Kitty", "libtermkey", "crossterm"]
 MANY_INPUTS, MANY_BYTES = ["keys", "csiu"], 1 << 15
 # The layers of rust/examples/with/layers.rs.
-LAYERS = {
-    "terminal": "`Terminal::read`",
-    "stream": "`EventStream`, on tokio",
+RUST_LAYERS = {
+    "terminal": "`Terminal::read`, in Rust",
+    "stream": "`EventStream`, in Rust on tokio",
     "crossterm": "crossterm's `event::read`",
     "crossterm-stream": "crossterm's `EventStream`, on tokio",
 }
 # Inputs of them, and how many bytes are typed at once.
 LAYER_INPUTS = {"one by one": ("typed", 1), "typed text": ("typed", 512), "keys": ("keys", 512)}
-LAYER_BYTES = 1 << 13
+LAYER_BYTES = 1 << 16
 # The tasks of tools/growth/chords.c.
 TASKS = {
     "read name": "to read the name `ctrl+x ctrl+s`",
@@ -194,7 +206,8 @@ def build(chosen, work):
     if "C" in programs:
         programs[OWN] = builder.from_c("-DOWN_TABLES")
     progress("building the layers")
-    layers = [Layers(work, builder.layers())] if {"Rust", "crossterm"} <= {*programs} else []
+    is_whole = {"C", "Rust", "Python", "crossterm"} <= {*programs}
+    layers = [Layers(work, builder.layers())] if is_whole else []
     return programs, missing, [Tasks(builder.tasks())] if "C" in programs else [], layers
 
 
@@ -251,24 +264,26 @@ class Tasks:
 
 
 class Layers:
-    """The least nanoseconds for an event through each layer."""
+    """The least nanoseconds for an event through each layer, by programs."""
 
-    def __init__(self, folder, program):
-        (script,), self.program = program
-        self.words, self.costs = [PYTHON, "-B", script], {}
+    def __init__(self, folder, programs):
+        self.programs, self.costs = programs, {}
         self.inputs = {name: Input(folder, name, LAYER_BYTES) for name, _ in LAYER_INPUTS.values()}
 
     def measure(self):
-        for layer, (name, size) in itertools.product(LAYERS, LAYER_INPUTS.values()):
-            given = self.inputs[name]
-            words = [given.file, given.items, size, self.program, layer]
-            cost = int(run(*self.words, *map(str, words)).split()[0]) / given.items
-            self.costs[layer, name, size] = min(cost, self.costs.get((layer, name, size), cost))
+        for layer, (name, size) in itertools.product(self.programs, LAYER_INPUTS.values()):
+            given, key = self.inputs[name], (layer, name, size)
+            words = [given.file, str(given.items), str(size), *self.programs[layer]]
+            numbers = [*map(int, run(PYTHON, "-B", f"{TOOLS}/layers.py", *words).split())]
+            self.costs[key] = [*map(min, numbers, self.costs.get(key, numbers))]
+
+    def cost(self, layer, name, size):
+        whole, start = self.costs[layer, name, size]
+        return (whole - start) / self.inputs[name].items
 
     def rows(self):
-        for layer, title in LAYERS.items():
-            found = [self.costs[layer, *each] for each in LAYER_INPUTS.values()]
-            yield [title, *map(figure, found)]
+        for layer in self.programs:
+            yield [layer, *(figure(self.cost(layer, *each)) for each in LAYER_INPUTS.values())]
 
 
 def where(chosen, programs):

@@ -1,9 +1,9 @@
 #!/usr/bin/env python3
-"""Types a file on a pseudo-terminal to a program that reads so many events of it, and prints the
-nanoseconds of processor time that the program took for them, and their number: layers.py FILE COUNT
-SIZE PROGRAM WORD.. So many bytes are typed at once, and then the next once these were read. With a
-size of 1 the program tells of each event, and the next is typed then. It ends after a minute, even
-if the program still waits."""
+"""Types a file on a pseudo-terminal to a program that reads so many events of it: layers.py FILE
+COUNT SIZE PROGRAM WORD.. It prints the nanoseconds of processor time that the program took, and
+those of a run with one event. SIZE bytes are typed at once, and then the next once these were read.
+With a size of 1 the program tells of each event, and the next is typed then. It ends after a
+minute, even if the program still waits."""
 import fcntl
 import os
 import signal
@@ -37,7 +37,7 @@ def time_of(words, count, text, size):
     child = os.fork()
     if not child:
         os.login_tty(terminal)
-        os.execv(words[0], [*words, count, "each" if size == 1 else "all"])
+        os.execvp(words[0], [*words, count, "each" if size == 1 else "all"])
     said = b""
     while not said.endswith(b"\n"):
         said += os.read(ours, 100)
@@ -53,8 +53,8 @@ def time_of(words, count, text, size):
 def main():
     file, count, size, *words = sys.argv[1:]
     signal.alarm(60)
-    spent = time_of(words, count, Path(file).read_bytes(), int(size)) - time_of(words, "1", b"a", 1)
-    print(int(spent * 1e9), count)
+    for events, text in (count, Path(file).read_bytes()), ("1", b"a"):
+        print(int(time_of(words, events, text, int(size)) * 1e9))
 
 
 main()
