@@ -7,24 +7,12 @@
  *
  * It prints the nanoseconds that all reads took, the number of their events and that of their bytes. Then it prints for each parser the
  * nanoseconds that it took to make, and the bytes of heap, once made and after its last read. */
+#include "gauges.h"
 #include "reader.h"
-#include <malloc.h>
 #include <stdio.h>
 #include <stdlib.h>
-#include <time.h>
 
 enum { ROUNDS = 64 };
-
-static double now(void) {
-  struct timespec t;
-  clock_gettime(CLOCK_MONOTONIC, &t);
-  return t.tv_sec * 1e9 + t.tv_nsec;
-}
-
-static double heap(void) {
-  struct mallinfo2 info = mallinfo2();
-  return info.uordblks + info.hblkhd;
-}
 
 static void stop(const char *why) {
   fprintf(stderr, "measure: %s\n", why);
