@@ -85,6 +85,8 @@ over = $(foreach it,std $(1),--extern $(it)=$(call rlibs_of,$(it))/$(it).rlib) -
 	$(if $(RLIBS),-L dependency=$(abspath $(RLIBS)),$(patsubst %/src/lib.rt,-L dependency=$(CURDIR)/%/out/rlib,$(proved_below))) \
 	--antt-project $(kit)/rattle/logic/antt-project.json --logic-built $(kit)/logic_built --jobs 4 --list-axioms
 proved_below = $(filter-out crates/test_%,$(wildcard crates/*/src/lib.rt))
+# Where a proof of a crate keeps what it checked, for one of the same crate for the other processor. rt keeps it in the crate's folder: NAME
+kept_by = --incremental $(if $(GATE)$(RLIBS),$(abspath out/build/$(1).kept),out/incremental)
 # The command that proves a folder's src/lib.rt and writes a static library: NAME,LIBRARIES,FILE
 static_library = rattle build --crate-name $(1) src/lib.rt $(call over,$(2)) --links $(1)= --crate-type staticlib \
 	--toolchain $(kit)/toolchain --backend llvm -o $(abspath $(3))
@@ -106,8 +108,8 @@ out/gate/%.proved:
 	@tools/gate.sh wait $* && touch $@
 
 out/build/libhedrugal.a: $(proved_libraries) | out/build
-	@tools/gate.sh part library '(cd crates/hedrugal && $(call static_library,hedrugal,$(call libraries_of,hedrugal),$@)) && \
-		tools/axioms.sh hedrugal out/gate/library.log'
+	@tools/gate.sh part library '(cd crates/hedrugal && $(call static_library,hedrugal,$(call libraries_of,hedrugal),$@) \
+		$(call kept_by,hedrugal)) && tools/axioms.sh hedrugal out/gate/library.log'
 
 crates/%/out/keyshow crates/%/out/test_refusals: out/gate/%.proved ;
 else
@@ -115,7 +117,8 @@ proved_libraries := $(crate_files)
 out/build/libhedrugal.a: $(crate_files) | out/build
 	@tools/needs.sh library
 	@echo 'make: proves and builds the crate hedrugal and those below it; out/build/hedrugal.log has what rt prints'
-	@cd crates/hedrugal && $(if $(RLIBS),{ $(call static_library,hedrugal,$(call libraries_of,hedrugal),$@); },rt lib --list-axioms) \
+	@cd crates/hedrugal && $(if $(RLIBS),{ $(call static_library,hedrugal,$(call libraries_of,hedrugal),$@) $(call kept_by,hedrugal); },\
+		rt lib --list-axioms) \
 		$(call proving,hedrugal)
 	@tools/axioms.sh hedrugal out/build/hedrugal.log
 	@$(if $(RLIBS),,cp crates/hedrugal/out/libhedrugal.a $@)

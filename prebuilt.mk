@@ -10,22 +10,22 @@ prebuilt: $(processors:%=out/prebuilt/%-linux/PROVENANCE) ## proves and builds w
 prebuilt-check: $(processors:%=out/prebuilt/%-linux/PROVENANCE) ## does the same, and says whether that folder has the same bytes
 	@$(foreach it,$(processors),$(call is_prebuilt,$(it)) &&) echo 'make: prebuilt has what these sources make'
 
-# Whether a processor's folder has what was built again.
-is_prebuilt = { diff -r prebuilt/$(1)-linux out/prebuilt/$(1)-linux || \
+# Whether a processor's folder has what was built again. The same bytes may come of a kit of another name.
+is_prebuilt = { diff -r -I '^kit: ' prebuilt/$(1)-linux out/prebuilt/$(1)-linux || \
 	{ echo "make: prebuilt/$(1)-linux isn't what these sources make: make prebuilt writes it anew" >&2; false; }; }
 
-# All proofs are over the same libraries: those of RLIBS, or those that `rt ci` or, for the library, `rt lib` proved.
-ready_libraries := $(proved_libraries) $(if $(RLIBS)$(GATE),,| out/build/libhedrugal.a)
-
-out/build/aarch64/libhedrugal.a: $(ready_libraries)
+# All proofs are over the same libraries: those of RLIBS, or those that `rt ci` or, for the library, `rt lib` proved. The proof of a crate for
+# ARM takes from that for x86-64 what is the same in both.
+out/build/aarch64/libhedrugal.a: out/build/libhedrugal.a
 	@mkdir -p $(@D)
-	@cd crates/hedrugal && { $(call static_library,hedrugal,$(call libraries_of,hedrugal),$@) --target aarch64-unknown-linux-gnu; } \
-		$(call logged,hedrugal-aarch64)
+	@cd crates/hedrugal && { $(call static_library,hedrugal,$(call libraries_of,hedrugal),$@) $(call kept_by,hedrugal) \
+		--target aarch64-unknown-linux-gnu; } $(call logged,hedrugal-aarch64)
 	@tools/axioms.sh hedrugal out/build/hedrugal-aarch64.log
 
-out/build/%/keyshow.o: $(ready_libraries)
+out/build/aarch64/keyshow.o: out/build/x86_64/keyshow.o
+out/build/%/keyshow.o: $(proved_libraries) $(if $(RLIBS)$(GATE),,| out/build/libhedrugal.a)
 	@mkdir -p $(@D)
-	@cd crates/keyshow && rattle build --crate-name keyshow src/main.rt $(call over,$(call libraries_of,keyshow)) \
+	@cd crates/keyshow && rattle build --crate-name keyshow src/main.rt $(call over,$(call libraries_of,keyshow)) $(call kept_by,keyshow) \
 		--toolchain $(kit)/toolchain --backend llvm --target $*-unknown-linux-gnu -o $(abspath $@) $(call logged,keyshow-$*)
 
 # Joins what rattle made with the C functions on which it stands to one object, in which only these names stay: PROCESSOR,SOURCES,NAMES

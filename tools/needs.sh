@@ -40,6 +40,6 @@ if [ $installs = yes ] && [ -n "$packages" ] && [ "$(id -u)" = 0 ] && command -v
 fi
 [ -n "$lacking" ] || exit 0
 hint=${packages:+", install the packages$packages"}
-[[ "$lacking " != *' rt '* ]] || hint+=', put rt of the Rattle kit (rattle-kit-13f) on the path'
+[[ "$lacking " != *' rt '* ]] || hint+=', put rt of the Rattle kit on the path'
 echo "needs: not there:$lacking$hint" >&2
 exit 1
