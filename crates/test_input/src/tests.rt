@@ -1,4 +1,5 @@
 // Each call that takes a callback or returns a list, on its happy path and on large input, and lookups in the sequence table.
+mod bindings;
 mod extended;
 mod keymap;
 mod keys;

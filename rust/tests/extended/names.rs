@@ -32,8 +32,11 @@ fn texts_name_chords() {
         ("<C-->", "ctrl+-"),
         ("<lt>", "<"),
         ("\t g \t g\t", "g g"),
+        (" \tg  PgUp\t", "g pageup"),
         ("S-SPC", "shift+space"),
         ("H-x", "hyper+x"),
+        ("H-<space>", "hyper+space"),
+        ("meta-Hyper+del", "hyper+meta+delete"),
         ("<t-x>", "meta+x"),
         ("KITTY57428", "kitty57428"),
         ("kitty57414", "enter"),
@@ -87,10 +90,14 @@ fn other_texts_are_refused() {
         ("kitty63744", KeyNameErrorKind::BadNumber, 0),
         ("f99999999999999999999", KeyNameErrorKind::BadNumber, 0),
         ("U+D800", KeyNameErrorKind::BadNumber, 0),
+        ("U+DFFF", KeyNameErrorKind::BadNumber, 0),
         ("U+110000", KeyNameErrorKind::BadNumber, 0),
         ("foo \x1b", KeyNameErrorKind::ControlCharacter, 4),
         ("foo \u{85}", KeyNameErrorKind::ControlCharacter, 4),
+        ("gg \n", KeyNameErrorKind::ControlCharacter, 3),
+        ("\u{e9}\u{85}", KeyNameErrorKind::ControlCharacter, 2),
         ("", KeyNameErrorKind::Empty, 0),
+        (" \t", KeyNameErrorKind::Empty, 0),
     ];
     for (text, kind, at) in rows {
         assert_eq!(
@@ -110,6 +117,8 @@ fn chords_have_32_keys_at_most() {
     let kind = KeyNameErrorKind::TooLong;
     let refused = format!(" {most}\tx").parse::<Chord>();
     assert_eq!(refused, Err(KeyNameError { kind, at: 65 }));
+    let long = "ctrl+f12 ".repeat(1112);
+    assert_eq!(long.parse::<Chord>(), Err(KeyNameError { kind, at: 288 }));
     let mut full = chord;
     assert!(!full.push("x".parse().unwrap()));
     assert_eq!(full, chord);
