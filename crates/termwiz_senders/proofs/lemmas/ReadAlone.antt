@@ -16,7 +16,7 @@ use Rattle.termwiz_extended_events.specs.Meanings.{whole_string}
 use Rattle.termwiz_extended_grammar.specs.Forms.{introducer, ST}
 use Rattle.termwiz_kitty.specs.KittyTexts.{most_bytes}
 use Rattle.termwiz_extended_events.specs.declared.types.Reading.{Reading}
-use Rattle.termwiz_extended_grammar.specs.ExtendedGrammar.{IsRest, Steps, Means}
+use Rattle.termwiz_extended_grammar.specs.ExtendedGrammar.{Steps, Means}
 use Rattle.termwiz_extended_grammar.specs.Readings.{after_event}
 use Rattle.termwiz_extended_grammar.proofs.lemmas.cuts.ExtendedCuts.{cut_independent}
 use Rattle.termwiz_extended_grammar.proofs.lemmas.items.ExtendedItems.{stands_once}
@@ -69,11 +69,6 @@ read_after reading fresh set fed after bytes more event found o left b empty set
     let alone : Steps reading bytes more (found ∷ []) after.text =
     subst (λ t. Steps reading t more (found ∷ []) after.text) text there in
     read_or_not reading bytes more event found left b (subst (Steps reading bytes more (found ∷ [])) (sym left_is) alone) tells
-
--- nothing is found
-pub rest_not_read : (reading : Reading) (text : List ℕ) (more : Bool) (event : ExtendedEvent) → IsRest reading text more
-    → ¬ Means reading text more (event ∷ []) []
-rest_not_read reading text more event rest means = rest means.steps.0 event means.steps.1
 
 -- an event that is there with more to come is there without
 pub at_once : (reading : Reading) (text : List ℕ) (event : ExtendedEvent) → Means reading text true (event ∷ []) [] → IsReadAtOnce reading event text
@@ -131,10 +126,6 @@ own_text reading (SideButton event) text bytes e = cc (e)
 own_text reading (StringPart kind t) text bytes e = cc (e)
 own_text reading (StringCut kind t) text bytes e = cc (e)
 
-pub if_ok : {A E : Type 0} (r : Result A E) (P Q : A → Type 0) → ((x : A) → P x → Q x) → IfOk r P → IfOk r Q
-if_ok (Ok x) P Q f h = f x h
-if_ok (Err e) P Q f h = h
-
 -- A place of the table has one row.
 pub row_once_at : (place : ℕ) (bytes other : List ℕ) (key own : KeyEvent) → IsRowAt place bytes key → IsRowAt place other own
     → (bytes ≡ other) × (key ≡ own)
@@ -148,9 +139,6 @@ not_true true f is = cc (f)
 -- A search over the rows, place by place.
 abbrev pub NoneBefore : Reading → KeyEvent → ℕ → Type 0
 NoneBefore reading key place = (before : ℕ) (other : List ℕ) → before < place → IsRowAt before other key → ¬ IsReadAsKey reading key other
-
-pub none_at_start : (reading : Reading) (key : KeyEvent) → NoneBefore reading key 0
-none_at_start reading key before other below = omega (arith, below)
 
 pub none_further : (reading : Reading) (key own : KeyEvent) (place : ℕ) (bytes : List ℕ) → NoneBefore reading key place → IsRowAt place bytes own
     → ¬ ((own ≡ key) × IsReadAsKey reading key bytes) → NoneBefore reading key (place + 1)
@@ -176,9 +164,6 @@ place_fits place inside = let few : place < row_count = subst (λ n. place < n) 
 
 pub next_inside : (n place : ℕ) → place < n → place + 1 ≤ n
 next_inside n place inside = omega (arith, inside)
-
-pub smaller : (n place : ℕ) → place < n → n - (place + 1) < n - place
-smaller n place inside = grind (arith, inside)
 
 -- What a key without an ESC before it is written as, by the three ways.
 pub no_plain_text : (reading : Reading) (key : KeyEvent) → ((bytes : List ℕ) → ¬ IsSentRow reading key bytes) → ¬ HasRow reading key
