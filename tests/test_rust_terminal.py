@@ -4,7 +4,7 @@ import signal
 import termios
 
 import pytest
-from terminal import ENDING_SIGNALS, START, Terminal
+from terminal import ENDING_SIGNALS, PAUSE, START, Terminal
 
 MODES = {1003, 1004, 1006, 1049, 2004}
 # Sets the terminal of the program so that a read of nothing fails at once.
@@ -210,6 +210,28 @@ def test_question_and_a_stop(start):
     cases = start("")
     cases.play([b"a", "\033[6n\033[c", b"x\033[2;3R\033[?62c"])
     cases.play(["CursorPosition { row: 2, column: 3 }", "is_whole: true", "key x\r\n"])
+    cases.quit()
+
+
+def test_question_that_would_block(start):
+    """The terminal is set so that a write which has to wait fails. The question waits."""
+    cases = start("", NO_WAIT)
+    cases.play([b"c", "command true\r\n"])
+    cases.stop_output()
+    cases.play([b"a", PAUSE])
+    cases.stop_output(termios.TCOON)
+    cases.play(["\033[6n\033[c", b"\033[?62c", "is_whole: true"])
+    cases.quit()
+
+
+@pytest.mark.parametrize("number", range(3, 7))
+def test_question_and_refused_memory(start, number):
+    """That of a reply is refused. The replies and the other events then come in their order."""
+    cases = start("", str(number))
+    cases.play([b"m", "\033[6n\033[c", b"x\033[2;3R\033[?1;2$yy\033[?62c", "OutOfMemory\r\n"])
+    mode, attributes = list(b"?1;2$y"), list(b"?62c")
+    cases.play(["key x\r\n", "CursorPosition { row: 2, column: 3 }", f"Csi({mode})"])
+    cases.play(["key y\r\n", f"Csi({attributes})"])
     cases.quit()
 
 

@@ -64,6 +64,13 @@ impl Event {
         self.key().and_then(|report| KeyPress::of_report(&report))
     }
 
+    pub(super) fn into_input(self) -> Option<ExtendedEvent> {
+        match self {
+            Event::Input(event) => Some(event),
+            _ => None,
+        }
+    }
+
     // Whether a terminal sends it since it was asked, and never by itself.
     pub(super) fn is_reply(&self) -> bool {
         use ExtendedEvent::*;

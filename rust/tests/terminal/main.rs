@@ -1,7 +1,12 @@
 //! A program whose keys do what has to go well on a terminal: tests/test_rust_terminal.py types them.
 //!
 //! `cases guard` is over the guard alone, and `cases` over a terminal with its events. `cases hook`
-//! also restores the terminal before the message of a panic. The command is run by a shell.
+//! also restores the terminal before the message of a panic. The command is run by a shell, or is the
+//! number of a request for memory that is refused.
+#[path = "../malloc/mod.rs"]
+#[allow(dead_code)] // the count of blocks
+mod malloc;
+
 use hedrugal::input::MouseTracking;
 use hedrugal::terminal::{restore, Event, Modes, RawMode, Terminal};
 use std::io::{self, Read, Write};
@@ -45,6 +50,14 @@ fn print_second_guard() -> io::Result<()> {
     print(&format!("{kind:?}"))
 }
 
+fn ask(terminal: &mut Terminal, refused: usize) -> io::Result<()> {
+    let ask = || terminal.ask("\x1b[6n", Duration::MAX);
+    match malloc::refusing(refused, ask) {
+        (Err(error), 1) => print(&format!("{:?}", error.kind())),
+        (answers, _) => print(&format!("{:?}", answers?)),
+    }
+}
+
 // Does what a key is for. Returns whether the program goes on.
 fn handle(terminal: &mut Terminal, key: &str, command: &str) -> io::Result<bool> {
     match key {
@@ -64,10 +77,8 @@ fn handle(terminal: &mut Terminal, key: &str, command: &str) -> io::Result<bool>
             print("asleep")?;
             sleep(Duration::from_secs(60));
         }
-        "a" => {
-            let answers = terminal.ask("\x1b[6n", Duration::from_secs(60))?;
-            print(&format!("{answers:?}"))?;
-        }
+        "a" => ask(terminal, 0)?,
+        "m" => ask(terminal, command.parse().unwrap_or(0))?,
         key => print(&format!("key {key}"))?,
     }
     Ok(key != "q")
