@@ -6,7 +6,8 @@ r"""Input for prompt_toolkit 3, read by the library.
     print(PromptSession(input=Input()).prompt("> "))
 
 Its keys are those of prompt_toolkit: Keys.ControlUp, or a character; Alt with a key is Keys.Escape
-and that key. docs/python.md lists the sequences that prompt_toolkit reads otherwise.
+and that key. Ten sequences are the opposite key in its table, and aren't here: those of Up and Down
+with two modifiers or more, and of Page Up with Ctrl and Alt.
 
 A lone ESC is the Escape key after 50 ms, and not after half a second (`ttimeoutlen`). The beginning
 of a sequence waits a second, so a slow line breaks no key."""
