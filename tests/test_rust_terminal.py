@@ -274,3 +274,25 @@ def test_crossterm_ended_by_a_signal(tui):
     tui.kill(signal.SIGTERM)
     assert tui.wait_for_end() == -signal.SIGTERM
     assert tui.settings() == tui.settings_before
+
+
+def test_crossterm_stopped(tui):
+    """A shell has those settings meanwhile."""
+    tui.play([b"x", "Char"])
+    tui.kill(signal.SIGTSTP)
+    tui.wait_for_stop()
+    assert tui.settings() == tui.settings_before
+    tui.continue_in_foreground()
+    tui.play(["(80, 24)", b"y", "Char", b"q"])
+    assert tui.wait_for_end() == 0
+    assert tui.settings() == tui.settings_before
+
+
+def test_crossterm_and_blocked_output(tui):
+    """The program heeds no signal, as one that has turned raw mode off and reads no more."""
+    tui.play([b"x", "Char"])
+    tui.stop_output()
+    tui.play([b"y", PAUSE])
+    tui.kill(signal.SIGTERM)
+    assert tui.wait_for_end() == -signal.SIGTERM
+    assert tui.settings() == tui.settings_before

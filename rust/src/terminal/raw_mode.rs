@@ -515,6 +515,16 @@ impl RawMode {
         drop(unsafe { Box::from_raw(before) });
     }
 
+    // Calls a function under the settings from before raw mode. What was typed ahead is kept.
+    #[cfg(feature = "crossterm")]
+    pub(crate) fn with_saved<T>(&self, call: impl FnOnce() -> T) -> io::Result<T> {
+        let input = self.input().as_raw_fd();
+        self.entered().saved.apply(input)?;
+        let done = call();
+        self.entered().raw.apply(input)?;
+        Ok(done)
+    }
+
     /// Lends the terminal as it was to what a function runs, such as an editor, and then sets raw
     /// mode again, whatever that did to the settings. Meanwhile SIGINT and SIGQUIT aren't for this
     /// program, and other signals do at once what they ask for.
