@@ -87,7 +87,7 @@ fn handle(terminal: &mut Terminal, key: &str, command: &str) -> io::Result<bool>
 fn read_by_loop(command: &str) -> io::Result<()> {
     let mut terminal = Terminal::open_with(MODES)?;
     writeln!(terminal.raw_mode().output(), "q ends")?;
-    while let Some(event) = terminal.read()? {
+    while let Some(event) = terminal.next().transpose()? {
         match (event.press(), event) {
             (Some(press), _) => {
                 if !handle(&mut terminal, &press.to_string(), command)? {
