@@ -205,11 +205,27 @@ def test_signals_within_a_paste(start):
     cases.quit()
 
 
-def test_question_and_a_stop(start):
-    """A reply that a stop lost isn't waited for in vain."""
+def test_question_and_a_new_size(start):
+    """What comes beside the replies stays for the loop."""
     cases = start("")
-    cases.play([b"a", "\033[6n\033[c", b"x\033[2;3R\033[?62c"])
-    cases.play(["CursorPosition { row: 2, column: 3 }", "is_whole: true", "key x\r\n"])
+    cases.play([b"a", "\033[6n\033[c", b"x\033[2;3R"])
+    cases.resize(100, 40)
+    cases.play([PAUSE, b"\033[?62c", "CursorPosition { row: 2, column: 3 }", "is_whole: true"])
+    cases.play(["key x\r\n", "Resized { columns: 100, rows: 40 }"])
+    cases.quit()
+
+
+def test_question_and_a_stop(start):
+    """What was read before it stays, and the last reply may come after it."""
+    cases = start("")
+    cases.play([b"a", "\033[6n\033[c", b"x\033[2;3R", PAUSE])
+    cases.kill(signal.SIGTSTP)
+    cases.wait_for_stop()
+    cases.check_restored()
+    cases.continue_in_foreground()
+    cases.check_raw()
+    cases.play([b"\033[?62c", "CursorPosition { row: 2, column: 3 }", "is_whole: true"])
+    cases.play(["key x\r\n", "resumed\r\n"])
     cases.quit()
 
 
