@@ -240,7 +240,7 @@ def test_question_that_would_block(start):
     cases.quit()
 
 
-@pytest.mark.parametrize("number", range(3, 7))
+@pytest.mark.parametrize("number", range(3, 10))
 def test_question_and_refused_memory(start, number):
     """That of a reply is refused. The replies and the other events then come in their order."""
     cases = start("", str(number))

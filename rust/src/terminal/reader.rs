@@ -202,14 +202,17 @@ impl Terminal {
     // Reads events until the last question is answered, at most for so long. Returns whether it is.
     fn read_up_to_attributes(&mut self, time: Duration, came: &mut Vec<Event>) -> io::Result<bool> {
         let end = Instant::now().checked_add(time);
-        while !came.last().is_some_and(Event::is_attributes) {
+        loop {
             let left = end.map(|end| end.saturating_duration_since(Instant::now()));
-            match self.read_until(left)? {
-                Some(event) => came.push(event),
-                None => return Ok(false),
+            let Some(event) = self.read_until(left)? else {
+                return Ok(false);
+            };
+            let is_last = event.is_attributes();
+            came.push(event);
+            if is_last.map_err(refused)? {
+                return Ok(true);
             }
         }
-        Ok(true)
     }
 
     /// Lends the terminal as it was to what a function runs, such as an editor, as
