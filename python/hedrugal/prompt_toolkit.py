@@ -18,7 +18,7 @@ import dataclasses
 import functools
 import re
 import sys
-from asyncio import TimerHandle
+from asyncio import TimerHandle, get_running_loop
 from typing import (
     Any,
     Callable,
@@ -33,7 +33,6 @@ from typing import (
     cast,
 )
 
-from prompt_toolkit.eventloop import get_event_loop
 from prompt_toolkit.input.ansi_escape_sequences import ANSI_SEQUENCES
 from prompt_toolkit.input.vt100 import Vt100Input
 from prompt_toolkit.input.vt100_parser import Vt100Parser
@@ -296,4 +295,4 @@ class Input(Vt100Input):
             self._timer = None
         seconds = self._parser.timeout()
         if self._callback and seconds is not None:
-            self._timer = get_event_loop().call_later(seconds, self._callback)
+            self._timer = get_running_loop().call_later(seconds, self._callback)
