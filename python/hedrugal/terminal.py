@@ -10,7 +10,7 @@ r"""The terminal of a program: raw mode and modes, what is typed as events, and 
     ...             terminal.write(f"{press or event}\n")
 
 The block sets raw mode and switches modes on. The terminal is restored at its end, by whatever way
-the program leaves it: an exception, SystemExit, and the signals that end a process. While SIGTSTP
+the program leaves it: an exception, SystemExit, SIGHUP, SIGINT, SIGQUIT and SIGTERM. While SIGTSTP
 stops the program, a shell has the terminal as it was."""
 from __future__ import annotations
 

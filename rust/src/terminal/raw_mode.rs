@@ -282,8 +282,9 @@ pub enum Heeded {
 /// Once the guard is dropped, these signals do what they did before, and one that was noted is sent
 /// again. SIGALRM is handled too. A signal that was ignored before stays ignored.
 ///
-/// A program has one guard at a time. Nothing is restored by SIGKILL, by `abort` or by
-/// `std::process::exit`: call [`restore`] before these, and in a hook for panics that abort.
+/// A program has one guard at a time. Nothing is restored by other signals that end the program, by
+/// `abort` or by `std::process::exit`: call [`restore`] before these, and in a hook for panics that
+/// abort.
 ///
 /// ```no_run
 /// use hedrugal::terminal::{Modes, RawMode};
