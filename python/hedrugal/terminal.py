@@ -404,10 +404,10 @@ class Terminal:
         """Writes questions. At the end of the block their replies are moved to the list, up to the
         last one. If it ends by an exception they stay events, since nobody gets the list."""
         replies: List[ExtendedEvent] = []
-        before, self._events = self._events, collections.deque()
-        self._is_asking = True
         for _ in range(question.count(_POSITION)):
             self.parser.expect_position()
+        before, self._events = self._events, collections.deque()
+        self._is_asking = True
         try:
             self.write(question + _ATTRIBUTES)
             yield replies
