@@ -90,6 +90,21 @@ def test_modes_of_the_program(start, number):
     assert b"told" not in cases.output and b"either" not in cases.output
 
 
+@pytest.mark.timed
+def test_guard_stopped_while_keys_come(start):
+    """A thread reads, and no read fails, although a handler writes what must not wait."""
+    guard = start("thread")
+    for _ in range(100):
+        guard.send(b"abc")
+        guard.kill(signal.SIGTSTP)
+        guard.wait_for_stop()
+        guard.continue_in_foreground()
+        guard.wait_for(guard.is_raw, "raw mode")
+        guard.play([0.01])
+    guard.check_raw()
+    guard.quit()
+
+
 def test_guard_where_no_shell_could_continue_it(start):
     guard = start("guard", is_orphaned=True)
     guard.kill(signal.SIGTSTP)

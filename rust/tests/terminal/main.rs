@@ -1,8 +1,8 @@
 //! A program whose keys do what has to go well on a terminal: tests/test_rust_terminal.py types them.
 //!
-//! `cases guard` is over the guard alone, and `cases` over a terminal with its events. `cases hook`
-//! also restores the terminal before the message of a panic. The command is run by a shell, or is the
-//! number of a request for memory that is refused.
+//! `cases guard` is over the guard alone, and `cases thread` reads so in a thread. `cases` is over a
+//! terminal with its events. `cases hook` also restores the terminal before the message of a panic.
+//! The command is run by a shell, or is the number of a request for memory that is refused.
 #[path = "../malloc/mod.rs"]
 #[allow(dead_code)] // the count of blocks
 mod malloc;
@@ -12,7 +12,7 @@ use hedrugal::terminal::{restore, Event, Modes, RawMode, Terminal};
 use std::io::{self, Read, Write};
 use std::panic;
 use std::process::Command;
-use std::thread::sleep;
+use std::thread::{self, sleep};
 use std::time::Duration;
 
 const MODES: Modes = Modes {
@@ -34,14 +34,23 @@ fn run(command: &str) -> bool {
 }
 
 // Reads bytes without any loop that heeds signals.
-fn read_by_guard() -> io::Result<()> {
-    let guard = RawMode::new(MODES)?;
-    print("q ends")?;
+fn read_by_guard(guard: &RawMode) -> io::Result<()> {
     let mut byte = [0];
     while byte != *b"q" && guard.input().read(&mut byte)? > 0 {
         print(&format!("byte {}", byte[0]))?;
     }
     Ok(())
+}
+
+// The same in a thread, so that a handler runs beside it.
+fn read_by_thread(guard: &RawMode) -> io::Result<()> {
+    thread::scope(|scope| scope.spawn(|| read_by_guard(guard)).join()).expect("it doesn't panic")
+}
+
+fn run_guard(read: fn(&RawMode) -> io::Result<()>) -> io::Result<()> {
+    let guard = RawMode::new(MODES)?;
+    print("q ends")?;
+    read(&guard)
 }
 
 fn print_second_guard() -> io::Result<()> {
@@ -105,7 +114,10 @@ fn main() -> io::Result<()> {
     let words: Vec<_> = std::env::args().skip(1).collect();
     let word = words.first().map_or("", String::as_str);
     if word == "guard" {
-        return read_by_guard();
+        return run_guard(read_by_guard);
+    }
+    if word == "thread" {
+        return run_guard(read_by_thread);
     }
     if word == "hook" {
         let hook = panic::take_hook();
