@@ -35,7 +35,7 @@
 //! - that the program goes on after it was stopped: [`event::read`] returns its size then
 use crate::extended::{ExtendedEvent, KeyEventKind, KeyReport, KittyModifiers, ReportedKey};
 use crate::input::{InputEvent, KeyCode, Modifiers, MouseButtons, MouseEvent};
-use crate::terminal::{restore, Event, Modes, Terminal};
+use crate::terminal::{restore, Event, Modes, RawMode, Terminal};
 use ::crossterm::event as theirs;
 use ::crossterm::terminal::{disable_raw_mode, enable_raw_mode, is_raw_mode_enabled};
 use std::io;
@@ -360,17 +360,18 @@ struct Reader {
 static READER: Mutex<Option<Reader>> = Mutex::new(None);
 
 impl Reader {
-    // The program turns modes on by itself. Its raw mode is off for a moment, so that the guard
-    // restores the settings from before that.
+    // The program turns modes on by itself. Its raw mode is off for a moment, to find the settings
+    // from before it, which the guard restores.
     fn open() -> io::Result<Reader> {
-        let is_raw = is_raw_mode_enabled()?;
-        disable_raw_mode()?;
-        let terminal = Terminal::open_with(Modes::NONE)?;
-        if is_raw {
-            terminal.raw_mode().with_saved(enable_raw_mode)??;
+        let mut saved = None;
+        if is_raw_mode_enabled()? {
+            disable_raw_mode()?;
+            let before = RawMode::settings();
+            enable_raw_mode()?;
+            saved = Some(before?);
         }
         Ok(Reader {
-            terminal,
+            terminal: Terminal::begin(Modes::NONE, saved)?,
             converter: Converter::default(),
             front: None,
         })

@@ -1,6 +1,6 @@
 // A terminal that a program reads events from.
 use super::events::{refused, Events};
-use super::unix::{self, EIO};
+use super::unix::{self, Settings, EIO};
 use super::{Event, Heeded, Modes, RawMode};
 use crate::extended::ExtendedEvent;
 use crate::input::Policy;
@@ -96,10 +96,15 @@ impl Terminal {
     ///
     /// Those of [`Terminal::open`].
     pub fn open_with(modes: Modes) -> io::Result<Terminal> {
+        Terminal::begin(modes, None)
+    }
+
+    // `saved` has the settings to restore, if they aren't those of now.
+    pub(crate) fn begin(modes: Modes, saved: Option<Settings>) -> io::Result<Terminal> {
         Ok(Terminal {
             events: Events::new(&modes).map_err(refused)?,
             unfed: Vec::with_capacity(READ),
-            raw_mode: RawMode::noting(modes)?,
+            raw_mode: RawMode::begin(modes, true, saved)?,
         })
     }
 
