@@ -23,10 +23,13 @@ static void print_text(const hed_extended *parser, const char *name, size_t len)
   putchar('\n');
 }
 
-/* Whether a control sequence is the reply to DA1: it begins with a question mark and ends with c. */
+/* Whether a control sequence is the reply to DA1. */
 static bool is_last_reply(const hed_extended *parser, size_t len) {
   uint8_t text[LONGEST_REPLY];
-  return len > 1 && hed_extended_text(parser, text, sizeof text) == len && len <= sizeof text && text[0] == '?' && text[len - 1] == 'c';
+  hed_reply reply;
+  if (hed_extended_text(parser, text, sizeof text) > sizeof text) return false;
+  uint32_t answer = hed_read_reply(HED_KIND_CSI, text, len, &reply, NULL, 0, NULL, 0);
+  return answer == HED_REPLIED_VALUES && reply.kind == HED_REPLY_DEVICE_ATTRIBUTES && reply.report == HED_DEVICE_ATTRIBUTES_PRIMARY;
 }
 
 /* Prints an event. Returns whether it is the last reply. */

@@ -165,8 +165,9 @@ def files_of_module():
             yield str(path.relative_to(HERE)), path.read_bytes()
 
 
-def notices():
-    for name in ("LICENSE", "THIRD-PARTY", "hedrugal.spdx.json"):
+def documents():
+    """Yields the notices, and the document that docstrings of the module name."""
+    for name in ("LICENSE", "THIRD-PARTY", "hedrugal.spdx.json", "docs/EXTENDED.md"):
         if path := found(name):
             yield name, path.read_bytes()
 
@@ -175,7 +176,7 @@ def files_of_wheel(library, row, tag):
     note = f"\nThe wheel has that library, for {row[1]}.\n"
     yield from files_of_module()
     yield "hedrugal/libhedrugal.so", library
-    for name, data in notices():
+    for name, data in documents():
         yield f"{NAME}.dist-info/{name}", data
     yield f"{NAME}.dist-info/METADATA", (METADATA + note).encode()
     lines = ("Wheel-Version: 1.0", "Generator: hedrugal", "Root-Is-Purelib: false", f"Tag: {tag}")
@@ -206,7 +207,7 @@ def add_to_wheel(wheel, name, data):
 
 def files_of_sdist():
     yield from files_of_module()
-    yield from notices()
+    yield from documents()
     yield "PKG-INFO", METADATA.encode()
     for name in ("backend.py", "pyproject.toml"):
         yield name, (HERE / name).read_bytes()

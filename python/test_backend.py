@@ -3,6 +3,7 @@ import base64
 import hashlib
 import os
 import platform
+import re
 import shutil
 import tarfile
 import zipfile
@@ -32,8 +33,9 @@ def tree(tmp_path):
         HERE, top / "python", ignore=shutil.ignore_patterns("test_*", "__pycache__", "*.so")
     )
     shutil.copytree(os.path.join(TOP, "prebuilt"), top / "prebuilt")
-    for name in ("LICENSE", "THIRD-PARTY"):
-        shutil.copy(os.path.join(TOP, name), top)
+    (top / "docs").mkdir()
+    for name in ("LICENSE", "THIRD-PARTY", "docs/EXTENDED.md"):
+        shutil.copy(os.path.join(TOP, name), top / name)
     return top
 
 
@@ -84,6 +86,14 @@ def test_wheel(tree):
     assert {f"{NAME}.dist-info/{it}" for it in ("LICENSE", "THIRD-PARTY", "METADATA")} <= {*files}
     first = wheel.read_bytes()
     assert build(tree, HEDRUGAL_LIBRARY=os.path.dirname(LIBRARY))[0].read_bytes() == first
+
+
+def test_documents(tree):
+    """Those that the module names are there."""
+    files = files_of(build(tree)[0])
+    sources = b"".join(data for name, data in files.items() if name.endswith(".py"))
+    named = {it.decode() for it in re.findall(rb"docs/\w+\.md", sources)}
+    assert named and {f"{NAME}.dist-info/{it}" for it in named} <= {*files}
 
 
 def test_prebuilt(tree):

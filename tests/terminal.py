@@ -124,10 +124,10 @@ class Terminal(fdspawn):
         """Sets the terminal so that ^D ends the input."""
         change_settings(self.child_fd, {termios.VEOF: b"\x04"}, on=termios.ICANON)
 
-    def stop_output(self):
-        """Nothing of what the program writes is taken from now on."""
+    def stop_output(self, action=termios.TCOOFF):
+        """Nothing of what the program writes is taken from now on; with TCOON it is again."""
         terminal = fcntl.ioctl(self.child_fd, TIOCGPTPEER, os.O_RDWR | os.O_NOCTTY)
-        termios.tcflow(terminal, termios.TCOOFF)
+        termios.tcflow(terminal, action)
         os.close(terminal)
 
     def resize(self, columns, rows):

@@ -524,7 +524,7 @@ def test_ask_in_vain(asking):
 
 
 def test_ask_that_is_interrupted(run):
-    """What came until then is an event."""
+    """What came until then are events, in their order."""
     program = run(
         """
 def interrupt(*_):
@@ -539,10 +539,35 @@ with Terminal() as terminal:
     show_until_q(terminal)
 """
     )
-    program.play(["\033[c", b"\033[?1;2$y\033[200~", 0.1])
+    program.play(["\033[c", b"\033[?1;2$ya\033[200~", 0.1])
     program.kill(signal.SIGUSR1)
     program.play(["interrupted\r\n", END + b"q"])
-    program.ends_with("interrupted", "Csi(data=b'?1;2$y')", "Paste(text='')", "q")
+    program.ends_with("interrupted", "Csi(data=b'?1;2$y')", "a", "Paste(text='')", "q")
+
+
+def test_ask_and_refused_memory(run):
+    """What came until then are events, in their order, and so is what memory was refused for."""
+    program = run(
+        """
+from unittest import mock
+with Terminal() as terminal:
+    ready()
+    def refuse(data):
+        if b"c" in data:
+            patch.stop()
+            raise MemoryError
+        ExtendedParser.feed(terminal.parser, data)
+    patch = mock.patch.object(terminal.parser, "feed", refuse)
+    patch.start()
+    try:
+        show(*terminal.ask(b"", 60))
+    except MemoryError:
+        show("refused")
+    show_until_q(terminal)
+"""
+    )
+    program.play(["\033[c", b"a\033[?1;2$yb", 0.1, b"\033[?62cq"])
+    program.ends_with("refused", "a", "Csi(data=b'?1;2$y')", "b", "Csi(data=b'?62c')", "q")
 
 
 ASYNC = """

@@ -4,7 +4,7 @@ import signal
 import termios
 
 import pytest
-from terminal import ENDING_SIGNALS, START, Terminal
+from terminal import ENDING_SIGNALS, PAUSE, START, Terminal
 
 MODES = {1003, 1004, 1006, 1049, 2004}
 # Sets the terminal of the program so that a read of nothing fails at once.
@@ -88,6 +88,21 @@ def test_modes_of_the_program(start, number):
     cases.quit()
     assert (cases.output.count(on), cases.output.count(off)) == (1, 2)
     assert b"told" not in cases.output and b"either" not in cases.output
+
+
+@pytest.mark.timed
+def test_guard_stopped_while_keys_come(start):
+    """A thread reads, and no read fails, although a handler writes what must not wait."""
+    guard = start("thread")
+    for _ in range(100):
+        guard.send(b"abc")
+        guard.kill(signal.SIGTSTP)
+        guard.wait_for_stop()
+        guard.continue_in_foreground()
+        guard.wait_for(guard.is_raw, "raw mode")
+        guard.play([0.01])
+    guard.check_raw()
+    guard.quit()
 
 
 def test_guard_where_no_shell_could_continue_it(start):
@@ -205,11 +220,49 @@ def test_signals_within_a_paste(start):
     cases.quit()
 
 
-def test_question_and_a_stop(start):
-    """A reply that a stop lost isn't waited for in vain."""
+def test_question_and_a_new_size(start):
+    """What comes beside the replies stays for the loop."""
     cases = start("")
-    cases.play([b"a", "\033[6n\033[c", b"x\033[2;3R\033[?62c"])
-    cases.play(["CursorPosition { row: 2, column: 3 }", "is_whole: true", "key x\r\n"])
+    cases.play([b"a", "\033[6n\033[c", b"x\033[2;3R"])
+    cases.resize(100, 40)
+    cases.play([PAUSE, b"\033[?62c", "CursorPosition { row: 2, column: 3 }", "is_whole: true"])
+    cases.play(["key x\r\n", "Resized { columns: 100, rows: 40 }"])
+    cases.quit()
+
+
+def test_question_and_a_stop(start):
+    """What was read before it stays, and the last reply may come after it."""
+    cases = start("")
+    cases.play([b"a", "\033[6n\033[c", b"x\033[2;3R", PAUSE])
+    cases.kill(signal.SIGTSTP)
+    cases.wait_for_stop()
+    cases.check_restored()
+    cases.continue_in_foreground()
+    cases.check_raw()
+    cases.play([b"\033[?62c", "CursorPosition { row: 2, column: 3 }", "is_whole: true"])
+    cases.play(["key x\r\n", "resumed\r\n"])
+    cases.quit()
+
+
+def test_question_that_would_block(start):
+    """The terminal is set so that a write which has to wait fails. The question waits."""
+    cases = start("", NO_WAIT)
+    cases.play([b"c", "command true\r\n"])
+    cases.stop_output()
+    cases.play([b"a", PAUSE])
+    cases.stop_output(termios.TCOON)
+    cases.play(["\033[6n\033[c", b"\033[?62c", "is_whole: true"])
+    cases.quit()
+
+
+@pytest.mark.parametrize("number", range(3, 10))
+def test_question_and_refused_memory(start, number):
+    """That of a reply is refused. The replies and the other events then come in their order."""
+    cases = start("", str(number))
+    cases.play([b"m", "\033[6n\033[c", b"x\033[2;3R\033[?1;2$yy\033[?62c", "OutOfMemory\r\n"])
+    mode, attributes = list(b"?1;2$y"), list(b"?62c")
+    cases.play(["key x\r\n", "CursorPosition { row: 2, column: 3 }", f"Csi({mode})"])
+    cases.play(["key y\r\n", f"Csi({attributes})"])
     cases.quit()
 
 
@@ -249,6 +302,28 @@ def test_crossterm(tui):
 def test_crossterm_ended_by_a_signal(tui):
     """The settings are those from before crossterm set them."""
     tui.play([b"x", "Char"])
+    tui.kill(signal.SIGTERM)
+    assert tui.wait_for_end() == -signal.SIGTERM
+    assert tui.settings() == tui.settings_before
+
+
+def test_crossterm_stopped(tui):
+    """A shell has those settings meanwhile."""
+    tui.play([b"x", "Char"])
+    tui.kill(signal.SIGTSTP)
+    tui.wait_for_stop()
+    assert tui.settings() == tui.settings_before
+    tui.continue_in_foreground()
+    tui.play(["(80, 24)", b"y", "Char", b"q"])
+    assert tui.wait_for_end() == 0
+    assert tui.settings() == tui.settings_before
+
+
+def test_crossterm_and_blocked_output(tui):
+    """The program heeds no signal, as one that has turned raw mode off and reads no more."""
+    tui.play([b"x", "Char"])
+    tui.stop_output()
+    tui.play([b"y", PAUSE])
     tui.kill(signal.SIGTERM)
     assert tui.wait_for_end() == -signal.SIGTERM
     assert tui.settings() == tui.settings_before

@@ -10,7 +10,7 @@
 # 'N passed, N failed', the status 1 if a case failed.
 . "$(dirname "$0")/common.sh"
 set -u
-export LC_ALL=C.UTF-8
+export LC_ALL=C.UTF-8 PATH=$PATH:/usr/sbin # has chroot
 [ "${1-}" != --help ] || { show_help; exit; }
 top=$(realpath -- "$(dirname "$0")/..")
 cd "$top" || exit

@@ -6,7 +6,8 @@ r"""Input for prompt_toolkit 3, read by the library.
     print(PromptSession(input=Input()).prompt("> "))
 
 Its keys are those of prompt_toolkit: Keys.ControlUp, or a character; Alt with a key is Keys.Escape
-and that key. docs/python.md lists the sequences that prompt_toolkit reads otherwise.
+and that key. Ten sequences are the opposite key in its table, and aren't here: those of Up and Down
+with two modifiers or more, and of Page Up with Ctrl and Alt.
 
 A lone ESC is the Escape key after 50 ms, and not after half a second (`ttimeoutlen`). The beginning
 of a sequence waits a second, so a slow line breaks no key."""
@@ -17,7 +18,7 @@ import dataclasses
 import functools
 import re
 import sys
-from asyncio import TimerHandle
+from asyncio import TimerHandle, get_running_loop
 from typing import (
     Any,
     Callable,
@@ -32,7 +33,6 @@ from typing import (
     cast,
 )
 
-from prompt_toolkit.eventloop import get_event_loop
 from prompt_toolkit.input.ansi_escape_sequences import ANSI_SEQUENCES
 from prompt_toolkit.input.vt100 import Vt100Input
 from prompt_toolkit.input.vt100_parser import Vt100Parser
@@ -295,4 +295,4 @@ class Input(Vt100Input):
             self._timer = None
         seconds = self._parser.timeout()
         if self._callback and seconds is not None:
-            self._timer = get_event_loop().call_later(seconds, self._callback)
+            self._timer = get_running_loop().call_later(seconds, self._callback)

@@ -10,7 +10,7 @@ r"""The terminal of a program: raw mode and modes, what is typed as events, and 
     ...             terminal.write(f"{press or event}\n")
 
 The block sets raw mode and switches modes on. The terminal is restored at its end, by whatever way
-the program leaves it: an exception, SystemExit, and the signals that end a process. While SIGTSTP
+the program leaves it: an exception, SystemExit, SIGHUP, SIGINT, SIGQUIT and SIGTERM. While SIGTSTP
 stops the program, a shell has the terminal as it was."""
 from __future__ import annotations
 
@@ -34,7 +34,6 @@ from typing import (
     Callable,
     Deque,
     FrozenSet,
-    Iterable,
     Iterator,
     List,
     Optional,
@@ -167,8 +166,8 @@ class Terminal:
         self._signalled: Deque[TerminalEvent] = collections.deque()
         # Bytes that memory was refused for, and whether it was refused for them or their events.
         self._unread, self._is_refused = b"", False
-        # Where `ask` wants the replies.
-        self._replies: Optional[List[ExtendedEvent]] = None
+        # Whether `ask` waits for the last reply.
+        self._is_asking = False
         # Signals that came, those that have to wait, and those that are handled here.
         self._noted: Set[int] = set()
         self._held = _NO_SIGNAL
@@ -245,7 +244,7 @@ class Terminal:
         The question for the terminal's attributes (DA1) is written last. Every terminal answers it,
         after the others, so the wait ends with that reply, which is the last of the list. If it
         isn't there, the time was too short. What is replied later is an event, and so is what is
-        typed meanwhile."""
+        typed meanwhile. If the call raises an exception, the replies so far are events too."""
         end = time.monotonic() + timeout
         with self._asking(question) as replies:
             while left := self._left(end):
@@ -395,39 +394,43 @@ class Terminal:
         self.parser.reset()
         self._unread, self._is_refused = b"", False
 
-    def _add(self, events: Iterable[ExtendedEvent]) -> None:
-        if self._replies is None:
-            self._events.extend(events)
-            return
-        for event in events:
-            if self._replies is None or not isinstance(event, _REPLIES):
-                self._events.append(event)
-                continue
-            self._replies.append(event)
-            if _is_attributes(event):
-                self._replies = None
+    def _add(self, events: List[ExtendedEvent]) -> None:
+        self._events.extend(events)
+        if self._is_asking and any(map(_is_attributes, events)):
+            self._is_asking = False
 
     @contextlib.contextmanager
     def _asking(self, question: bytes) -> Iterator[List[ExtendedEvent]]:
-        """Writes questions, and has their replies added to the list, up to the last one."""
+        """Writes questions. At the end of the block their replies are moved to the list, up to the
+        last one. If it ends by an exception they stay events, since nobody gets the list."""
         replies: List[ExtendedEvent] = []
-        self._replies = replies
         for _ in range(question.count(_POSITION)):
             self.parser.expect_position()
+        before, self._events = self._events, collections.deque()
+        self._is_asking = True
         try:
             self.write(question + _ATTRIBUTES)
             yield replies
-        except BaseException:
-            # Nobody gets the list, so they are events.
-            self._events.extend(replies)
-            raise
+            self._move_replies(replies)
         finally:
-            self._replies = None
+            self._events.extendleft(reversed(before))
+            self._is_asking = False
             self.parser.forget_positions()
+
+    def _move_replies(self, replies: List[ExtendedEvent]) -> None:
+        others: Deque[TerminalEvent] = collections.deque()
+        is_open = True
+        for event in self._events:
+            if is_open and isinstance(event, _REPLIES):
+                replies.append(event)
+                is_open = not _is_attributes(event)
+            else:
+                others.append(event)
+        self._events = others
 
     def _left(self, end: float) -> float:
         """How many seconds are left, 0 once the last question is answered."""
-        if self._is_ended or self._replies is None:
+        if self._is_ended or not self._is_asking:
             return 0.0
         return max(0.0, end - time.monotonic())
 

@@ -35,8 +35,9 @@
 //! - that the program goes on after it was stopped: [`event::read`] returns its size then
 use crate::extended::{ExtendedEvent, KeyEventKind, KeyReport, KittyModifiers, ReportedKey};
 use crate::input::{InputEvent, KeyCode, Modifiers, MouseButtons, MouseEvent};
-use crate::terminal::{restore, Event, Modes, Terminal};
+use crate::terminal::{restore, Event, Modes, RawMode, Terminal};
 use ::crossterm::event as theirs;
+use ::crossterm::terminal::{disable_raw_mode, enable_raw_mode, is_raw_mode_enabled};
 use std::io;
 use std::sync::{Mutex, MutexGuard, PoisonError};
 use std::time::{Duration, Instant};
@@ -359,10 +360,18 @@ struct Reader {
 static READER: Mutex<Option<Reader>> = Mutex::new(None);
 
 impl Reader {
-    // The program turns modes on by itself.
+    // The program turns modes on by itself. Its raw mode is off for a moment, to find the settings
+    // from before it, which the guard restores.
     fn open() -> io::Result<Reader> {
+        let mut saved = None;
+        if is_raw_mode_enabled()? {
+            disable_raw_mode()?;
+            let before = RawMode::settings();
+            enable_raw_mode()?;
+            saved = Some(before?);
+        }
         Ok(Reader {
-            terminal: Terminal::open_with(Modes::NONE)?,
+            terminal: Terminal::begin(Modes::NONE, saved)?,
             converter: Converter::default(),
             front: None,
         })
@@ -411,7 +420,7 @@ fn wait(reader: &mut Option<Reader>, time: Option<Duration>) -> io::Result<bool>
     let waited = opened.wait(time);
     if opened.terminal.ending().is_some() {
         restore();
-        ::crossterm::terminal::disable_raw_mode()?;
+        disable_raw_mode()?;
         *reader = None;
     }
     waited
@@ -419,7 +428,8 @@ fn wait(reader: &mut Option<Reader>, time: Option<Duration>) -> io::Result<bool>
 
 /// Waits for an event, as `crossterm::event::read` does. What crossterm's type can't say is left
 /// out. The first call opens the program's terminal, in raw mode; the program turns on what it wants
-/// of it by crossterm's commands, and calls `enable_raw_mode` before.
+/// of it by crossterm's commands, and calls `enable_raw_mode` before. A signal that ends or stops the
+/// program restores the settings from before that.
 ///
 /// ```no_run
 /// use hedrugal::crossterm::event::{self, Event};

@@ -83,10 +83,16 @@ impl EventDecoder {
     pub fn expire(&mut self) -> io::Result<Vec<Event>> {
         self.events.expire(Instant::now()).map_err(refused)?;
         let mut expired = Vec::new();
-        while let Some(event) = self.events.next().map_err(refused)? {
-            expired.push(event);
+        loop {
+            match self.events.next() {
+                Ok(Some(event)) => expired.push(event),
+                Ok(None) => return Ok(expired),
+                Err(error) => {
+                    self.events.put_back(expired.into_iter());
+                    return Err(refused(error));
+                }
+            }
         }
-        Ok(expired)
     }
 
     /// Sets how long each kind of bytes may stay buffered.

@@ -1,6 +1,8 @@
 // The events of a terminal, from what was read and from what passed of the time.
 use super::Modes;
-use crate::extended::{ExtendedEvent, ExtendedParser, KeyPress, KeyReport, Protocol, Reading};
+use crate::extended::{
+    DeviceAttributes, ExtendedEvent, ExtendedParser, KeyPress, KeyReport, Protocol, Reading, Reply,
+};
 use crate::input::{AllocError, Policy};
 use std::collections::VecDeque;
 use std::io;
@@ -64,6 +66,13 @@ impl Event {
         self.key().and_then(|report| KeyPress::of_report(&report))
     }
 
+    pub(super) fn into_input(self) -> Option<ExtendedEvent> {
+        match self {
+            Event::Input(event) => Some(event),
+            _ => None,
+        }
+    }
+
     // Whether a terminal sends it since it was asked, and never by itself.
     pub(super) fn is_reply(&self) -> bool {
         use ExtendedEvent::*;
@@ -78,9 +87,18 @@ impl Event {
     }
 
     // Whether it is the reply to ESC [c.
-    pub(super) fn is_attributes(&self) -> bool {
-        matches!(self, Event::Input(ExtendedEvent::Csi(bytes))
-            if bytes.starts_with(b"?") && bytes.ends_with(b"c"))
+    pub(super) fn is_attributes(&self) -> Result<bool, AllocError> {
+        let reply = match self {
+            Event::Input(event) => event.try_reply()?,
+            _ => None,
+        };
+        Ok(matches!(
+            reply,
+            Some(Reply::DeviceAttributes {
+                report: DeviceAttributes::Primary,
+                ..
+            })
+        ))
     }
 }
 

@@ -282,8 +282,9 @@ pub enum Heeded {
 /// Once the guard is dropped, these signals do what they did before, and one that was noted is sent
 /// again. SIGALRM is handled too. A signal that was ignored before stays ignored.
 ///
-/// A program has one guard at a time. Nothing is restored by SIGKILL, by `abort` or by
-/// `std::process::exit`: call [`restore`] before these, and in a hook for panics that abort.
+/// A program has one guard at a time. Nothing is restored by other signals that end the program, by
+/// `abort` or by `std::process::exit`: call [`restore`] before these, and in a hook for panics that
+/// abort.
 ///
 /// ```no_run
 /// use hedrugal::terminal::{Modes, RawMode};
@@ -315,7 +316,7 @@ impl RawMode {
     /// If there is no terminal, if it can't be set, or if there is a guard already
     /// ([`AlreadyExists`](io::ErrorKind::AlreadyExists)). The terminal is unchanged then.
     pub fn new(modes: Modes) -> io::Result<RawMode> {
-        RawMode::begin(modes, false)
+        RawMode::begin(modes, false, None)
     }
 
     /// Does what [`RawMode::new`] does, and notes signals for the program's loop, SIGWINCH too.
@@ -337,12 +338,23 @@ impl RawMode {
     ///
     /// Those of [`RawMode::new`].
     pub fn noting(modes: Modes) -> io::Result<RawMode> {
-        RawMode::begin(modes, true)
+        RawMode::begin(modes, true, None)
     }
 
-    fn begin(modes: Modes, has_loop: bool) -> io::Result<RawMode> {
+    // The terminal's settings as they are now.
+    #[cfg(feature = "crossterm")]
+    pub(crate) fn settings() -> io::Result<Settings> {
+        Settings::of(terminal_of(io::stdin())?.as_raw_fd())
+    }
+
+    // `saved` has the settings to restore, if they aren't those of now.
+    pub(super) fn begin(
+        modes: Modes,
+        has_loop: bool,
+        saved: Option<Settings>,
+    ) -> io::Result<RawMode> {
         let wake = wake()?;
-        claim(Entered::find(modes, has_loop)?)?;
+        claim(Entered::find(modes, has_loop, saved)?)?;
         IS_BUSY.store(true, SeqCst);
         HAS_LOOP.store(has_loop, SeqCst);
         let guard = RawMode { wake };
@@ -554,10 +566,10 @@ impl Drop for Entered {
 
 impl Entered {
     // The terminal of this program, as it is before raw mode.
-    fn find(modes: Modes, has_loop: bool) -> io::Result<Entered> {
+    fn find(modes: Modes, has_loop: bool, saved: Option<Settings>) -> io::Result<Entered> {
         let input = terminal_of(io::stdin())?;
         let output = terminal_of(io::stdout())?;
-        let saved = Settings::of(input.as_raw_fd())?;
+        let settings = Settings::of(input.as_raw_fd())?;
         let signals = HANDLED.into_iter().chain(has_loop.then_some(SIGWINCH));
         let actions: io::Result<Vec<_>> = signals
             .map(|number| Action::of(number).map(|action| (number, action)))
@@ -568,8 +580,8 @@ impl Entered {
             before,
             input,
             output,
-            saved,
-            raw: saved.to_raw(),
+            saved: saved.unwrap_or(settings),
+            raw: settings.to_raw(),
             modes: Switches {
                 on: modes.on(),
                 off: modes.off(),

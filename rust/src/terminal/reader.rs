@@ -1,14 +1,16 @@
 // A terminal that a program reads events from.
 use super::events::{refused, Events};
-use super::unix::{self, EIO};
+use super::unix::{self, Settings, EIO};
 use super::{Event, Heeded, Modes, RawMode};
 use crate::extended::ExtendedEvent;
 use crate::input::Policy;
-use std::collections::VecDeque;
 use std::fmt;
 use std::io::{self, ErrorKind, Read, Write};
 use std::os::fd::{AsFd, AsRawFd, BorrowedFd};
 use std::time::{Duration, Instant};
+
+// The most bytes that are read at once.
+const READ: usize = 4096;
 
 /// What [`Terminal::ask`] was answered.
 ///
@@ -58,7 +60,7 @@ pub struct Answers {
 /// ```
 pub struct Terminal {
     events: Events,
-    // What was read and refused memory by the parser.
+    // What was read and refused memory by the parser. It never grows.
     unfed: Vec<u8>,
     raw_mode: RawMode,
 }
@@ -94,10 +96,15 @@ impl Terminal {
     ///
     /// Those of [`Terminal::open`].
     pub fn open_with(modes: Modes) -> io::Result<Terminal> {
+        Terminal::begin(modes, None)
+    }
+
+    // `saved` has the settings to restore, if they aren't those of now.
+    pub(crate) fn begin(modes: Modes, saved: Option<Settings>) -> io::Result<Terminal> {
         Ok(Terminal {
             events: Events::new(&modes).map_err(refused)?,
-            unfed: Vec::new(),
-            raw_mode: RawMode::noting(modes)?,
+            unfed: Vec::with_capacity(READ),
+            raw_mode: RawMode::begin(modes, true, saved)?,
         })
     }
 
@@ -170,38 +177,47 @@ impl Terminal {
     ///
     /// # Errors
     ///
-    /// Those of [`Terminal::read`], or if the questions can't be written.
+    /// Those of [`Terminal::read`], or if the questions can't be written. The replies that came before
+    /// stay for [`Terminal::read`], in their order with the other events.
     pub fn ask(&mut self, questions: &str, time: Duration) -> io::Result<Answers> {
-        io::stdout().flush()?;
         for _ in questions.matches("\x1b[6n") {
             self.events.parser().expect_position();
         }
-        self.raw_mode.output().write_all(questions.as_bytes())?;
-        self.raw_mode.output().write_all(b"\x1b[c")?;
-        let mut others = VecDeque::new();
-        let answers = self.read_answers(Instant::now() + time, &mut others);
-        self.events.put_back(others.into_iter());
+        let mut came = Vec::new();
+        let asked = self.write_questions(questions);
+        let is_whole = asked.and_then(|()| self.read_up_to_attributes(time, &mut came));
         self.events.parser().forget_positions();
-        answers
+        let (replies, others): (Vec<_>, Vec<_>) = came
+            .into_iter()
+            .partition(|event| is_whole.is_ok() && event.is_reply());
+        self.events.put_back(others.into_iter());
+        Ok(Answers {
+            is_whole: is_whole?,
+            events: replies.into_iter().filter_map(Event::into_input).collect(),
+        })
     }
 
-    fn read_answers(&mut self, end: Instant, others: &mut VecDeque<Event>) -> io::Result<Answers> {
-        let mut answers = Answers {
-            events: Vec::new(),
-            is_whole: false,
-        };
-        while !answers.is_whole {
-            let left = end.saturating_duration_since(Instant::now());
-            let Some(event) = self.read_until(Some(left))? else {
-                break;
+    fn write_questions(&self, questions: &str) -> io::Result<()> {
+        io::stdout().flush()?;
+        let output = self.raw_mode.output().as_raw_fd();
+        unix::write_all(output, questions.as_bytes())?;
+        unix::write_all(output, b"\x1b[c")
+    }
+
+    // Reads events until the last question is answered, at most for so long. Returns whether it is.
+    fn read_up_to_attributes(&mut self, time: Duration, came: &mut Vec<Event>) -> io::Result<bool> {
+        let end = Instant::now().checked_add(time);
+        loop {
+            let left = end.map(|end| end.saturating_duration_since(Instant::now()));
+            let Some(event) = self.read_until(left)? else {
+                return Ok(false);
             };
-            answers.is_whole = event.is_attributes();
-            match event {
-                Event::Input(reply) if event.is_reply() => answers.events.push(reply),
-                other => others.push_back(other),
+            let is_last = event.is_attributes();
+            came.push(event);
+            if is_last.map_err(refused)? {
+                return Ok(true);
             }
         }
-        Ok(answers)
     }
 
     /// Lends the terminal as it was to what a function runs, such as an editor, as
@@ -419,7 +435,7 @@ impl Terminal {
 
     // Reads what is there. A terminal that is gone is at its end.
     fn read_input(&mut self) -> io::Result<()> {
-        let mut bytes = [0; 4096];
+        let mut bytes = [0; READ];
         match self.raw_mode.input().read(&mut bytes) {
             Ok(0) => self.events.end(),
             Ok(count) => self.unfed.extend_from_slice(&bytes[..count]),

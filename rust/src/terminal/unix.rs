@@ -29,9 +29,6 @@ const TCSADRAIN: c_int = 1;
 const TCSAFLUSH: c_int = 2;
 const TCIFLUSH: c_int = 0;
 const TIOCGWINSZ: c_ulong = 0x5413;
-const F_GETFL: c_int = 3;
-const F_SETFL: c_int = 4;
-const O_NONBLOCK: c_int = 0o4000;
 const SIG_DFL: usize = 0;
 const SIG_IGN: usize = 1;
 const SA_RESTART: c_int = 0x1000_0000;
@@ -65,7 +62,6 @@ pub struct Action {
 extern "C" {
     fn poll(descriptors: *mut PollFd, count: c_ulong, ms: c_int) -> c_int;
     fn ioctl(descriptor: c_int, request: c_ulong, ...) -> c_int;
-    fn fcntl(descriptor: c_int, command: c_int, ...) -> c_int;
     fn tcgetattr(descriptor: c_int, settings: *mut Settings) -> c_int;
     fn tcsetattr(descriptor: c_int, when: c_int, settings: *const Settings) -> c_int;
     fn tcflush(descriptor: c_int, what: c_int) -> c_int;
@@ -176,14 +172,16 @@ pub fn poll_all<const N: usize>(
     Ok(polled.map(|it| it.ready != 0))
 }
 
-fn wait_for_output(descriptor: RawFd) {
+// Waits until a byte can be written, at most for so many milliseconds, below zero for ever. Returns
+// whether one can, or the terminal is gone.
+fn has_room(descriptor: RawFd, ms: c_int) -> bool {
     let mut polled = PollFd {
         descriptor,
         events: POLLOUT,
         ready: 0,
     };
     // SAFETY: there is one.
-    unsafe { poll(&mut polled, 1, -1) };
+    unsafe { poll(&mut polled, 1, ms) > 0 }
 }
 
 fn write_some(descriptor: RawFd, bytes: &[u8]) -> io::Result<usize> {
@@ -198,23 +196,25 @@ pub fn write_all(descriptor: RawFd, mut bytes: &[u8]) -> io::Result<()> {
         match write_some(descriptor, bytes) {
             Ok(count) => bytes = &bytes[count..],
             Err(error) if error.kind() == io::ErrorKind::Interrupted => {}
-            Err(error) if error.kind() == io::ErrorKind::WouldBlock => wait_for_output(descriptor),
+            Err(error) if error.kind() == io::ErrorKind::WouldBlock => {
+                has_room(descriptor, -1);
+            }
             Err(error) => return Err(error),
         }
     }
     Ok(())
 }
 
-/// Writes what can be written without a wait. A handler of a signal may call it.
+/// Writes what can be written without a wait: where there is room, a write of one byte doesn't
+/// block. A handler of a signal may call it.
 pub fn write_at_once(descriptor: RawFd, bytes: &[u8]) -> io::Result<()> {
-    // SAFETY: the call has no pointers.
-    let flags = checked(unsafe { fcntl(descriptor, F_GETFL) })?;
-    // SAFETY: the same.
-    unsafe { fcntl(descriptor, F_SETFL, flags | O_NONBLOCK) };
-    let written = write_some(descriptor, bytes);
-    // SAFETY: the same.
-    unsafe { fcntl(descriptor, F_SETFL, flags) };
-    written.map(|_| ())
+    for byte in bytes.chunks(1) {
+        if !has_room(descriptor, 0) {
+            return Err(io::ErrorKind::WouldBlock.into());
+        }
+        write_some(descriptor, byte)?;
+    }
+    Ok(())
 }
 
 impl Action {

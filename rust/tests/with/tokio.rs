@@ -1,5 +1,9 @@
 // The decoder for the codecs of tokio-util, which the feature `tokio` has. The stream is tested on a
 // pseudo-terminal, by examples/with/stream.rs.
+#[path = "../malloc/mod.rs"]
+#[allow(dead_code)] // the count of blocks
+mod malloc;
+
 use bytes::BytesMut;
 use hedrugal::terminal::{Event, EventDecoder, Modes};
 use std::future::poll_fn;
@@ -78,6 +82,21 @@ fn gives_a_long_paste_in_parts() {
     assert_eq!(events, [Event::PastePart("text".to_string())]);
     let events = decode(&mut decoder, b"s\x1b[201~", false);
     assert_eq!(names(&events), ["Input(Input(Paste(\"s\")))"]);
+}
+
+// What a refused request was for comes once more, and what came before it, too.
+#[test]
+fn loses_no_event_if_memory_is_refused() {
+    for number in [1, 3, 4] {
+        let mut decoder = decoder();
+        let mut bytes = BytesMut::from(&b"ab\x1b[?6c"[..]);
+        let first = decoder.decode(&mut bytes).expect("memory is granted");
+        let (expired, refused) = malloc::refusing(number, || decoder.expire());
+        assert_eq!((expired.is_err(), refused), (true, 1));
+        let mut events = Vec::from_iter(first);
+        events.extend(decoder.expire().expect("memory is granted"));
+        assert_eq!(names(&events), ["a", "b", "Input(Csi([63, 54, 99]))"]);
+    }
 }
 
 #[test]
