@@ -119,6 +119,17 @@ def test_refuses(words):
         assert unread(source) == 4
 
 
+def test_helps():
+    """By the word --help alone, and it reads nothing."""
+    with file_of(b"abc\n") as source:
+        printed, errors, status = run(["--help"], source)
+        assert printed.startswith(b"usage: keyshow [PIECE]\n\n") and printed.endswith(b"\n")
+        assert (errors, status, unread(source)) == (b"", 0, 4)
+        with open("/dev/full", "wb") as full:
+            assert run(["--help"], source, full) == (None, b"keyshow: write failed\n", 1)
+        assert run(["--help", "1"], source) == (b"", b"usage: keyshow [PIECE]\n", 2)
+
+
 @pytest.mark.parametrize("text, lines", PRINTED, ids=[repr(text) for text, _ in PRINTED])
 def test_prints_the_lines(text, lines):
     """In pieces of several sizes, from a file and by single bytes."""
