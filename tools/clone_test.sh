@@ -5,9 +5,9 @@
 #
 # The clone has the files that git knows or would add, as they lie here. The machine is the Debian that tools/root.sh makes, without the
 # kit, an installed library or a network. That for 64-bit ARM is run by qemu, which a namespace of its own calls, so that nothing is left
-# of it. There each command of README.md is run, and the tests that need no kit. Then faults are made: a damaged or a missing prebuilt
-# library, one of another version, and no compiler. Each gets one line that says what is wrong and what to do. The last line is
-# 'N passed, N failed', the status 1 if a case failed.
+# of it; only the compiler of Rust needs no qemu. There each command of README.md is run, and the tests that need no kit. Then faults are
+# made: a damaged or a missing prebuilt library, one of another version, and no compiler. Each gets one line that says what is wrong and
+# what to do. The last line is 'N passed, N failed', the status 1 if a case failed.
 . "$(dirname "$0")/common.sh"
 set -u
 export LC_ALL=C.UTF-8
@@ -18,9 +18,9 @@ processor=${1:-amd64}
 root=$(tools/root.sh "$processor") || exit
 work=$(mktemp -d)
 trap 'rm -rf "$work"' EXIT
-user=(--map-root-user) machine=$(uname -m) seconds=600
+user=(--map-root-user) machine=$(uname -m) seconds=600 compiler=''
 case $processor in
-    arm64) machine=aarch64 seconds=3000 ;;
+    arm64) machine=aarch64 seconds=1800 compiler=$(tools/root.sh amd64) || exit ;;
     *) [ "$(id -u)" != 0 ] || user=() ;;
 esac
 prebuilt=prebuilt/$machine-linux
@@ -35,9 +35,10 @@ on_machine() { # script
         fi
         mount --rbind "$1" "$1" && mount -o remount,bind,ro "$1"
         for folder in root tmp usr/local; do mkdir -p "$2/$folder" && mount --bind "$2/$folder" "$1/$folder"; done
+        [ -z "$5" ] || mount --bind "$5" "$1/mnt"
         mount -t proc proc "$1/proc" && mount --rbind /dev "$1/dev"
         exec chroot "$1" env -i HOME=/root PATH=/usr/local/bin:/usr/bin:/bin LC_ALL=C.UTF-8 bash -euo pipefail -c "cd /root/hedrugal; $3"
-    ' bash "$root" "$work" "$1" "$machine" < /dev/null
+    ' bash "$root" "$work" "$1" "$machine" "$compiler" < /dev/null
 }
 
 make_clone() {
