@@ -1,20 +1,21 @@
 #!/usr/bin/env bash
 # Runs the commands of README.md from a clone, as on a machine with a compiler and nothing of ours: `make check-clone`.
 #
-#     tools/clone_test.sh [amd64 | arm64]
+#     tools/clone_test.sh [amd64 | arm64 [tests]]
 #
 # The clone has the files that git knows or would add, as they lie here. The machine is the Debian that tools/root.sh makes, without the
 # kit, an installed library or a network. That for 64-bit ARM is run by qemu, which a namespace of its own calls, so that nothing is left
-# of it; only the compiler of Rust needs no qemu. There each command of README.md is run, and the tests that need no kit. Then faults are
-# made: a damaged or a missing prebuilt library, one of another version, and no compiler. Each gets one line that says what is wrong and
-# what to do. The last line is 'N passed, N failed', the status 1 if a case failed.
+# of it; only the compiler of Rust needs no qemu. There each command of README.md is run, and the tests that need no kit. Then faults are made: a damaged or a missing prebuilt library, one of another
+# version, and no compiler. Each gets one line that says what is wrong and what to do. The word tests runs the tests in Rust and Python
+# alone, but for the longest: `make check-tests-arm64`. The last line is 'N passed, N failed', the status 1 if a case failed.
 . "$(dirname "$0")/common.sh"
 set -u
 export LC_ALL=C.UTF-8
 [ "${1-}" != --help ] || { show_help; exit; }
 top=$(realpath -- "$(dirname "$0")/..")
 cd "$top" || exit
-processor=${1:-amd64}
+processor=${1:-amd64} cases=${2:-all}
+[[ "$cases" =~ ^(all|tests)$ ]] || refuse_word "$cases"
 root=$(tools/root.sh "$processor") || exit
 work=$(mktemp -d)
 trap 'rm -rf "$work"' EXIT
@@ -74,6 +75,9 @@ program="cargo init --quiet --vcs none ~/program; cd ~/program; ln -s ~/hedrugal
     cargo run 2> ~/said | grep -F '[Key(KeyEvent { key: Char('\\''q'\\''), modifiers: ' || { cat ~/said; false; }
     grep '$taken' ~/said"
 
+# The longest tests in Python, for pytest.
+longest_in_python='completions or parse-rows or encodings or nothing_else or dicts'
+
 # Waits until a file has a text.
 # shellcheck disable=SC2016
 waits='waits() { timeout 600 bash -c "until grep -qs $1 $2; do sleep 0.2; done"; }'
@@ -91,6 +95,13 @@ page="$waits; cd /root/own; $(command_of './v/bin/python -m') > /root/address & 
 parsed="import hedrugal; print(*hedrugal.InputParser().parse(b\"q\"))"
 check 'clone' make_clone
 check 'machine without the kit' on_machine '! command -v rt; [ -e README.md ]'
+if [ "$cases" = tests ]; then
+    check 'tests in Rust' on_machine "cd rust && cargo test --tests -- ${longest[*]} 2> ~/said || { cat ~/said; false; }"
+    check 'tests in Python' on_machine "$(command_of 'python3 -m pytest') -k 'not ($longest_in_python)'"
+    echo "left out: in Rust those of the documentation and ${longest[*]#--skip}; in Python $longest_in_python"
+    print_counts
+    exit
+fi
 check 'hedrugal-keys' on_machine "{ $(command_of 'make keys') < <(printf '\\033[1;5Az'); } > ~/shown 2>&1 || { cat ~/shown; false; }
     grep -F 'ESC [ 1 ; 5 A -> key UpArrow CTRL = ctrl+up' ~/shown && grep -xF 'make: $taken of $prebuilt' ~/shown"
 check 'a program in C' on_machine "cp c/events.c program.c; $(command_of 'cc program.c'); ./a.out < $events"
