@@ -39,6 +39,11 @@ need() { # program package ..
     [ -z "$missing" ] || { echo "$script: not run, not there:$missing: install$packages" >&2; exit 1; }
 }
 
+# Prints the path without the folders that have rt.
+path_without_rt() {
+    tr : '\n' <<< "$PATH" | while read -r folder; do [ -e "$folder/rt" ] || printf '%s:' "$folder"; done
+}
+
 # Prints the names of the header's calls. It is called at the top of the repository.
 library_calls() {
     sed -nE 's/^[a-z].*[ *](hed_[a-z_]+)\(.*$/\1/p' c/hedrugal.h
