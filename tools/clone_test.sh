@@ -5,7 +5,7 @@
 #
 # The clone has the files that git knows or would add, as they lie here. The machine is the Debian that tools/root.sh makes, without the
 # kit, an installed library or a network. That for 64-bit ARM is run by qemu, which a namespace of its own calls, so that nothing is left
-# of it; only the compiler of Rust needs no qemu. There each command of README.md is run, and the tests that need no kit, for ARM also the
+# of it; only cargo and rustc need no qemu. There each command of README.md is run, and the tests that need no kit, for ARM also the
 # listings of docs/packages.md on the tarball and the wheel. Then faults are made: a damaged or a missing prebuilt library, one of another
 # version, and no compiler. Each gets one line that says what is wrong and what to do. The word tests runs the tests in Rust and Python
 # alone, but for the longest: `make check-tests-arm64`. The last line is 'N passed, N failed', the status 1 if a case failed.
