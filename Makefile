@@ -252,7 +252,7 @@ include $(wildcard *.mk)
 
 # Tests. Each part by itself is `make check-NAME`; the last line of what it prints counts its cases.
 kit_checks := axioms growth refusals listings prebuilt
-every_check := lint numbers c c-arm64 rust python programs page install packages clone docs fuzz $(kit_checks)
+every_check := lint numbers c c-arm64 tests-arm64 rust python programs page install packages clone docs fuzz $(kit_checks)
 # What the tests of a part read.
 export HEDRUGAL_LIBRARY := $(abspath $(lib))
 export HEDRUGAL_KEYS := $(abspath out/bin/hedrugal-keys)
@@ -269,6 +269,7 @@ check-page := $(PYTHON) -m pytest $(wildcard tests/test_page*.py)
 check-install := tools/install_test.sh
 check-packages := tools/package_test.sh
 check-clone := tools/clone_test.sh
+check-tests-arm64 := tools/clone_test.sh arm64 tests
 check-docs := tools/docs.sh --library $(lib) --only links,c,rust,rattle,lines
 check-fuzz := tools/fuzz.sh 30
 check-axioms := tools/axioms.sh keyshow $(processors:%=out/build/keyshow-%.log)
@@ -278,7 +279,7 @@ check-prebuilt := $(MAKE) --silent prebuilt-check
 check-listings := tools/docs.sh --library $(lib) --built --only sh,keyshow
 
 .PHONY: gate-ci gate-library $(foreach it,$(every_check),check-$(it) gate-$(it))
-$(foreach it,$(filter-out lint numbers axioms clone c-arm64 prebuilt,$(every_check)),check-$(it) gate-$(it)): all
+$(foreach it,$(filter-out lint numbers axioms clone c-arm64 tests-arm64 prebuilt,$(every_check)),check-$(it) gate-$(it)): all
 check-growth gate-growth: out/build/libfeed.a
 check-refusals gate-refusals: crates/test_refusals/out/test_refusals
 check-axioms gate-axioms: $(processors:%=out/build/%/keyshow.o)
@@ -315,7 +316,7 @@ format: ## lays out the sources in C, Rust and Python
 # rattle itself over the libraries that `rt ci` has written to crates/*/out by then, and nothing below it is proved twice. keyshow and the
 # other programs are those that `rt ci` builds. The parts that test them run beside its must-fail edits, to which they are preferred.
 JOBS ?= 6
-gate_parts := ci library prebuilt lint numbers c-arm64 rust c packages clone programs page docs growth listings refusals python install axioms fuzz
+gate_parts := ci library prebuilt lint numbers c-arm64 tests-arm64 rust c packages clone programs page docs growth listings refusals python install axioms fuzz
 gate_checks := $(filter-out ci library,$(gate_parts))
 
 gate: ## proves everything from nothing, tries the must-fail edits, and runs every test

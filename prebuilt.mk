@@ -95,6 +95,6 @@ $(arm64)/bin/keyshow: prebuilt/aarch64-linux/keyshow.o
 	aarch64-linux-gnu-gcc $(LDFLAGS) -o $@ $<
 
 .PHONY: gate-arm64
-gate-arm64: ## runs the commands of README.md and the tests that need no kit on 64-bit ARM, by qemu: this takes more than half an hour
-	@tools/needs.sh arm64
+gate-arm64: ## runs the commands of README.md, the tests that need no kit and packages on 64-bit ARM, by qemu
+	@tools/needs.sh arm64 dist
 	@tools/clone_test.sh arm64

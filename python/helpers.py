@@ -1,8 +1,11 @@
 """What several files of tests use."""
 import os
 import re
+import resource
 import subprocess
 import sys
+
+import pytest
 
 import hedrugal
 from hedrugal import KeyCode, KeyEvent, Modifiers, MouseButtons, MouseEvent, Paste, Waiting
@@ -12,7 +15,7 @@ TOP = os.path.dirname(HERE)
 # The file of the library.
 LIBRARY = os.path.abspath(hedrugal._library._name)
 # No test waits longer for another process, so that a machine with much to do fails none.
-SECONDS = 60
+SECONDS = 300
 
 STREAM = b"hello\x1b[A\x1b\x1b[200~ab\xc3\xa9cd\x1b[201~q\x1b[<0;3;4M\xff\x1b[27;5;13~\xc3\xa9\x1b"
 EVENTS = [
@@ -102,6 +105,20 @@ def listings():
     pattern = r"^```python\n(.*?)^```\n.*?<!-- prints -->\n```\n(.*?)^```"
     return re.findall(pattern, read("docs/python.md"), flags=re.M | re.S)
 
+
+def heeds_limits():
+    """Whether this system heeds a limit on the memory of a process. qemu drops it."""
+    before = resource.getrlimit(resource.RLIMIT_AS)
+    if before[0] != resource.RLIM_INFINITY:
+        return True
+    most = 1 << 46
+    resource.setrlimit(resource.RLIMIT_AS, (most, before[1]))
+    heeded = resource.getrlimit(resource.RLIMIT_AS)[0] == most
+    resource.setrlimit(resource.RLIMIT_AS, before)
+    return heeded
+
+
+needs_limits = pytest.mark.skipif(not heeds_limits(), reason="no limit on memory holds here")
 
 # Sets the most memory that this process may have to what it has, and some bytes more, or to all.
 LIMITS = """

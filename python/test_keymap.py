@@ -11,7 +11,7 @@ import pytest
 
 import hedrugal
 from hedrugal import Ambiguous, Exact, KeyMap, NeedData, Nothing
-from helpers import LIMITS, assert_prints
+from helpers import LIMITS, assert_prints, needs_limits
 
 NESTED = {b"boa": False, b"boo": False, b"boom": True, b"boom!!": False}
 LONG = bytes(number % 251 for number in range(301))
@@ -430,6 +430,7 @@ print("good")
 # Memory is refused by a limit on the process, or where a request is too small for one.
 
 
+@needs_limits
 def test_insert():
     assert_prints(REFUSED_INSERT, "good\n", MALLOC_ARENA_MAX="1")
 

@@ -217,7 +217,10 @@ def test_a_folder_of_others(tmp_path):
     """Another user may have put a library there, so it isn't loaded."""
     file = tmp_path / "libhedrugal.so"
     shutil.copy(LIBRARY, file)
-    os.chown(tmp_path, os.geteuid() or 1, -1)
+    try:
+        os.chown(tmp_path, os.geteuid() or 1, -1)
+    except OSError:
+        pytest.skip("there is no other user")
     of_another = f"import os\nos.geteuid = lambda: {os.stat(tmp_path).st_uid + 1}\n"
     named = {"HEDRUGAL_LIBRARY": str(file)}
     assert_message(import_it(named, before=of_another), f"may write to {tmp_path}\n")

@@ -6,7 +6,7 @@ import pytest
 
 import hedrugal
 from hedrugal import InputParser, KeyCode, KeyEvent, Modifiers, ParseError, Paste, Policy, Waiting
-from helpers import EVENTS, LIMITS, STREAM, assert_prints, assert_rest
+from helpers import EVENTS, LIMITS, STREAM, assert_prints, assert_rest, needs_limits
 
 REFUSED_FEED = (
     LIMITS
@@ -82,12 +82,14 @@ print("good")
 # Memory is refused by a limit on the process.
 
 
+@needs_limits
 def test_feed(make):
     assert_prints(
         REFUSED_FEED.replace("InputParser", make.__name__), "good\n", MALLOC_ARENA_MAX="1"
     )
 
 
+@needs_limits
 @pytest.mark.parametrize("how", ["next", "parse", "end", "expire", "take"])
 def test_text_of_a_paste(make, how):
     text = f"how = {how!r}\n" + REFUSED_TEXT.replace("InputParser", make.__name__)

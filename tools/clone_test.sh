@@ -1,26 +1,28 @@
 #!/usr/bin/env bash
 # Runs the commands of README.md from a clone, as on a machine with a compiler and nothing of ours: `make check-clone`.
 #
-#     tools/clone_test.sh [amd64 | arm64]
+#     tools/clone_test.sh [amd64 | arm64 [tests]]
 #
 # The clone has the files that git knows or would add, as they lie here. The machine is the Debian that tools/root.sh makes, without the
 # kit, an installed library or a network. That for 64-bit ARM is run by qemu, which a namespace of its own calls, so that nothing is left
-# of it. There each command of README.md is run, and the tests that need no kit. Then faults are made: a damaged or a missing prebuilt
-# library, one of another version, and no compiler. Each gets one line that says what is wrong and what to do. The last line is
-# 'N passed, N failed', the status 1 if a case failed.
+# of it; only cargo and rustc need no qemu. There each command of README.md is run, and the tests that need no kit, for ARM also the
+# listings of docs/packages.md on the tarball and the wheel. Then faults are made: a damaged or a missing prebuilt library, one of another
+# version, and no compiler. Each gets one line that says what is wrong and what to do. The word tests runs the tests in Rust and Python
+# alone, but for the longest: `make check-tests-arm64`. The last line is 'N passed, N failed', the status 1 if a case failed.
 . "$(dirname "$0")/common.sh"
 set -u
 export LC_ALL=C.UTF-8 PATH=$PATH:/usr/sbin # has chroot
 [ "${1-}" != --help ] || { show_help; exit; }
 top=$(realpath -- "$(dirname "$0")/..")
 cd "$top" || exit
-processor=${1:-amd64}
+processor=${1:-amd64} cases=${2:-all}
+[[ "$cases" =~ ^(all|tests)$ ]] || refuse_word "$cases"
 root=$(tools/root.sh "$processor") || exit
 work=$(mktemp -d)
 trap 'rm -rf "$work"' EXIT
-user=(--map-root-user) machine=$(uname -m) seconds=600
+user=(--map-root-user) machine=$(uname -m) seconds=600 compiler=''
 case $processor in
-    arm64) machine=aarch64 seconds=3000 ;;
+    arm64) machine=aarch64 seconds=1800 compiler=$(tools/root.sh amd64) || exit ;;
     *) [ "$(id -u)" != 0 ] || user=() ;;
 esac
 prebuilt=prebuilt/$machine-linux
@@ -35,9 +37,10 @@ on_machine() { # script
         fi
         mount --rbind "$1" "$1" && mount -o remount,bind,ro "$1"
         for folder in root tmp usr/local; do mkdir -p "$2/$folder" && mount --bind "$2/$folder" "$1/$folder"; done
+        [ -z "$5" ] || mount --bind "$5" "$1/mnt"
         mount -t proc proc "$1/proc" && mount --rbind /dev "$1/dev"
         exec chroot "$1" env -i HOME=/root PATH=/usr/local/bin:/usr/bin:/bin LC_ALL=C.UTF-8 bash -euo pipefail -c "cd /root/hedrugal; $3"
-    ' bash "$root" "$work" "$1" "$machine" < /dev/null
+    ' bash "$root" "$work" "$1" "$machine" "$compiler" < /dev/null
 }
 
 make_clone() {
@@ -73,6 +76,32 @@ program="cargo init --quiet --vcs none ~/program; cd ~/program; ln -s ~/hedrugal
     cargo run 2> ~/said | grep -F '[Key(KeyEvent { key: Char('\\''q'\\''), modifiers: ' || { cat ~/said; false; }
     grep '$taken' ~/said"
 
+# The longest tests in Python, for pytest.
+longest_in_python='completions or parse-rows or encodings or nothing_else or dicts'
+
+# Makes the packages for both processors, of another clone.
+make_packages() {
+    git clone -q "$work/root/hedrugal" "$work/copy" && PATH=$(path_without_rt) make -s -C "$work/copy" dist DIST="$work/root/packages"
+}
+
+# Prints the listings of a section of docs/packages.md, or what the page says that they print.
+listings() { # sh | printed heading
+    awk -v wanted="$1" -v heading="## $2" '
+        /^## / { inside = $0 == heading }
+        inside && /^```/ { kind = kind != "" ? "" : $0 == "```sh" ? "sh" : "printed"; next }
+        kind == wanted' docs/packages.md
+}
+
+# Runs the listings of these sections in a folder with the packages.
+run_listings() { # headings..
+    local heading kind
+    for kind in sh printed; do
+        for heading; do listings "$kind" "$heading"; done > "$work/root/listings.$kind"
+        [ -s "$work/root/listings.$kind" ] || return
+    done
+    on_machine 'rm -rf ~/own; cp -r ~/packages ~/own; cd ~/own; bash -eu ~/listings.sh | diff ~/listings.printed -'
+}
+
 # Waits until a file has a text.
 # shellcheck disable=SC2016
 waits='waits() { timeout 600 bash -c "until grep -qs $1 $2; do sleep 0.2; done"; }'
@@ -90,6 +119,13 @@ page="$waits; cd /root/own; $(command_of './v/bin/python -m') > /root/address & 
 parsed="import hedrugal; print(*hedrugal.InputParser().parse(b\"q\"))"
 check 'clone' make_clone
 check 'machine without the kit' on_machine '! command -v rt; [ -e README.md ]'
+if [ "$cases" = tests ]; then
+    check 'tests in Rust' on_machine "cd rust && CARGO_PROFILE_DEV_DEBUG=0 cargo test --tests -- ${longest[*]} 2> ~/said || { cat ~/said; false; }"
+    check 'tests in Python' on_machine "$(command_of 'python3 -m pytest') -k 'not ($longest_in_python)'"
+    echo "left out: in Rust those of the documentation and ${longest[*]#--skip}; in Python $longest_in_python"
+    print_counts
+    exit
+fi
 check 'hedrugal-keys' on_machine "{ $(command_of 'make keys') < <(printf '\\033[1;5Az'); } > ~/shown 2>&1 || { cat ~/shown; false; }
     grep -F 'ESC [ 1 ; 5 A -> key UpArrow CTRL = ctrl+up' ~/shown && grep -xF 'make: $taken of $prebuilt' ~/shown"
 check 'a program in C' on_machine "cp c/events.c program.c; $(command_of 'cc program.c'); ./a.out < $events"
@@ -107,6 +143,11 @@ check 'make install' on_machine "make install 2> ~/said; cd && cp ~/hedrugal/c/e
 check 'installed library in Rust' on_machine "cd rust && CARGO_TARGET_DIR=~/installed cargo build 2> ~/said && ! grep '$taken' ~/said"
 check 'installed library in Python' on_machine "cd /root/own && LD_LIBRARY_PATH=/usr/local/lib v/bin/pip wheel -v -w ~ ./python 2>&1 | grep 'the installed one: /usr/local'"
 check 'make uninstall' on_machine "make uninstall && find /usr/local -type f -exec false '{}' +"
+if [ "$processor" = arm64 ]; then
+    check 'packages' make_packages
+    check 'listings of the tarball' run_listings Tarball Rust
+    check 'listings of the wheel' run_listings 'Python wheel'
+fi
 archive=$prebuilt/libhedrugal.a
 pip='/root/own/v/bin/pip install ./python'
 check 'damaged library' refused "$archive isn't what" "echo damage >> $archive" 'make keys' 'cd rust; cargo build' "$pip"

@@ -39,6 +39,11 @@ need() { # program package ..
     [ -z "$missing" ] || { echo "$script: not run, not there:$missing: install$packages" >&2; exit 1; }
 }
 
+# Prints the path without the folders that have rt.
+path_without_rt() {
+    tr : '\n' <<< "$PATH" | while read -r folder; do [ -e "$folder/rt" ] || printf '%s:' "$folder"; done
+}
+
 # Prints the names of the header's calls. It is called at the top of the repository.
 library_calls() {
     sed -nE 's/^[a-z].*[ *](hed_[a-z_]+)\(.*$/\1/p' c/hedrugal.h
@@ -106,6 +111,10 @@ find_view() { # folders..
         bash "$@" --)
     "${view[@]}" true 2> /dev/null || { view=(); progress "note: this system lets no program hide $*"; }
 }
+
+# The longest tests in Rust, as words for cargo test. They are left out where a program takes ten times as long.
+# shellcheck disable=SC2034
+longest=(--skip streams --skip recorded --skip generated --skip undecided --skip long::reads --skip compared --skip names::texts)
 
 passed=0 failed=0
 # Runs a case, and counts it. What it prints is shown only if it fails.

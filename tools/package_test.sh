@@ -8,8 +8,8 @@
 # Then the listings of docs/packages.md are run, for x86-64 alone, where no program finds the kit: rt isn't on the path, and the folders of
 # the kit and of this repository are empty, if the system lets a program have such a view of them. The Debian packages are installed by
 # dpkg in a folder in place of the system's root, the tarball is unpacked in a folder whose name has a space, and the wheel is installed in
-# a virtual environment. At last dpkg has to remove all that it installed. The last line is 'N passed, N failed', the status 1 if a case
-# failed.
+# a virtual environment. At last dpkg has to remove all that it installed. (tools/clone_test.sh runs those of the tarball and the wheel for
+# ARM.) The last line is 'N passed, N failed', the status 1 if a case failed.
 . "$(dirname "$0")/common.sh"
 start_cases "$@"
 want_keyshow
@@ -230,11 +230,6 @@ make_root() {
 exec '$(command -v dpkg)' --root='$root' --log=/dev/null --force-not-root,bad-path "\$@" > /dev/null
 END
     chmod +x "$work/bin/dpkg"
-}
-
-# Prints the path without the folders that have rt.
-path_without_rt() {
-    tr : '\n' <<< "$PATH" | while read -r folder; do [ -e "$folder/rt" ] || printf '%s:' "$folder"; done
 }
 
 # Prints the listings of a section of docs/packages.md as a script. Each prints to a file NAME.printed of $work/listings, and what the page says
