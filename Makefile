@@ -316,7 +316,8 @@ format: ## lays out the sources in C, Rust and Python
 # rattle itself over the libraries that `rt ci` has written to crates/*/out by then, and nothing below it is proved twice. keyshow and the
 # other programs are those that `rt ci` builds. The parts that test them run beside its must-fail edits, to which they are preferred.
 JOBS ?= 6
-gate_parts := ci library prebuilt lint numbers c-arm64 tests-arm64 rust c packages clone programs page docs growth listings refusals python install axioms fuzz
+gate_parts := ci library prebuilt lint numbers c-arm64 tests-arm64 rust c packages clone programs page docs growth listings refusals \
+	python install axioms fuzz
 gate_checks := $(filter-out ci library,$(gate_parts))
 
 gate: ## proves everything from nothing, tries the must-fail edits, and runs every test
