@@ -18,18 +18,9 @@ def unread(terminal):
     return struct.unpack("i", fcntl.ioctl(terminal, termios.FIONREAD, bytes(4)))[0]
 
 
-def pieces(text, size):
-    """Pieces of at most so many bytes, none of which ends within a key. crossterm would take the
-    ESC at the end of one for a key of its own."""
-    while text:
-        end = text.rfind(b"\x1b", 1, size + 1) if len(text) > size else -1
-        yield text[: end if end > 0 else size]
-        text = text[end if end > 0 else size :]
-
-
 def type_text(ours, terminal, text, size):
-    for piece in pieces(text, size):
-        os.write(ours, piece)
+    for start in range(0, len(text), size):
+        os.write(ours, text[start : start + size])
         if size == 1:
             os.read(ours, 1)
             continue
