@@ -170,8 +170,8 @@ RUST_LAYERS = {
     "crossterm": "crossterm's `event::read`",
     "crossterm-stream": "crossterm's `EventStream`, on tokio",
 }
-# Inputs of them, and how many bytes are typed at once.
-LAYER_INPUTS = {"one by one": ("typed", 1), "typed text": ("typed", 512), "keys": ("keys", 512)}
+# How many bytes of text are typed at once, and of how many.
+LAYER_SIZES = {"one by one": 1, "512 at once": 512}
 LAYER_BYTES = 1 << 16
 # The tasks of tools/growth/chords.c.
 TASKS = {
@@ -268,22 +268,21 @@ class Layers:
 
     def __init__(self, folder, programs):
         self.programs, self.costs = programs, {}
-        self.inputs = {name: Input(folder, name, LAYER_BYTES) for name, _ in LAYER_INPUTS.values()}
+        self.text = Input(folder, "typed", LAYER_BYTES)
 
     def measure(self):
-        for layer, (name, size) in itertools.product(self.programs, LAYER_INPUTS.values()):
-            given, key = self.inputs[name], (layer, name, size)
-            words = [given.file, str(given.items), str(size), *self.programs[layer]]
+        for layer, size in itertools.product(self.programs, LAYER_SIZES.values()):
+            words = [self.text.file, str(self.text.items), str(size), *self.programs[layer]]
             numbers = [*map(int, run(PYTHON, "-B", f"{TOOLS}/layers.py", *words).split())]
-            self.costs[key] = [*map(min, numbers, self.costs.get(key, numbers))]
+            self.costs[layer, size] = [*map(min, numbers, self.costs.get((layer, size), numbers))]
 
-    def cost(self, layer, name, size):
-        whole, start = self.costs[layer, name, size]
-        return (whole - start) / self.inputs[name].items
+    def cost(self, layer, size):
+        whole, start = self.costs[layer, size]
+        return (whole - start) / self.text.items
 
     def rows(self):
         for layer in self.programs:
-            yield [layer, *(figure(self.cost(layer, *each)) for each in LAYER_INPUTS.values())]
+            yield [layer, *(figure(self.cost(layer, size)) for size in LAYER_SIZES.values())]
 
 
 def where(chosen, programs):
@@ -368,7 +367,10 @@ def report(chosen, work):
     for it in tasks:
         parts += ["## Names and bindings", table(["From C", "ns", "bytes of heap"], it.rows())]
     for it in layers:
-        parts += ["## Layers over a terminal", table(["ns by", *LAYER_INPUTS], it.rows())]
+        parts += [
+            "## Nanoseconds for a character through a layer over a terminal",
+            table(["Layer", *LAYER_SIZES], it.rows()),
+        ]
     return "\n\n".join(parts)
 
 
