@@ -99,7 +99,7 @@ run_listings() { # headings..
         for heading; do listings "$kind" "$heading"; done > "$work/root/listings.$kind"
         [ -s "$work/root/listings.$kind" ] || return
     done
-    on_machine 'rm -rf ~/own; cp -r ~/packages ~/own; cd ~/own; bash -eu ~/listings.sh | diff ~/listings.printed -'
+    on_machine 'rm -rf ~/listed; cp -r ~/packages ~/listed; cd ~/listed; bash -eu ~/listings.sh | diff ~/listings.printed -'
 }
 
 # Waits until a file has a text.
