@@ -149,16 +149,19 @@ class Parser(Vt100Parser):
     def reset(self, request: bool = False) -> None:
         """Forgets what is buffered."""
         self.parser.reset()
-        # The bytes that are buffered, and the text of an open paste.
-        self._rest, self._pasted = b"", ""
+        # The bytes that are buffered, and the text of an open paste in parts.
+        self._rest = b""
+        self._pasted: List[str] = []
 
     def feed(self, data: str) -> None:
         """Reads text, of which bytes that aren't UTF-8 are surrogates. No text means that none came
         in time: see `expire`."""
         if not data:
             self.expire()
-        # However it is cut, the keys are the same. Runs are quicker, but not of short sequences.
-        for run in [data] if "\x1b" in data else _RUNS.findall(data):
+        # However it is cut, the keys are the same. Runs are quicker, but not of short sequences or
+        # of a paste.
+        is_whole = "\x1b" in data or self.parser.is_paste_open
+        for run in [data] if is_whole else _RUNS.findall(data):
             self._feed_run(run)
 
     def _feed_run(self, data: str) -> None:
@@ -171,7 +174,8 @@ class Parser(Vt100Parser):
         self.parser.feed(came)
         self._rest += came
         self._give(self._pulled())
-        self._pasted += self.parser.take_paste() or ""
+        if part := self.parser.take_paste():
+            self._pasted.append(part)
         self._keep()
 
     def timeout(self) -> Optional[float]:
@@ -213,7 +217,8 @@ class Parser(Vt100Parser):
     def _key_presses(self, event: ExtendedEvent, sent: str) -> List[KeyPress]:
         """What prompt_toolkit gets for an event. The text that was sent goes with its first key."""
         if isinstance(event, Paste):
-            text, self._pasted = self._pasted + event.text, ""
+            text = "".join([*self._pasted, event.text])
+            self._pasted.clear()
             return [KeyPress(Keys.BracketedPaste, text)]
         if isinstance(event, (MouseEvent, SideButton)):
             return [KeyPress(Keys.Vt100MouseEvent, sent)]
