@@ -120,9 +120,9 @@ parsed="import hedrugal; print(*hedrugal.InputParser().parse(b\"q\"))"
 check 'clone' make_clone
 check 'machine without the kit' on_machine '! command -v rt; [ -e README.md ]'
 if [ "$cases" = tests ]; then
-    check 'tests in Rust' on_machine "cd rust && CARGO_PROFILE_DEV_DEBUG=0 cargo test --tests -- ${longest[*]} 2> ~/said || { cat ~/said; false; }"
+    check 'tests in Rust' on_machine "cd rust && CARGO_PROFILE_DEV_DEBUG=0 cargo test --tests -- ${longest_in_rust[*]} 2> ~/said || { cat ~/said; false; }"
     check 'tests in Python' on_machine "$(command_of 'python3 -m pytest') -k 'not ($longest_in_python)'"
-    echo "left out: in Rust those of the documentation and ${longest[*]#--skip}; in Python $longest_in_python"
+    echo "left out: in Rust those of the documentation and ${longest_in_rust[*]#--skip}; in Python $longest_in_python"
     print_counts
     exit
 fi

@@ -114,7 +114,7 @@ find_view() { # folders..
 
 # The longest tests in Rust, as words for cargo test. They are left out where a program takes ten times as long.
 # shellcheck disable=SC2034
-longest=(--skip streams --skip recorded --skip generated --skip undecided --skip long::reads --skip compared --skip names::texts)
+longest_in_rust=(--skip streams --skip recorded --skip generated --skip undecided --skip long::reads --skip compared --skip names::texts)
 
 passed=0 failed=0
 # Runs a case, and counts it. What it prints is shown only if it fails.

@@ -106,7 +106,7 @@ for feature in use_serde tokio mio crossterm; do
 done
 check 'all features' rust_features
 if command -v valgrind > /dev/null; then
-    check 'tests under valgrind' rust_memcheck --test parser --test keymap -- "${longest[@]}"
+    check 'tests under valgrind' rust_memcheck --test parser --test keymap -- "${longest_in_rust[@]}"
 else
     echo 'left out: the tests under valgrind'
 fi
