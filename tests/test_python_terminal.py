@@ -401,14 +401,14 @@ with Terminal() as terminal:
             show(error)
     show_until_q(terminal)
 with terminal:
+    show("again")
     show_until_q(terminal)
 """
     )
-    program.play([b"aq", "a\r\nq\r\n"])
-    program.wait_for(program.is_raw, "raw mode")
-    program.send(b"bq")
+    # What is typed before the first block ends is discarded at its end.
+    program.play([b"aq", "again\r\n", b"bq"])
     refused = "a Terminal is entered already"
-    program.ends_with(refused, refused, "a", "q", "b", "q")
+    program.ends_with(refused, refused, "a", "q", "again", "b", "q")
 
 
 CHILD = """
