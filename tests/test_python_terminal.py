@@ -10,6 +10,7 @@ import subprocess
 import sys
 
 import pytest
+from pexpect import TIMEOUT
 from terminal import END, ENDING_SIGNALS, START, Terminal
 
 PROGRAM = """
@@ -261,6 +262,8 @@ print("\\n", keys == wanted, sizes > 0, flush=True)
         program.send(text[at : at + 500])
         program.kill(signal.SIGUSR1)
         program.kill(signal.SIGWINCH)
+        # Else both could wait for ever, each for the other to read.
+        program.expect(TIMEOUT, timeout=0.001)
     program.send(b"q")
     program.check_end(0)
     assert program.lines()[-1].endswith("True True")
