@@ -1,4 +1,2 @@
 pub mod FlushedBytes
 pub mod GoneOn
-pub mod ListedLines
-mod PlainLookups

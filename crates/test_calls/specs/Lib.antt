@@ -1,2 +1,1 @@
 pub mod GoingOn
-pub mod PlainEntries

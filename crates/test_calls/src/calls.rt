@@ -20,15 +20,6 @@ pub enum Calls {
     Pieces,
 }
 
-/// Each way.
-pub const EVERY_CALL: [Calls; 5] = [
-    Calls::List,
-    Calls::Callback,
-    Calls::Event,
-    Calls::Loop,
-    Calls::Pieces,
-];
-
 impl Calls {
     /// The events of what is buffered and of these bytes.
     pub fn events(

@@ -1,5 +1,6 @@
-//! Events that all differ.
+//! Events that all differ, and events that no bytes mean.
 use std::alloc::{AllocError, Global};
+use termwiz_base::Flags;
 use termwiz_input::input::{
     InputEvent, KeyCode, KeyEvent, Modifiers, MouseButtons, MouseEvent, PastedText, PixelMouseEvent,
 };
@@ -64,4 +65,23 @@ pub fn different_events(alloc: Global) -> Result<Vec<InputEvent>, AllocError> {
         events.push(pasted(alloc, text)?)?;
     }
     Ok(events)
+}
+
+/// Events that no bytes mean.
+pub fn unread_events(alloc: Global) -> Result<Vec<InputEvent>, AllocError> {
+    let held = Modifiers::RIGHT_SHIFT.union(Modifiers::LEFT_ALT);
+    let turned = MouseButtons::WHEEL_POSITIVE.union(MouseButtons::VERT_WHEEL);
+    Ok(vec![in alloc;
+        key(KeyCode::Char('\u{a}'), Modifiers::CTRL),
+        key(KeyCode::Char('\u{10ffff}'), Modifiers::SUPER),
+        key(KeyCode::Function(0), Modifiers::LEADER),
+        key(KeyCode::Numpad0, held),
+        key(
+            KeyCode::InternalPasteEnd,
+            Modifiers::from_bits_retain(1 << 15 | 1)
+        ),
+        pixel_mouse(65535, 0, turned, Modifiers::ALT),
+        InputEvent::Resized { cols: 80, rows: 24 },
+        InputEvent::Wake,
+    ]?)
 }

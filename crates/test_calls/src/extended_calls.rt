@@ -17,14 +17,6 @@ pub enum ExtendedCalls {
     Event,
 }
 
-/// Each way.
-pub const EVERY_CALL: &[ExtendedCalls] = &[
-    ExtendedCalls::List,
-    ExtendedCalls::Callback,
-    ExtendedCalls::Loop,
-    ExtendedCalls::Event,
-];
-
 impl ExtendedCalls {
     /// The events of what is buffered and of these bytes.
     pub fn events(

@@ -1,6 +1,5 @@
 //! What `timed` has, of the extended parser.
 use crate::extended_calls::looped;
-use crate::timed::{Flush, Read};
 use std::alloc::{AllocError, Global};
 use termwiz_input_extended::input::ExtendedParser;
 use termwiz_input_extended::laws::few_events;
@@ -20,25 +19,8 @@ pub fn read_at(
     Ok(events)
 }
 
-impl Flush {
-    /// The events of what is due at a time. None if nothing is.
-    pub fn extended_events(
-        self,
-        alloc: Global,
-        parser: &mut ExtendedParser,
-        timer: &mut Timer,
-        policy: &Policy,
-        now: u64,
-    ) -> Result<Vec<ExtendedEvent>, AllocError> {
-        match self {
-            Flush::Callback => expired(alloc, parser, timer, policy, now),
-            Flush::Event => flushed(alloc, parser, timer, policy, now),
-        }
-    }
-}
-
-// The events of a call of `expire`.
-fn expired(
+/// The events of a call of `expire`.
+pub fn expired(
     alloc: Global,
     parser: &mut ExtendedParser,
     timer: &mut Timer,
@@ -59,8 +41,8 @@ fn expired(
     Ok(events)
 }
 
-// The events, one call of `next_flushed` for each.
-fn flushed(
+/// The events of what is due, one call of `next_flushed` for each. None if nothing is.
+pub fn flushed(
     alloc: Global,
     parser: &mut ExtendedParser,
     timer: &mut Timer,
@@ -84,65 +66,4 @@ fn pulled(alloc: Global, parser: &mut ExtendedParser) -> Result<Vec<ExtendedEven
         events.push(event)?;
     }
     Ok(events)
-}
-
-/// The events of all that comes, each with its time. What is due before the next bytes come, or before the last time, is flushed then.
-pub fn events_over_time(
-    alloc: Global,
-    parser: &mut ExtendedParser,
-    policy: &Policy,
-    flush: Flush,
-    reads: &[Read],
-    last: u64,
-) -> Result<Vec<(usize, ExtendedEvent)>, AllocError> {
-    let mut timer = Timer::new();
-    let mut events = Vec::new(alloc);
-    let mut now = 0;
-    for (time, bytes) in reads {
-        wait(
-            alloc,
-            parser,
-            &mut timer,
-            policy,
-            (flush, now, *time),
-            &mut events,
-        )?;
-        now = *time;
-        for event in read_at(alloc, parser, &mut timer, policy, (now, bytes))? {
-            events.push((now as usize, event))?;
-        }
-    }
-    wait(
-        alloc,
-        parser,
-        &mut timer,
-        policy,
-        (flush, now, last),
-        &mut events,
-    )?;
-    Ok(events)
-}
-
-// Flushes what is due within these times, exactly when it is, after a try one millisecond earlier.
-fn wait(
-    alloc: Global,
-    parser: &mut ExtendedParser,
-    timer: &mut Timer,
-    policy: &Policy,
-    (flush, from, until): (Flush, u64, u64),
-    events: &mut Vec<(usize, ExtendedEvent)>,
-) -> Result<(), AllocError> {
-    let Some(left) = timer.next_timeout(from) else {
-        return Ok(());
-    };
-    let due = from.saturating_add(left);
-    if due >= until {
-        return Ok(());
-    }
-    for now in [from.max(due.saturating_sub(1)), due] {
-        for event in flush.extended_events(alloc, parser, timer, policy, now)? {
-            events.push((now as usize, event))?;
-        }
-    }
-    Ok(())
 }

@@ -1,24 +1,19 @@
-//! A program that reads what comes at some times, and at others lets what is buffered expire.
+//! What comes at some time, and what is due then.
 use crate::calls::looped;
 use std::alloc::{AllocError, Global};
 use termwiz_input::input::{InputEvent, InputParser};
 use termwiz_input::laws::few_events;
 use termwiz_input::time::{Policy, Timer, expire, next_flushed, seen_of};
 
-/// By which calls what is due is flushed.
-#[derive(Clone, Copy, Debug)]
-pub enum Flush {
-    /// `expire`.
-    Callback,
-    /// `next_flushed` for each event.
-    Event,
-}
-
-/// Each way.
-pub const EVERY_FLUSH: [Flush; 2] = [Flush::Callback, Flush::Event];
-
-/// Bytes, and when they come, in milliseconds.
-pub type Read = (u64, &'static [u8]);
+/// The usual limits, and one for a paste that stalls.
+pub const END_PASTES: Policy = Policy {
+    escape: Some(50),
+    alt_key: Some(100),
+    sequence: Some(1000),
+    string: Some(5000),
+    character: None,
+    paste: Some(10000),
+};
 
 /// The events of bytes that come at a time, which is noted.
 pub fn read_at(
@@ -33,25 +28,8 @@ pub fn read_at(
     Ok(events)
 }
 
-impl Flush {
-    /// The events of what is due at a time. None if nothing is.
-    pub fn events(
-        self,
-        alloc: Global,
-        parser: &mut InputParser,
-        timer: &mut Timer,
-        policy: &Policy,
-        now: u64,
-    ) -> Result<Vec<InputEvent>, AllocError> {
-        match self {
-            Flush::Callback => expired(alloc, parser, timer, policy, now),
-            Flush::Event => flushed(alloc, parser, timer, policy, now),
-        }
-    }
-}
-
-// The events of a call of `expire`.
-fn expired(
+/// The events of a call of `expire`.
+pub fn expired(
     alloc: Global,
     parser: &mut InputParser,
     timer: &mut Timer,
@@ -72,8 +50,8 @@ fn expired(
     Ok(events)
 }
 
-// The events, one call of `next_flushed` for each.
-fn flushed(
+/// The events of what is due, one call of `next_flushed` for each. None if nothing is.
+pub fn flushed(
     alloc: Global,
     parser: &mut InputParser,
     timer: &mut Timer,
@@ -97,65 +75,4 @@ fn pulled(alloc: Global, parser: &mut InputParser) -> Result<Vec<InputEvent>, Al
         events.push(event)?;
     }
     Ok(events)
-}
-
-/// The events of all that comes, each with its time. What is due before the next bytes come, or before the last time, is flushed then.
-pub fn events_over_time(
-    alloc: Global,
-    parser: &mut InputParser,
-    policy: &Policy,
-    flush: Flush,
-    reads: &[Read],
-    last: u64,
-) -> Result<Vec<(usize, InputEvent)>, AllocError> {
-    let mut timer = Timer::new();
-    let mut events = Vec::new(alloc);
-    let mut now = 0;
-    for (time, bytes) in reads {
-        wait(
-            alloc,
-            parser,
-            &mut timer,
-            policy,
-            (flush, now, *time),
-            &mut events,
-        )?;
-        now = *time;
-        for event in read_at(alloc, parser, &mut timer, policy, (now, bytes))? {
-            events.push((now as usize, event))?;
-        }
-    }
-    wait(
-        alloc,
-        parser,
-        &mut timer,
-        policy,
-        (flush, now, last),
-        &mut events,
-    )?;
-    Ok(events)
-}
-
-// Flushes what is due within these times, exactly when it is, after a try one millisecond earlier.
-fn wait(
-    alloc: Global,
-    parser: &mut InputParser,
-    timer: &mut Timer,
-    policy: &Policy,
-    (flush, from, until): (Flush, u64, u64),
-    events: &mut Vec<(usize, InputEvent)>,
-) -> Result<(), AllocError> {
-    let Some(left) = timer.next_timeout(from) else {
-        return Ok(());
-    };
-    let due = from.saturating_add(left);
-    if due >= until {
-        return Ok(());
-    }
-    for now in [from.max(due.saturating_sub(1)), due] {
-        for event in flush.events(alloc, parser, timer, policy, now)? {
-            events.push((now as usize, event))?;
-        }
-    }
-    Ok(())
 }

@@ -8,18 +8,18 @@ use hedrugal::input::{
 // A key that is pressed, the modifiers that are held, and the text.
 type Example = (KeyCode, Modifiers, &'static str);
 
-const NONE: Modifiers = Modifiers::NONE;
+pub const NONE: Modifiers = Modifiers::NONE;
 
-const SHIFT: Modifiers = Modifiers::SHIFT;
+pub const SHIFT: Modifiers = Modifiers::SHIFT;
 
-const ALT: Modifiers = Modifiers::ALT;
+pub const ALT: Modifiers = Modifiers::ALT;
 
-const CTRL: Modifiers = Modifiers::CTRL;
+pub const CTRL: Modifiers = Modifiers::CTRL;
 
-const SUPER: Modifiers = Modifiers::SUPER;
+pub const SUPER: Modifiers = Modifiers::SUPER;
 
 // xterm's encoding, with every other mode off.
-const XTERM: KeyCodeEncodeModes = KeyCodeEncodeModes {
+pub const XTERM: KeyCodeEncodeModes = KeyCodeEncodeModes {
     encoding: KeyboardEncoding::Xterm,
     application_cursor_keys: false,
     newline_mode: false,
@@ -40,7 +40,7 @@ fn at_level(level: i64) -> KeyCodeEncodeModes {
 }
 
 // The same in application cursor mode.
-const APPLICATION: KeyCodeEncodeModes = KeyCodeEncodeModes {
+pub const APPLICATION: KeyCodeEncodeModes = KeyCodeEncodeModes {
     application_cursor_keys: true,
     ..XTERM
 };

@@ -13,6 +13,7 @@ mod names;
 mod parser;
 mod pastes;
 mod plain;
+mod read_back;
 mod recorded;
 mod rows;
 mod streams;

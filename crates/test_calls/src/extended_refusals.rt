@@ -1,13 +1,13 @@
-// The cases of the extended parser.
+//! The cases of the extended parser.
 
-use super::{
-    Failure, OPEN_PASTE, print_event, print_new, print_part, print_stop, print_waited,
-    print_waiting,
+use crate::extended;
+use crate::failure::Failure;
+use crate::refusals::{
+    OPEN_PASTE, print_event, print_new, print_part, print_stop, print_waited, print_waiting,
 };
 use std::io;
 use termwiz_input_extended::input::ExtendedParser;
 use termwiz_input_extended::types::{ExtendedEvent, Protocol};
-use test_calls::extended;
 
 // An ESC that is held, a paste, the reply with a colour, a control sequence that has no event of its own, and a key with its text.
 const ALL_KINDS: &[u8] = b"\x1b\x1b[200~ab\x1b[201~\x1b]4;1\x07\x1b[?62c\x1b[97;;98u";
@@ -30,7 +30,7 @@ fn show_lent(rt: &HostRuntime, parser: &mut ExtendedParser, case: &str) -> Resul
         "extended-parse_as_vec" => show_parse_as_vec(rt, parser),
         "extended-end_paste" => show_end_paste(rt, parser),
         "extended-take_paste" => show_take_paste(rt, parser),
-        _ => Err(Failure::NoSuchCase),
+        _ => Err(Failure::NoSuchWord),
     }
 }
 

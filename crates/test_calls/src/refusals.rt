@@ -1,65 +1,23 @@
 //! Makes calls that can be refused memory, goes on after a refusal as a caller does, and prints what was seen.
 //!
-//! It is called as `test_refusals CASE..`, and prints one line for each case: its name, what the calls answered, and, after
+//! It prints one line for each case: its name, what the calls answered, and, after
 //! `refused`, what stood after the refusal, if there was one. It refuses nothing itself: `tools/refusals.sh` runs it again and
 //! again, and refuses one more request for memory each time.
-//!
-//! The status is 0, or 3 if memory was refused before the call of a case, 2 if there is no such case, and 1 if a call was
-//! refused twice or nothing could be printed.
-#![tactic(auto)]
 
-mod extended_cases;
-
-use std::alloc::AllocError;
-use std::process::ExitCode;
-use std::{env, io};
+use crate::failure::Failure;
+use crate::parses::{Left, PiecesStop, Stop};
+use crate::{extended_refusals, parses, parts};
+use std::env::Args;
+use std::io;
 use termwiz_input::encode::KeyboardEncoding;
 use termwiz_input::input::{
     InputEvent, InputParser, KeyCode, KeyCodeEncodeModes, Modifiers, PastedText,
 };
 use termwiz_input::keymap::KeyMap;
 use termwiz_input::readbuf::ReadBuffer;
-use test_calls::parses::{Left, PiecesStop, Stop};
-use test_calls::{parses, parts};
 
-/// Why the program ends early.
-enum Failure {
-    /// Memory was refused before the call of a case.
-    TooEarly,
-    /// There is no such case.
-    NoSuchCase,
-    /// A call was refused twice, or nothing could be printed.
-    Failed,
-}
-
-impl From<io::Error> for Failure {
-    fn from(_fault: io::Error) -> Failure {
-        Failure::Failed
-    }
-}
-
-// What a case lends to its call is made before it.
-impl From<AllocError> for Failure {
-    fn from(_fault: AllocError) -> Failure {
-        Failure::TooEarly
-    }
-}
-
-fn main(rt: HostRuntime) -> ExitCode {
-    match show_all(&rt) {
-        Ok(()) => ExitCode::SUCCESS,
-        Err(Failure::Failed) => ExitCode::from(1),
-        Err(Failure::NoSuchCase) => ExitCode::from(2),
-        Err(Failure::TooEarly) => ExitCode::from(3),
-    }
-}
-
-// Shows each case that the program was called with.
-fn show_all(rt: &HostRuntime) -> Result<(), Failure> {
-    let Ok(mut cases) = env::args(rt) else {
-        return Err(Failure::TooEarly);
-    };
-    let _name = cases.next();
+/// Shows each case that the program was called with.
+pub fn show_all(rt: &HostRuntime, cases: Args) -> Result<(), Failure> {
     for case in cases {
         show_line(rt, case.as_str())?;
     }
@@ -82,8 +40,8 @@ fn show(rt: &HostRuntime, case: &str) -> Result<(), Failure> {
         "clone-map" => show_map_clone(rt),
         "clone-event" => show_event_clone(rt),
         "encode" => show_encode(rt),
-        "extended-new" => extended_cases::show_new(rt),
-        _ if case.starts_with("extended-") => extended_cases::show(rt, case),
+        "extended-new" => extended_refusals::show_new(rt),
+        _ if case.starts_with("extended-") => extended_refusals::show(rt, case),
         _ => show_with_parser(rt, case),
     }
 }
@@ -105,7 +63,7 @@ fn show_lent(rt: &HostRuntime, parser: &mut InputParser, case: &str) -> Result<(
         "parse_pieces" => show_parse_pieces(rt, parser),
         "end_paste" => show_end_paste(rt, parser),
         "take_paste" => show_take_paste(rt, parser),
-        _ => Err(Failure::NoSuchCase),
+        _ => Err(Failure::NoSuchWord),
     }
 }
 
@@ -125,12 +83,12 @@ fn show_new(rt: &HostRuntime) -> Result<(), Failure> {
 }
 
 // Prints how many bytes are buffered in the end.
-fn print_waiting(rt: &HostRuntime, waiting: usize) -> io::Result<()> {
+pub fn print_waiting(rt: &HostRuntime, waiting: usize) -> io::Result<()> {
     print!(rt; " / waiting {waiting}")
 }
 
 // Prints whether the call that makes a parser was refused, and what is buffered.
-fn print_new(rt: &HostRuntime, refused: bool, waiting: usize) -> Result<(), Failure> {
+pub fn print_new(rt: &HostRuntime, refused: bool, waiting: usize) -> Result<(), Failure> {
     print_refused(rt, refused)?;
     Ok(print_waiting(rt, waiting)?)
 }
@@ -232,7 +190,7 @@ fn print_text(rt: &HostRuntime, refused: bool, text: &str) -> Result<(), Failure
 }
 
 // Prints an event.
-fn print_event(rt: &HostRuntime, event: &InputEvent) -> io::Result<()> {
+pub fn print_event(rt: &HostRuntime, event: &InputEvent) -> io::Result<()> {
     match event {
         InputEvent::Key(key) if key.modifiers == Modifiers::NONE => print!(rt; "{:?}", key.key),
         InputEvent::Paste(text) => print!(rt; "Paste({:?})", text.as_str()),
@@ -262,7 +220,7 @@ fn print_left(rt: &HostRuntime, left: &Left) -> io::Result<()> {
 }
 
 // Prints what stood after a refusal of the bytes, if there was one, and what is buffered in the end.
-fn print_stop(rt: &HostRuntime, stop: Option<Stop>, waiting: usize) -> Result<(), Failure> {
+pub fn print_stop(rt: &HostRuntime, stop: Option<Stop>, waiting: usize) -> Result<(), Failure> {
     if let Some(Stop { taken, left }) = stop {
         let error = if taken { "Taken" } else { "NotTaken" };
         print!(rt; " / refused {error}")?;
@@ -352,10 +310,10 @@ fn show_take_paste(rt: &HostRuntime, parser: &mut InputParser) -> Result<(), Fai
 }
 
 // A paste of two letters, and half a character, which is held back.
-const OPEN_PASTE: &[u8] = b"\x1b[200~ab\xc3";
+pub const OPEN_PASTE: &[u8] = b"\x1b[200~ab\xc3";
 
 // Prints what was buffered after a refusal, if there was one, the text of a part, and what is buffered in the end.
-fn print_part(
+pub fn print_part(
     rt: &HostRuntime,
     refused: Option<usize>,
     text: Option<&PastedText>,
@@ -384,7 +342,7 @@ fn print_ended(
 }
 
 // Prints how many bytes were buffered after a refusal, if there was one.
-fn print_waited(rt: &HostRuntime, refused: Option<usize>) -> io::Result<()> {
+pub fn print_waited(rt: &HostRuntime, refused: Option<usize>) -> io::Result<()> {
     if let Some(len) = refused {
         print!(rt; " / refused, waiting {len}")?;
     }

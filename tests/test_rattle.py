@@ -1,0 +1,887 @@
+"""The calls that only a program in Rattle can make: that of crates/test_calls makes them, and
+prints what they return.
+
+The program is TEST_CALLS, else what rt has built. A command is a name, a number and bytes; a number
+that says whether more bytes may come is 1 or 0."""
+import os
+import random
+import re
+import subprocess
+
+import pytest
+from conftest import TOP
+
+TEST_CALLS = os.environ.get("TEST_CALLS") or str(TOP / "crates/test_calls/out/test_calls")
+
+CALLS = ["list", "callback", "event", "loop", "pieces"]
+EXTENDED_CALLS = ["list", "callback", "loop", "event"]
+FLUSHES = ["expire", "flushed"]
+PROTOCOLS = ["legacy", "kitty"]
+
+PASTE_START = b"\033[200~"
+PASTE_END = b"\033[201~"
+
+# The bits of modifiers.
+NONE, SHIFT, ALT, CTRL, SUPER, LEADER = 0, 1 << 1, 1 << 2, 1 << 3, 1 << 4, 1 << 7
+
+
+def command(name, number=0, given=b""):
+    return f"{name} {number} {given.hex()}"
+
+
+def answers(mode, commands):
+    """What a run of the program answers, a line each."""
+    lines = "".join(f"{it}\n" for it in commands)
+    done = subprocess.run([TEST_CALLS, mode], input=lines, stdout=subprocess.PIPE, text=True)
+    assert done.returncode == 0
+    return done.stdout.splitlines()
+
+
+def check(mode, asked):
+    """Asks the commands of pairs, and compares the answers with those of the pairs. None is any."""
+    given = answers(mode, [it for it, _ in asked])
+    assert len(given) == len(asked)
+    for (words, wanted), line in zip(asked, given):
+        assert wanted is None or line == wanted, words[:200]
+
+
+def answer_of(mode, *words):
+    (line,) = answers(mode, [command(*words)])
+    return line
+
+
+def pasted(text):
+    return f"paste {len(text)}:{text.hex()}"
+
+
+def key_event(key, modifiers=NONE):
+    return f"KeyEvent {{ key: {key}, modifiers: Modifiers({modifiers}) }}"
+
+
+# Large input.
+
+# Two keys in four bytes.
+KEYS = b"\033[Aq"
+
+
+@pytest.mark.parametrize("call", CALLS)
+def test_70000_keys_in_one_call(call):
+    wanted = "key UpArrow NONE, key U+0071 NONE, " * 35000 + "0 wait"
+    assert answer_of("parser", call, 0, KEYS * 35000) == wanted
+
+
+@pytest.mark.parametrize("call", CALLS)
+def test_paste_of_100_kilobytes(call):
+    body = b"0123456789abcdef" * 6400
+    wanted = f"{pasted(body)}, 0 wait"
+    assert answer_of("parser", call, 1, PASTE_START + body + PASTE_END) == wanted
+
+
+def numbered(more, pieces):
+    return f"numbered {more} " + "".join(f"{it.hex()}," for it in pieces)
+
+
+def test_70000_pieces_of_a_byte():
+    """The first key ends at the third byte, and the second at the fourth."""
+    pieces = [bytes([it]) for it in KEYS * 17500]
+    places = range(0, len(pieces), 4)
+    wanted = "".join(f"{it + 2} key UpArrow NONE, {it + 3} key U+0071 NONE, " for it in places)
+    assert answers("parser", [numbered(0, pieces)]) == [wanted + "0 wait"]
+
+
+# Pieces. The bytes that come before, the pieces, whether more may come, and what they give.
+PIECES = {
+    "no pieces": (b"", [], 1, "0 wait"),
+    "flush by no pieces": (b"\033", [], 0, "0 key Escape NONE, 0 wait"),
+    "no pieces with more to come": (b"\033", [], 1, "1 wait"),
+    "empty pieces": (b"", [b"", b"\033", b"", b"[", b"A"], 1, "4 key UpArrow NONE, 0 wait"),
+    "mouse in pieces": (b"", [b"\033[", b"<0;1;2M"], 0, "1 mouse 1 2 LEFT NONE, 0 wait"),
+    "ALT in pieces": (b"", [b"\033", b"["], 0, "1 key U+005B ALT, 0 wait"),
+    "numbers": (
+        b"",
+        [b"a", b"\033", b"[Ab"],
+        0,
+        "0 key U+0061 NONE, 2 key UpArrow NONE, 2 key U+0062 NONE, 0 wait",
+    ),
+    "paste in pieces": (b"", [b"\033[2", b"00~ab\033[", b"201~"], 1, "2 paste 2:6162, 0 wait"),
+    "only the last piece is flushed": (
+        b"",
+        [b"\033", b"x\033", b"[1"],
+        0,
+        "1 key U+0078 ALT, 2 key U+005B ALT, 2 key U+0031 NONE, 0 wait",
+    ),
+    "empty last piece": (
+        b"",
+        [b"\033[1", b""],
+        0,
+        "1 key U+005B ALT, 1 key U+0031 NONE, 0 wait",
+    ),
+    "held before": (b"\033[<0;1", [b";2", b"M"], 1, "1 mouse 1 2 LEFT NONE, 0 wait"),
+    "an open paste": (b"\033[200~a", [b"b", b"c"], 0, "9 wait"),
+}
+
+
+@pytest.mark.parametrize("name", PIECES)
+def test_pieces(name):
+    before, pieces, more, wanted = PIECES[name]
+    first = command("callback", 1, before)
+    check("parser", [(first, f"{len(before)} wait"), (numbered(more, pieces), wanted)])
+
+
+# The parser.
+def test_loop_over_all_events():
+    lines = "key U+0061 NONE, key UpArrow NONE, paste 1:62, 1 wait"
+    check(
+        "parser",
+        [
+            (command("loop", 1), "0 wait"),
+            (command("loop", 1, b"a\033[A\033[200~b\033[201~\033"), lines),
+            (command("loop", 0), "key Escape NONE, 0 wait"),
+        ],
+    )
+
+
+def test_has_item():
+    asked = [(command("feed", 0, b"\033"), "")]
+    check("parser", asked + [("has_item 1", "false"), ("has_item 0", "true")])
+
+
+# Bytes, whether more may come, and what a lookup finds.
+LOOKUPS = [
+    (b"\033[Aq", 0, f"Exact(3, {key_event('UpArrow')})"),
+    (b"\033[1;5A", 0, f"Exact(6, {key_event('UpArrow', CTRL)})"),
+    (b"\033[1;5", 0, f"""Exact(2, {key_event("Char('[')", ALT)})"""),
+    (b"\033[200~", 0, f"Exact(6, {key_event('InternalPasteStart')})"),
+    (b"\033q", 0, f"Exact(1, {key_event('Escape')})"),
+    (b"\033", 1, f"Ambiguous(1, {key_event('Escape')})"),
+    (b"\033q", 1, f"Exact(1, {key_event('Escape')})"),
+    (b"q", 1, "None"),
+    (b"\xc3", 1, "None"),
+    (b"", 1, "NeedData"),
+]
+
+
+def test_lookups_in_the_table():
+    asked = [(command("lookup", more, given), wanted) for given, more, wanted in LOOKUPS]
+    check("parser", asked + [("list 1", "0 wait")])
+
+
+def test_each_row_is_found_whole():
+    rows = answers("parser", [command("row", place) for place in [*range(4000), 2**64 - 1]])
+    count = rows.index("None")
+    assert count > 2000 and set(rows[count:]) == {"None"}
+    asked = []
+    for row in rows[:count]:
+        numbers, event = re.fullmatch(r"Some\(\(\[(.*?)\], (.*)\)\)", row).groups()
+        given = bytes(int(it) for it in numbers.split(", "))
+        asked.append((command("lookup", 0, given), f"Exact({len(given)}, {event})"))
+    check("parser", asked)
+
+
+@pytest.mark.parametrize(
+    "text, is_open",
+    [
+        (b"\033[200~", "true"),
+        (b"\033[200~ab\033[201", "true"),
+        (b"\033[200~ab\033[201~", "false"),
+        (b"\033[200~\033[201~q", "false"),
+        (b"\033[200", "false"),
+        (b"q\033[200~", "false"),
+        (b"", "false"),
+    ],
+)
+def test_pastes_without_an_end(text, is_open):
+    asked = [(command("feed", 0, text), ""), ("awaits_paste_end", is_open)]
+    check("parser", [*asked, ("reset", str(len(text))), ("awaits_paste_end", "false")])
+
+
+def test_a_paste_of_300_kilobytes_awaits_its_end():
+    body = b"x" * 300_000
+    asked = []
+    for part, is_open in (PASTE_START, "true"), (body, "true"), (PASTE_END, "false"):
+        asked += [(command("feed", 0, part), ""), ("awaits_paste_end", is_open)]
+    check("parser", [*asked, ("event 1", f"{pasted(body)}, 0 wait")])
+
+
+# Limits in time.
+END = 1_000_000
+
+
+class Program:
+    """The program in a mode, asked one command after another."""
+
+    def __init__(self, mode):
+        pipes = {"stdin": subprocess.PIPE, "stdout": subprocess.PIPE, "text": True}
+        self.process = subprocess.Popen([TEST_CALLS, mode], **pipes)
+
+    def __enter__(self):
+        return self
+
+    def __exit__(self, *_):
+        self.process.communicate(timeout=60)
+        assert self.process.returncode == 0
+
+    def ask(self, *words):
+        self.process.stdin.write(command(*words) + "\n")
+        self.process.stdin.flush()
+        return self.process.stdout.readline()[:-1]
+
+    def events(self, *words):
+        """The events that a command gives, and how many bytes stay buffered."""
+        *events, waiting = re.split(r", (?=[A-Z]|key |mouse |paste |\d+ wait$)", self.ask(*words))
+        return events, waiting
+
+    def due(self, now):
+        """When what is buffered is due, if ever."""
+        left = re.fullmatch(r"None|Some\((\d+)\)", self.ask("timeout", now))[1]
+        return None if left is None else now + int(left)
+
+    def over_time(self, flush, reads):
+        """The events of bytes, each with its time. What is due is flushed exactly then, after a try
+        a millisecond earlier."""
+        events, now = [], 0
+        for time, given in [*reads, (END, None)]:
+            due = self.due(now)
+            tries = [max(now, due - 1), due] if due is not None and due < time else []
+            for now in tries:
+                events += [f"{now} {it}" for it in self.events(flush, now)[0]]
+            if given is not None:
+                now = time
+                events += [f"{now} {it}" for it in self.events("at", now, given)[0]]
+        return ", ".join(events + [self.ask("list", 1)])
+
+
+# What comes, each with its time, and the events.
+TIMES = [
+    ([(0, b"\033"), (40, b"\033")], "90 key Escape ALT, 0 wait"),
+    (
+        [(0, b"\033"), (50, b"[A"), (99, b"\033"), (150, b"[A")],
+        "50 key UpArrow NONE, 149 key Escape NONE, 150 key U+005B NONE, 150 key U+0041 NONE, "
+        "0 wait",
+    ),
+    (
+        [(0, b"\033["), (900, b"1"), (1300, b"A")],
+        "100 key U+005B ALT, 900 key U+0031 NONE, 1300 key U+0041 NONE, 0 wait",
+    ),
+    ([(0, b"\033"), (40, b"["), (90, b"1;5A")], "90 key UpArrow CTRL, 0 wait"),
+    (
+        [(0, b"\033[1"), (900, b";5"), (1300, b"A")],
+        "1000 key U+005B ALT, 1000 key U+0031 NONE, 1000 key U+003B NONE, 1000 key U+0035 NONE, "
+        "1300 key U+0041 NONE, 0 wait",
+    ),
+    ([(0, b"\xe2"), (9000, b"\x82\xac")], "9000 key U+20AC NONE, 0 wait"),
+    (
+        [(0, b"\033[200~a"), (90000, b"\033[201~\033")],
+        "90000 paste 1:61, 90050 key Escape NONE, 0 wait",
+    ),
+]
+
+# Those of the extended parser alone.
+EXTENDED_TIMES = [
+    (
+        [(0, b"\033]l"), (500, b"j"), (900, b"j")],
+        "1000 key U+005D ALT, 1000 key U+006C NONE, 1000 key U+006A NONE, 1000 key U+006A NONE, "
+        "0 wait",
+    ),
+    (
+        [(0, b"\033\033"), (40, b"]11;a"), (4000, b"b")],
+        "40 key Escape NONE, 5047 StringCut { kind: Osc, bytes: SequenceBytes { inner: "
+        "[49, 49, 59, 97, 98] } }, 0 wait",
+    ),
+    ([(0, b"\033["), (99, b"I")], "99 FocusGained, 0 wait"),
+]
+
+
+@pytest.mark.parametrize("flush", FLUSHES)
+@pytest.mark.parametrize("mode, rows", [("parser", TIMES), ("legacy", TIMES + EXTENDED_TIMES)])
+def test_limits_in_time(mode, rows, flush):
+    for reads, wanted in rows:
+        with Program(mode) as program:
+            assert program.over_time(flush, reads) == wanted
+
+
+@pytest.mark.parametrize("flush", FLUSHES)
+@pytest.mark.parametrize("mode", ["parser", "kitty"])
+def test_a_stalled_paste_of_1_megabyte(mode, flush):
+    body = b"0123456789abcdef" * 65536
+    waiting = f"{len(PASTE_START + body)} wait"
+    with Program(mode) as program:
+        program.ask("end-pastes")
+        assert program.events("at", 5, PASTE_START + body) == ([], waiting)
+        assert program.ask("limit") == "Limit { millis: Some(10000), by: Last }"
+        assert program.events(flush, 10004) == ([], waiting)
+        assert program.events(flush, 10005) == ([pasted(body)], "0 wait")
+        assert program.due(END) is None
+
+
+# The extended parser.
+def sequence_bytes(text):
+    return f"SequenceBytes {{ inner: {list(text)} }}"
+
+
+def key_report(key, modifiers=0, kind="Press", shifted="None", base="None", text=""):
+    return (
+        f"KeyReport {{ key: Named({key}), modifiers: {modifiers}, kind: {kind}, "
+        f'shifted: {shifted}, base: {base}, text: KeyText {{ inner: "{text}" }} }}'
+    )
+
+
+# The longest string that has one event, of 65536 bytes.
+LONG_STRING = b"\033]52;" + b"x" * 65529 + b"\033\\"
+# A key report with as long a text as fits in 256 bytes.
+LONG_REPORT = b"\033[97;;" + b"65:" * 82 + b"229u"
+LONG_KEY = key_report("Char('a')", text="A" * 82 + "å")
+
+# Texts, and their events.
+TEXTS = [
+    (
+        b"a\033[I\033[200~p\033[201~\033[97;1:3u\033]0;t\a",
+        [
+            "key U+0061 NONE",
+            "FocusGained",
+            "paste 1:70",
+            f"""Key({key_report("Char('a')", kind="Release")})""",
+            f"Osc({sequence_bytes(b'0;t')})",
+        ],
+    ),
+    (PASTE_START + b"x" * 100000 + PASTE_END, [pasted(b"x" * 100000)]),
+    (LONG_STRING, [f"Osc({sequence_bytes(LONG_STRING[2:-2])})"]),
+    (
+        b"\033_Gi=1;OK\033[I",
+        [f"StringCut {{ kind: Apc, bytes: {sequence_bytes(b'Gi=1;OK')} }}", "FocusGained"],
+    ),
+    (LONG_REPORT, [f"Key({LONG_KEY})"]),
+    (b"\033[I\033]4;a\a" * 35000, ["FocusGained", f"Osc({sequence_bytes(b'4;a')})"] * 35000),
+]
+
+
+@pytest.mark.parametrize("protocol", PROTOCOLS)
+@pytest.mark.parametrize("call", EXTENDED_CALLS)
+def test_extended_texts(protocol, call):
+    asked = [(command(call, 1, text), ", ".join(events + ["0 wait"])) for text, events in TEXTS]
+    check(protocol, asked)
+
+
+@pytest.mark.parametrize("protocol", PROTOCOLS)
+@pytest.mark.parametrize("call", EXTENDED_CALLS)
+def test_a_string_of_128_kilobytes_comes_in_parts(protocol, call):
+    """Each part has the opening."""
+    with Program(protocol) as program:
+        events, waiting = program.events(call, 1, b"\033]52;" + b"x" * 131070 + b"\a")
+    assert [re.split(r"\W", it)[0] for it in events] == ["StringPart", "StringPart", "Osc"]
+    assert all(f"[{', '.join(str(it) for it in b'52;')}, 120" in it for it in events)
+    assert sum(it.count("120") for it in events) == 131070
+    assert waiting == "0 wait"
+
+
+# Whole sequences that are keys, and their reports.
+SEQUENCES = [
+    (b"\033[1;9A", key_report("UpArrow", modifiers=8)),
+    (
+        b"\033[97:65:99;2:3;65u",
+        key_report("Char('a')", 1, "Release", "Some('A')", "Some('c')", "A"),
+    ),
+    (LONG_REPORT, LONG_KEY),
+]
+
+
+@pytest.mark.parametrize("text, report", SEQUENCES)
+def test_sequences_that_are_keys(text, report):
+    """The event's key, and its clone."""
+    assert answer_of("kitty", "sequence", 0, text) == f"true / Key({report}) / {report} / {report}"
+
+
+@pytest.mark.parametrize("text", [b"\033[O", b"\033[M0\x60\x70", b"\033[2D", LONG_STRING])
+def test_sequences_that_are_neither_keys_nor_positions(text):
+    assert answer_of("kitty", "sequence", 0, text).startswith("false / ")
+
+
+# The key map, of which a value is printed in quotes.
+def found(kind, length, value):
+    return f'{kind}({length}, "{value}")'
+
+
+def insert(key, value):
+    return command("insert", value, key), ""
+
+
+def lookups(rows):
+    return [(command("lookup", more, text), wanted) for text, more, wanted in rows]
+
+
+# Three keys of which each is a prefix of the next, and one that is apart.
+NESTED = [(b"boa", 1), (b"boo", 2), (b"boom", 3), (b"boom!!", 4)]
+
+# The first 300 bytes of a text are a key, and so are the first 100.
+LONG = bytes(it % 251 for it in range(301))
+
+# Entries whose keys are all different, and texts that are looked up among these, whether more of
+# them may follow, and the answers. termwiz's own cases come first. rust/tests/keymap.rs has them
+# all, for maps that remember nothing.
+MAPS = [
+    ([], [(b"boo", 1, "None"), (b"boo", 0, "None")]),
+    (
+        [(b"boa", 1), (b"boo", 2), (b"boom", 3)],
+        [
+            (b"b", 1, "NeedData"),
+            (b"bo", 1, "NeedData"),
+            (b"boa", 1, found("Exact", 3, 1)),
+            (b"boo", 1, found("Ambiguous", 3, 2)),
+            (b"boom", 1, found("Exact", 4, 3)),
+            (b"boom!", 1, found("Exact", 4, 3)),
+            (b"bz", 1, "None"),
+        ],
+    ),
+    (
+        NESTED,
+        [
+            (b"boom!", 0, found("Exact", 4, 3)),
+            (b"boom!", 1, found("Ambiguous", 4, 3)),
+            (b"boom!x", 1, found("Exact", 4, 3)),
+            (b"boo", 0, found("Exact", 3, 2)),
+            (b"bo", 0, "NeedData"),
+            (b"", 1, "NeedData"),
+        ],
+    ),
+    (
+        [(b"\x03", 1), (b"\x27", 2), (b"\x03XYZ", 3)],
+        [
+            (b"\x03", 1, found("Ambiguous", 1, 1)),
+            (b"\x03foo", 1, found("Exact", 1, 1)),
+            (b"\x03X", 1, found("Ambiguous", 1, 1)),
+        ],
+    ),
+    ([], [(b"", 1, "None")]),
+    ([(b"", 1)], [(b"x", 1, found("Exact", 0, 1))]),
+    (
+        [(b"", 1), (b"ab", 2)],
+        [
+            (b"x", 1, found("Exact", 0, 1)),
+            (b"", 1, found("Ambiguous", 0, 1)),
+            (b"", 0, found("Exact", 0, 1)),
+            (b"a", 1, found("Ambiguous", 0, 1)),
+            (b"ab", 1, found("Exact", 2, 2)),
+        ],
+    ),
+    (
+        [(LONG[:300], 1), (LONG[:100], 2)],
+        [
+            (LONG[:99], 1, "NeedData"),
+            (LONG[:100], 1, found("Ambiguous", 100, 2)),
+            (LONG[:299], 1, found("Ambiguous", 100, 2)),
+            (LONG[:300], 1, found("Exact", 300, 1)),
+            (LONG, 1, found("Exact", 300, 1)),
+        ],
+    ),
+]
+
+
+@pytest.mark.parametrize("entries, rows", MAPS)
+@pytest.mark.parametrize("order", [1, -1])
+def test_lookups(entries, rows, order):
+    """In a map whose keys are inserted in order or in reverse order, and in its clone, before and
+    after it remembers its ranges."""
+    asked = [insert(*it) for it in entries[::order]]
+    answered = [("len", str(len(entries))), *lookups(rows)]
+    for _ in range(2):
+        asked += [*answered, ("clone", ""), ("exchange", ""), *answered, ("exchange", "")]
+        asked += [("remember", "")]
+    check("map", asked)
+
+
+def entry(key, value):
+    return f'Some(({list(key)}, "{value}"))'
+
+
+def test_60000_keys():
+    """256 keys begin with each byte. Each of the first 6000 is far from the one before."""
+
+    def numbers_below(limit):
+        asked = []
+        for number in range(limit):
+            key = number.to_bytes(2, "big")
+            asked += lookups([(key, 1, found("Exact", 2, number))])
+            asked += [(f"get_index {number}", entry(key, number))]
+        asked += lookups([(limit.to_bytes(2, "big"), 1, "None")])
+        return [*asked, (f"get_index {limit}", "None")]
+
+    far_apart = [it for low in range(3000) for it in (low, 5999 - low)]
+    asked = [("reserve 6000", "")]
+    asked += [insert(it.to_bytes(2, "big"), it) for it in far_apart]
+    asked += [("reserve 1", ""), *numbers_below(6000)]
+    asked += [insert(it.to_bytes(2, "big"), it) for it in range(6000, 60_000)]
+    asked += [("remember", ""), *numbers_below(60_000), ("extensions 0 03", "768..1024")]
+    asked += [("clone", ""), ("exchange", ""), *numbers_below(60_000), ("exchange", "")]
+    # a later value, where ranges are remembered
+    asked += [insert((700).to_bytes(2, "big"), 1)]
+    later = [(700, 1), (701, 701)]
+    asked += lookups([(it.to_bytes(2, "big"), 1, found("Exact", 2, n)) for it, n in later])
+    check("map", asked)
+
+
+def test_places_and_extensions():
+    asked = [("get_index 0", "None"), ("extensions 0 ", "0..0")]
+    asked += [insert(it, 1) for it in [b"b", b"ab", b"", b"a", b"abc", b"\xff"]]
+    in_order = [b"", b"a", b"ab", b"abc", b"b", b"\xff"]
+    asked += [(f"get_index {place}", entry(key, 1)) for place, key in enumerate(in_order)]
+    asked += [("get_index 6", "None")]
+    for text, places in (b"", "1..6"), (b"a", "2..4"), (b"ab", "3..4"):
+        asked += [(command("extensions", 0, text), places)]
+    check("map", asked)
+    without = [command("extensions", 0, text) for text in [b"abc", b"c", b"\xff"]]
+    for places in answers("map", [it for it, _ in asked] + without)[-3:]:
+        first, last = places.split("..")
+        assert first == last
+
+
+def test_a_clone_keeps_its_values():
+    asked = [insert(b"a", 1), insert(b"ab", 2), ("clone", ""), insert(b"a", 3)]
+    asked += [*lookups([(b"a", 0, found("Exact", 1, 3))]), ("exchange", "")]
+    asked += lookups([(b"a", 0, found("Exact", 1, 1)), (b"ab", 0, found("Exact", 2, 2))])
+    check("map", asked)
+
+
+def test_removed_keys():
+    asked = [*(insert(*it) for it in NESTED), (command("remove", 0, b"boom"), 'Some("3")')]
+    asked += [(command("remove", 0, it), "None") for it in [b"boom", b"bo", b""]]
+    asked += [("len", "3"), *lookups([(b"boom!", 1, found("Ambiguous", 3, 2))])]
+    asked += [("get_index 2", entry(b"boom!!", 4)), ("get_index 3", "None")]
+    check("map", asked)
+
+
+# Drawn keys and texts, looked up in a map and a plain one.
+class Draws(random.Random):
+    def text(self, kind):
+        if kind == "letters":
+            return bytes(self.choices(b"abc", k=self.randrange(7)))
+        if kind == "nested":
+            start = b"a common beginning"[: self.randrange(19)]
+            return start + bytes(self.choices(b"\x00\x01\xfe\xff", k=self.randrange(4)))
+        if kind == "five":
+            return b"\x00\xff" + bytes(self.choices(b"\x00\x01\xfe\xff", k=3))
+        start = LONG[: 298 + self.randrange(4)]
+        return start + bytes(self.choices(b"\x00\xff", k=self.randrange(3)))
+
+
+def plain_lookup(entries, text, more):
+    """What a lookup among these entries finds."""
+    lengths = [it for it in range(len(text) + 1) if text[:it] in entries]
+    is_extended = any(key != text and key.startswith(text) for key in entries)
+    if not lengths:
+        return "NeedData" if is_extended else "None"
+    kind = "Ambiguous" if is_extended and more else "Exact"
+    return found(kind, lengths[-1], entries[text[: lengths[-1]]])
+
+
+def drawn_lookups(draws, kind, entries):
+    """Ten texts, and what is found of each."""
+    for _ in range(10):
+        text, more = draws.text(kind), draws.randrange(2)
+        yield command("lookup", more, text), plain_lookup(entries, text, more)
+
+
+def drawn_map(draws, kind, when):
+    """The empty key and sixty others, with lookups after each, and at last in a clone too."""
+    entries = {b"": 60}
+    yield "new", ""
+    if when == "before":
+        yield "remember", ""
+    yield insert(b"", 60)
+    for value in range(60):
+        key = draws.text(kind)
+        entries[key] = value
+        yield insert(key, value)
+        if when == "between" and value % 7 < 4:
+            yield "remember", ""
+        yield from drawn_lookups(draws, kind, entries)
+    if when == "after":
+        yield "remember", ""
+    yield from drawn_lookups(draws, kind, entries)
+    yield from [("clone", ""), ("exchange", "")]
+    yield from drawn_lookups(draws, kind, entries)
+
+
+@pytest.mark.parametrize("when", ["never", "before", "between", "after"])
+def test_drawn_keys(when):
+    """A map that remembers its ranges then. rust/tests/keymap.rs draws such texts for maps that
+    remember nothing."""
+    draws = Draws(1)
+    kinds = ["letters", "nested", "five"] * 8 + ["long"]
+    asked = [it for kind in kinds for it in drawn_map(draws, kind, when)]
+    assert {wanted.split("(")[0] for _, wanted in asked} == {"", "Exact", "Ambiguous"}
+    check("map", asked)
+
+
+def test_decimal_keys_in_reverse_order():
+    """Numbers are looked up without their last byte, and with a byte after it. Ranges are
+    remembered half way, and once all keys are there."""
+    entries = {f"#{299 - value}~".encode(): value for value in range(300)}
+    texts = [f"#{number}{end}".encode() for number in range(310) for end in ("~#", "")]
+    rows = [(it, more, plain_lookup(entries, it, more)) for it in texts for more in (1, 0)]
+    asked = [insert(*it) for it in entries.items()]
+    asked.insert(151, ("remember", ""))
+    asked += [*lookups(rows), ("remember", ""), *lookups(rows)]
+    check("map", [*asked, ("clone", ""), ("exchange", ""), *lookups(rows)])
+
+
+# The buffer.
+def holds(text):
+    yield "as_slice", text.hex()
+    yield "len", str(len(text))
+    yield "is_empty", "false" if text else "true"
+
+
+def extend(text):
+    return command("extend_with", 0, text), ""
+
+
+def find(offset, needle, wanted):
+    return command("find_subsequence", offset, needle), wanted
+
+
+def advance(count):
+    return f"advance {count}", ""
+
+
+def test_appends_and_drops():
+    asked = [*holds(b"")]
+    for text, count, left in [
+        (b"", 0, b""),
+        (b"abc", 0, b"abc"),
+        (b"de", 0, b"abcde"),
+        (b"", 2, b"cde"),
+        (b"", 0, b"cde"),
+        (b"", 3, b""),
+    ]:
+        asked += [extend(text), advance(count), *holds(left)]
+    check("buffer", asked)
+
+
+@pytest.mark.parametrize(
+    "text, offset, needle, wanted",
+    [
+        (b"abcabc", 0, b"abc", "Some(0)"),
+        (b"abcabc", 1, b"abc", "Some(3)"),
+        (b"abcabc", 3, b"abc", "Some(3)"),
+        (b"abcabc", 4, b"abc", "None"),
+        (b"abcabc", 0, b"c", "Some(2)"),
+        (b"abcabc", 6, b"c", "None"),
+        (b"abcabc", 0, b"abcabcd", "None"),
+        (b"aaab", 0, b"aab", "Some(1)"),
+        (b"\x00\xff\x00", 1, b"\x00", "Some(2)"),
+        (b"", 0, b"a", "None"),
+        (b"", 0, b"", "Some(0)"),
+        (b"abc", 0, b"", "Some(0)"),
+        (b"abc", 2, b"", "Some(2)"),
+        (b"abc", 3, b"", "Some(3)"),
+    ],
+)
+def test_searches(text, offset, needle, wanted):
+    """Also where other bytes were dropped before these."""
+    search = find(offset, needle, wanted)
+    check("buffer", [extend(text), search, advance(len(text)), extend(text), search])
+
+
+def test_100_kilobytes():
+    first, second = b"a" * 100_000, b"b" * 5000
+    asked = [extend(first), *holds(first), extend(second), *holds(first + second)]
+    asked += [find(0, b"ab", "Some(99999)"), find(100_000, b"ab", "None")]
+    check("buffer", [*asked, advance(100_000), *holds(second)])
+
+
+def test_bytes_that_are_left_make_room():
+    """They move to the front, where all 100 have room again."""
+    first = extend(b"a" * 100)
+    (_, capacity) = answers("buffer", [first[0], "capacity"])
+    asked = [first, advance(90), *holds(b"a" * 10), extend(b"b" * 90), ("capacity", capacity)]
+    asked += [*holds(b"a" * 10 + b"b" * 90), advance(100), *holds(b"")]
+    check("buffer", [*asked, ("capacity", capacity)])
+
+
+def test_1000_reads_take_no_more_memory_than_two():
+    commands, length = [], 0
+    for _ in range(1000):
+        length += 64
+        commands += [
+            command("extend_with", 0, b"a" * 64),
+            f"advance {length - length % 5}",
+            "capacity",
+        ]
+        length %= 5
+    assert len(set(answers("buffer", commands)[5::3])) == 1
+
+
+def test_room_for_twice_the_longest():
+    """The length of each read, and how many bytes are left after it."""
+    reads = [(100, 10), (90, 0), (64, 64), (64, 7), (4096, 4096), (1, 4097), (64, 1), (65536, 3)]
+    commands, most, length, longest = [], [], 0, 0
+    for read, left in reads * 20:
+        length += read
+        longest = max(longest, length)
+        commands += [command("extend_with", 0, b"a" * read), f"advance {max(0, length - left)}"]
+        commands += ["capacity"]
+        length = min(length, left)
+        most.append(longest)
+    capacities = answers("buffer", commands)[2::3]
+    assert all(int(capacity) // 2 <= it for capacity, it in zip(capacities, most))
+
+
+# Values.
+def test_events_and_their_clones_equal_themselves_alone():
+    rows = answer_of("values", "equality").split()
+    wanted = ["." * place + "=" + "." * (24 - place) for place in range(25)]
+    assert rows[::2] == rows[1::2] == wanted
+
+
+def test_events_that_no_bytes_mean():
+    assert answer_of("values", "lines") == (
+        "key U+000A CTRL, key U+10FFFF SUPER, key F0 LEADER, key Numpad0 LEFT_ALT+RIGHT_SHIFT, "
+        "key InternalPasteEnd NONE, pixelmouse 65535 0 VERT_WHEEL+WHEEL_POSITIVE ALT, "
+        "resized 80 24, wake, 0 wait"
+    )
+
+
+def test_pasted_text():
+    assert answer_of("values", "pasted") == r'"two\nlines" "two\nlines"'
+
+
+def test_messages():
+    assert answer_of("values", "messages").split(" / ") == [
+        "input not taken: out of memory",
+        "input taken: out of memory",
+        "out of memory after 3 pieces",
+        "unhandled fkey number 25",
+        "out of memory",
+        r'"\u{1b}[" "\u{1b}O"',
+    ]
+
+
+def test_modifier_keys():
+    """Those in brackets are none."""
+    assert answer_of("values", "is_modifier") == (
+        "Hyper Super Meta Shift LeftShift RightShift Control LeftControl RightControl Alt LeftAlt "
+        "RightAlt LeftWindows RightWindows (Char('a')) (CapsLock) (NumLock) (Menu) (LeftMenu) "
+    )
+
+
+def test_shift_makes_capitals_of_small_letters_alone():
+    """Of a, and of z with Ctrl too, and not of a without Shift, 1, é and Tab."""
+    wanted = ["Char('A')", "Char('Z')", "Char('a')", "Char('1')", "Char('é')", "Tab"]
+    assert answer_of("values", "shifted").split() == wanted
+
+
+def test_encoder():
+    """F1, Tab and !, each with a bit that no flag names: it counts as held, and is kept where SHIFT
+    or ALT is dropped. ! at level 2 of modifyOtherKeys without and with that bit, Up in application
+    cursor mode, and the longest text. Four keys that are up, and three that have no text."""
+    texts = [r"\u{1b}[1;1P", r"\u{1b}\t", "!", "!", r"\u{1b}[27;1;33~", r"\u{1b}[1;2A"]
+    wanted = [f'Ok("{it}")' for it in [*texts, r"\u{1b}[27;8;1114111~", "", "", "", ""]]
+    wanted += [f"Err(UnhandledFunctionKey({it}))" for it in [0, 25, 255]]
+    assert answer_of("values", "encode") == " / ".join([*wanted, ""])
+
+
+def test_clones_of_a_map_of_keys_and_of_an_answer():
+    wanted = f"Exact(1, {key_event('Enter', CTRL)}) / Ambiguous(2, 7)"
+    assert answer_of("values", "clones") == wanted
+
+
+def test_clone_of_256_chords():
+    """A clone keeps the chord that is unbound then, and all others."""
+    others = " ".join(f"Some({it})" for it in range(1, 256))
+    wanted = f"256 Some(0) {others} / Some(0) / 255 None {others} "
+    assert answer_of("values", "bindings") == wanted
+
+
+def test_name_of_one_press():
+    assert answer_of("values", "print_press") == "alt+left"
+
+
+# Control characters, each with the characters of which Ctrl makes it; of others it makes none.
+TYPED = {
+    0x00: "@` 2",
+    0x01: "aA",
+    0x08: "hH",
+    0x09: "iI",
+    0x0D: "mM",
+    0x1A: "zZ",
+    0x1B: "[3{",
+    0x1C: "\\4|",
+    0x1D: "]5}",
+    0x1E: "^6~",
+    0x1F: "_7/",
+    0x7F: "8?",
+    None: "019!\"#$%&'()*+,-.:;<=>\x00\x1b\x7f\x80é\U0010ffff",
+}
+
+
+def test_ctrl_with_a_character():
+    rows = [(c, control) for control, typed in TYPED.items() for c in typed]
+    check("values", [(f"ctrl_mapping {ord(c)}", str(control)) for c, control in rows])
+
+
+def test_modifiers_as_numbers_of_xterm():
+    """One less than what follows the ; in xterm's key sequences."""
+    wanted = {0: NONE, 1: SHIFT, 2: ALT, 3: SHIFT | ALT, 4: CTRL, 5: SHIFT | CTRL, 6: ALT | CTRL}
+    wanted[7] = SHIFT | ALT | CTRL
+    asked = [(f"encode_xterm {bits}", str(number)) for number, bits in wanted.items()]
+    check("values", [*asked, (f"encode_xterm {SUPER | 1 << 5}", "0")])
+
+
+def test_modifiers_without_left_and_right():
+    """LEFT_ALT and the five beside it are bits 5 and 6 and 8 to 11."""
+    kept = SHIFT | LEADER
+    positional = [0, *(1 << bit for bit in (5, 6, 8, 9, 10, 11))]
+    check("values", [(f"remove_positional_mods {kept | it}", str(kept)) for it in positional])
+
+
+# Codes without modifiers as xterm sends them, with the buttons of their reports that end with M and
+# with m.
+BUTTONS = {
+    0: ("Button1Press", "Button1Release"),
+    1: ("Button2Press", "Button2Release"),
+    2: ("Button3Press", "Button3Release"),
+    3: ("None", "None"),
+    32: ("Button1Drag", "Button1Release"),
+    33: ("Button2Drag", "Button2Release"),
+    34: ("Button3Drag", "Button3Release"),
+    35: ("None", "None"),
+    64: ("Button4Press", "Button4Release"),
+    65: ("Button5Press", "Button5Release"),
+    66: ("Button6Press", "Button6Release"),
+    67: ("Button7Press", "Button7Release"),
+}
+
+# Presses of button 1 with Shift, Alt and Ctrl, and the largest code.
+HELD = {
+    4: ("Button1Press", SHIFT),
+    8: ("Button1Press", ALT),
+    16: ("Button1Press", CTRL),
+    12: ("Button1Press", SHIFT | ALT),
+    20: ("Button1Press", SHIFT | CTRL),
+    24: ("Button1Press", ALT | CTRL),
+    28: ("Button1Press", SHIFT | ALT | CTRL),
+    95: ("Button7Press", SHIFT | ALT | CTRL),
+}
+
+# Codes of no button, among them those of xterm's buttons 8 to 11, and other final bytes.
+NO_REPORTS = [
+    *[(96, b"M"), (128, b"M"), (131, b"m"), (300, b"M"), (65535, b"m")],
+    *[(0, b"A"), (0, b"\0"), (95, b"N")],
+]
+
+
+def reports(button, held):
+    """A report at four columns and rows."""
+    end = f"button: {button}, modifiers: Modifiers({held}) }}) / "
+    places = [(42, 12), (0, 1), (1, 1), (65535, 65535)]
+    return "".join(f"Some(SGR1006 {{ x: {x}, y: {y}, {end}" for x, y in places)
+
+
+def test_mouse_reports():
+    asked = [(command("sgr_mouse", code, last), "None / " * 4) for code, last in NO_REPORTS]
+    for code, buttons in BUTTONS.items():
+        for last, button in zip([b"M", b"m"], buttons):
+            asked += [(command("sgr_mouse", code, last), reports(button, NONE))]
+    for code, (button, held) in HELD.items():
+        asked += [(command("sgr_mouse", code, b"M"), reports(button, held))]
+    check("values", asked)
