@@ -111,7 +111,7 @@ out/build/libhedrugal.a: $(proved_libraries) | out/build
 	@tools/gate.sh part library '(cd crates/hedrugal && $(call static_library,hedrugal,$(call libraries_of,hedrugal),$@) \
 		$(call kept_by,hedrugal)) && tools/axioms.sh hedrugal out/gate/library.log'
 
-crates/%/out/keyshow crates/%/out/test_refusals: out/gate/%.proved ;
+crates/%/out/keyshow crates/%/out/test_calls: out/gate/%.proved ;
 else
 proved_libraries := $(crate_files)
 out/build/libhedrugal.a: $(crate_files) | out/build
@@ -123,7 +123,7 @@ out/build/libhedrugal.a: $(crate_files) | out/build
 	@tools/axioms.sh hedrugal out/build/hedrugal.log
 	@$(if $(RLIBS),,cp crates/hedrugal/out/libhedrugal.a $@)
 
-crates/keyshow/out/keyshow crates/test_refusals/out/test_refusals: $(crate_files) | out/build
+crates/keyshow/out/keyshow crates/test_calls/out/test_calls: $(crate_files) | out/build
 	@tools/needs.sh library
 	@echo 'make: proves and builds the crate $(@F) and those below it; out/build/$(@F).log has what rt prints'
 	@cd crates/$(@F) && rm -f out/$(@F) && { rt run < /dev/null || [ -x out/$(@F) ]; } $(call proving,$(@F))
@@ -251,7 +251,8 @@ uninstall: libdir ## removes these files, and their folders that are left empty,
 include $(wildcard *.mk)
 
 # Tests. Each part by itself is `make check-NAME`; the last line of what it prints counts its cases.
-kit_checks := axioms growth refusals listings prebuilt
+test_calls := crates/test_calls/out/test_calls
+kit_checks := axioms growth refusals rattle listings prebuilt
 every_check := lint numbers c c-arm64 tests-arm64 rust python programs page install packages clone docs fuzz $(kit_checks)
 # What the tests of a part read.
 export HEDRUGAL_LIBRARY := $(abspath $(lib))
@@ -264,7 +265,7 @@ check-c-arm64 := CC=aarch64-linux-gnu-gcc CXX=aarch64-linux-gnu-g++ EMULATOR='qe
 	HEDRUGAL_LIBRARY=$(arm64)/lib tools/c_test.sh
 check-rust := tools/rust_test.sh
 check-python := $(PYTHON) -m pytest python
-check-programs := $(PYTHON) -m pytest $(filter-out tests/test_page%,$(wildcard tests/test_*.py))
+check-programs := $(PYTHON) -m pytest $(filter-out tests/test_page% tests/test_rattle.py,$(wildcard tests/test_*.py))
 check-page := $(PYTHON) -m pytest $(wildcard tests/test_page*.py)
 check-install := tools/install_test.sh
 check-packages := tools/package_test.sh
@@ -275,13 +276,14 @@ check-fuzz := tools/fuzz.sh 30
 check-axioms := tools/axioms.sh keyshow $(processors:%=out/build/keyshow-%.log)
 check-growth := tools/growth.sh out/build/libfeed.a
 check-refusals := tools/refusals.sh
+check-rattle := TEST_CALLS=$(abspath $(test_calls)) $(PYTHON) -m pytest tests/test_rattle.py
 check-prebuilt := $(MAKE) --silent prebuilt-check
 check-listings := tools/docs.sh --library $(lib) --built --only sh,keyshow
 
 .PHONY: gate-ci gate-library $(foreach it,$(every_check),check-$(it) gate-$(it))
 $(foreach it,$(filter-out lint numbers axioms clone c-arm64 tests-arm64 prebuilt,$(every_check)),check-$(it) gate-$(it)): all
 check-growth gate-growth: out/build/libfeed.a
-check-refusals gate-refusals: crates/test_refusals/out/test_refusals
+check-refusals gate-refusals check-rattle gate-rattle: $(test_calls)
 check-axioms gate-axioms: $(processors:%=out/build/%/keyshow.o)
 check-c-arm64 gate-c-arm64: arm64-library
 gate-prebuilt: $(processors:%=out/prebuilt/%-linux/PROVENANCE)
@@ -316,7 +318,7 @@ format: ## lays out the sources in C, Rust and Python
 # rattle itself over the libraries that `rt ci` has written to crates/*/out by then, and nothing below it is proved twice. keyshow and the
 # other programs are those that `rt ci` builds. The parts that test them run beside its must-fail edits, to which they are preferred.
 JOBS ?= 6
-gate_parts := ci library prebuilt lint numbers c-arm64 tests-arm64 rust c packages clone programs page docs growth listings refusals \
+gate_parts := ci library prebuilt lint numbers c-arm64 tests-arm64 rust c packages clone programs page docs growth listings refusals rattle \
 	python install axioms fuzz
 gate_checks := $(filter-out ci library,$(gate_parts))
 

@@ -16,7 +16,7 @@ from helpers import LIMITS, assert_prints, needs_limits
 NESTED = {b"boa": False, b"boo": False, b"boom": True, b"boom!!": False}
 LONG = bytes(number % 251 for number in range(301))
 
-# The cases of crates/test_calls/src/maps.rt: the entries of a map, and texts with the flag and
+# The cases of tests/test_rattle.py: the entries of a map, and texts with the flag and
 # the answer. The first five are termwiz's own.
 CASES = {
     "lookup_empty": ({}, [(b"boo", True, Nothing()), (b"boo", False, Nothing())]),

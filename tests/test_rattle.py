@@ -13,8 +13,7 @@ from conftest import TOP
 
 TEST_CALLS = os.environ.get("TEST_CALLS") or str(TOP / "crates/test_calls/out/test_calls")
 
-CALLS = ["list", "callback", "event", "loop", "pieces"]
-EXTENDED_CALLS = ["list", "callback", "loop", "event"]
+CALLS = ["list", "callback", "event", "loop"]
 FLUSHES = ["expire", "flushed"]
 PROTOCOLS = ["legacy", "kitty"]
 
@@ -77,16 +76,31 @@ def test_paste_of_100_kilobytes(call):
     assert answer_of("parser", call, 1, PASTE_START + body + PASTE_END) == wanted
 
 
-def numbered(more, pieces):
-    return f"numbered {more} " + "".join(f"{it.hex()}," for it in pieces)
+def in_pieces(more, pieces):
+    return f"pieces {more} " + "".join(f"{it.hex()}," for it in pieces)
 
 
-def test_70000_pieces_of_a_byte():
-    """The first key ends at the third byte, and the second at the fourth."""
-    pieces = [bytes([it]) for it in KEYS * 17500]
-    places = range(0, len(pieces), 4)
-    wanted = "".join(f"{it + 2} key UpArrow NONE, {it + 3} key U+0071 NONE, " for it in places)
-    assert answers("parser", [numbered(0, pieces)]) == [wanted + "0 wait"]
+def cut(text, length):
+    return [text[start : start + length] for start in range(0, len(text), length)]
+
+
+@pytest.mark.parametrize("length", [1, 999])
+def test_70000_keys_in_pieces(length):
+    """The first key of KEYS ends at the third byte, and the second at the fourth."""
+    text = KEYS * 35000
+    wanted = []
+    for start in range(0, len(text), 4):
+        wanted += [f"{(start + 2) // length} key UpArrow NONE"]
+        wanted += [f"{(start + 3) // length} key U+0071 NONE"]
+    line = ", ".join([*wanted, "0 wait"])
+    assert answers("parser", [in_pieces(0, cut(text, length))]) == [line]
+
+
+def test_paste_of_100_kilobytes_in_pieces():
+    body = b"0123456789abcdef" * 6400
+    pieces = cut(PASTE_START + body + PASTE_END, 999)
+    line = f"{len(pieces) - 1} {pasted(body)}, 0 wait"
+    assert answers("parser", [in_pieces(1, pieces)]) == [line]
 
 
 # Pieces. The bytes that come before, the pieces, whether more may come, and what they give.
@@ -125,7 +139,7 @@ PIECES = {
 def test_pieces(name):
     before, pieces, more, wanted = PIECES[name]
     first = command("callback", 1, before)
-    check("parser", [(first, f"{len(before)} wait"), (numbered(more, pieces), wanted)])
+    check("parser", [(first, f"{len(before)} wait"), (in_pieces(more, pieces), wanted)])
 
 
 # The parser.
@@ -356,14 +370,14 @@ TEXTS = [
 
 
 @pytest.mark.parametrize("protocol", PROTOCOLS)
-@pytest.mark.parametrize("call", EXTENDED_CALLS)
+@pytest.mark.parametrize("call", CALLS)
 def test_extended_texts(protocol, call):
     asked = [(command(call, 1, text), ", ".join(events + ["0 wait"])) for text, events in TEXTS]
     check(protocol, asked)
 
 
 @pytest.mark.parametrize("protocol", PROTOCOLS)
-@pytest.mark.parametrize("call", EXTENDED_CALLS)
+@pytest.mark.parametrize("call", CALLS)
 def test_a_string_of_128_kilobytes_comes_in_parts(protocol, call):
     """Each part has the opening."""
     with Program(protocol) as program:

@@ -3,7 +3,7 @@
 #
 #     tools/refusals.sh [REFUSALS [KEYSHOW]]
 #
-# REFUSALS and KEYSHOW are the programs of the crates test_refusals and keyshow, else those that rt and make have built. It runs each
+# REFUSALS and KEYSHOW are the programs of the crates test_calls and keyshow, else those that rt and make have built. It runs each
 # case of the first and a stream through the second again and again, and refuses one more request for memory each time
 # (tools/refusals/refuse.c, preloaded), until a run meets no refusal.
 #
@@ -17,7 +17,7 @@ export LC_ALL=C
 [ "${1-}" != --help ] || { show_help; exit; }
 [ $# -le 2 ] || refuse 'wants two programs at most'
 here=$(cd "$(dirname "$0")/.." && pwd)
-refusals=$(realpath -m -- "${1:-$here/crates/test_refusals/out/test_refusals}")
+refusals=$(realpath -m -- "${1:-$here/crates/test_calls/out/test_calls}")
 keyshow=$(realpath -m -- "${2:-${KEYSHOW:-$here/out/bin/keyshow}}")
 need cc gcc nm binutils
 cd "$here" || exit
@@ -77,7 +77,7 @@ refuse_each() { # case judge program words..
     fi
 }
 
-# Judges a run of test_refusals. Status 3 is a refusal before the case's call, which comes before any other answer.
+# Judges a run of test_calls. Status 3 is a refusal before the case's call, which comes before any other answer.
 judge_case() {
     local line granted
     line=$(cat "$work/out")
@@ -108,7 +108,7 @@ judge_keyshow() { # number
 for case in $(cut -d ' ' -f 1 "$work/lines" | uniq); do
     grep "^$case /" "$work/lines" > "$work/wanted"
     : > "$work/seen"
-    refuse_each "$case" judge_case "$refusals" "$case"
+    refuse_each "$case" judge_case "$refusals" refusals "$case"
 done
 
 # keyshow reads the stream in pieces of five bytes.

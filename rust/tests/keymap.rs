@@ -453,7 +453,7 @@ fn check_kind(draws: &mut Draws, kind: Kind) {
     plain.check(&map.clone(), draws, kind, 10);
 }
 
-// The tests in crates/test_input draw the same texts, for a map that remembers ranges.
+// tests/test_rattle.py draws such texts for a map that remembers ranges.
 #[test]
 fn agrees_with_a_plain_map_on_each_kind_of_texts() {
     let mut draws = Draws(1);

@@ -1,6 +1,4 @@
 //! By which calls of the parser bytes are read. Each way returns the events of what is buffered and of the bytes.
-ghost use Rattle.std.specs.Prelude.{◌<◌};
-
 use std::alloc::{AllocError, Global};
 use termwiz_input::input::{InputEvent, InputParser};
 use termwiz_input::laws::few_events;
@@ -16,8 +14,6 @@ pub enum Calls {
     Event,
     /// `feed`, and then `for_each_event`.
     Loop,
-    /// `parse_pieces`, with pieces of 999 bytes.
-    Pieces,
 }
 
 impl Calls {
@@ -34,7 +30,6 @@ impl Calls {
             Calls::Callback => parsed(alloc, parser, bytes, more),
             Calls::Event => pulled(alloc, parser, bytes, more),
             Calls::Loop => looped(alloc, parser, bytes, more),
-            Calls::Pieces => of_pieces(alloc, parser, bytes, more),
         }
     }
 }
@@ -87,32 +82,6 @@ pub fn parsed_pieces(
     };
     if parser.parse_pieces(pieces, &mut note, more).is_err() || is_refused {
         return Err(AllocError);
-    }
-    Ok(events)
-}
-
-/// The text in pieces of this length.
-pub fn pieces_of(alloc: Global, text: &[u8], len: usize) -> Result<Vec<&[u8]>, AllocError>
-    requires { 0 < len }
-{
-    let mut pieces = Vec::new(alloc);
-    for piece in text.chunks(len) {
-        pieces.push(piece)?;
-    }
-    Ok(pieces)
-}
-
-// The events of a call of `parse_pieces`.
-fn of_pieces(
-    alloc: Global,
-    parser: &mut InputParser,
-    bytes: &[u8],
-    more: bool,
-) -> Result<Vec<InputEvent>, AllocError> {
-    let pieces = pieces_of(alloc, bytes, 999)?;
-    let mut events = Vec::new(alloc);
-    for (_, event) in parsed_pieces(alloc, parser, &pieces, more)? {
-        events.push(event)?;
     }
     Ok(events)
 }

@@ -26,7 +26,10 @@ pub fn command_of(line: &str) -> Result<Command<'_>, Failure> {
 
 /// The bytes that hexadecimal digits stand for.
 pub fn bytes_of(alloc: Global, digits: &str) -> Result<Vec<u8>, Failure> {
-    hex::decode(alloc, digits).map_err(|_| Failure::NoSuchWord)
+    match hex::decode(alloc, digits) {
+        Ok(bytes) => Ok(bytes),
+        Err(_) => Err(Failure::NoSuchWord),
+    }
 }
 
 /// What commands are about.

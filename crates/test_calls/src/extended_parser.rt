@@ -3,6 +3,7 @@ use crate::conversation::{Command, Session, bytes_of};
 use crate::extended_calls::ExtendedCalls;
 use crate::extended_timed::{expired, flushed, read_at};
 use crate::failure::Failure;
+use crate::parser::push_waiting;
 use crate::timed::END_PASTES;
 use event_text::push_event;
 use std::alloc::{AllocError, Global};
@@ -106,7 +107,7 @@ fn push_events(out: &mut Vec<u8>, events: &[ExtendedEvent], waiting: usize) -> R
         push_extended(out, event)?;
         out.extend_from_slice(b", ")?;
     }
-    Ok(write!(out, "{waiting} wait")?)
+    push_waiting(out, waiting)
 }
 
 // Appends an event.

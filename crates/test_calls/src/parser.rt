@@ -3,7 +3,7 @@ use crate::calls::{Calls, parsed_pieces};
 use crate::conversation::{Command, Session, bytes_of};
 use crate::failure::Failure;
 use crate::timed::{END_PASTES, expired, flushed, read_at};
-use event_text::push_event;
+use event_text::{push_decimal, push_event};
 use std::alloc::{AllocError, Global};
 use std::io::Write;
 use termwiz_input::input::{InputEvent, InputParser};
@@ -40,8 +40,7 @@ impl Session for ParserSession {
             "callback" => self.read(alloc, command, Calls::Callback, out),
             "event" => self.read(alloc, command, Calls::Event, out),
             "loop" => self.read(alloc, command, Calls::Loop, out),
-            "pieces" => self.read(alloc, command, Calls::Pieces, out),
-            "numbered" => self.read_numbered(alloc, command, out),
+            "pieces" => self.read_pieces(alloc, command, out),
             "at" | "expire" | "flushed" => self.answer_in_time(alloc, command, out),
             "feed" => Ok(self.parser.feed(&bytes_of(alloc, command.hex)?)?),
             "lookup" => self.look_up(alloc, command, out),
@@ -65,7 +64,7 @@ impl ParserSession {
     }
 
     // Reads pieces, each of which ends with a comma.
-    fn read_numbered(
+    fn read_pieces(
         &mut self,
         alloc: Global,
         command: &Command<'_>,
@@ -131,8 +130,9 @@ impl ParserSession {
 fn pieces_given(alloc: Global, digits: &str) -> Result<Vec<Vec<u8>>, Failure> {
     let mut pieces = Vec::new(alloc);
     for piece in digits.split_terminator(',') {
-        let piece = bytes_of(alloc, piece)?;
-        pieces.push(piece).map_err(|_| AllocError)?;
+        if pieces.push(bytes_of(alloc, piece)?).is_err() {
+            return Err(Failure::TooEarly);
+        }
     }
     Ok(pieces)
 }
@@ -155,7 +155,13 @@ pub fn push_events(
         push_event(out, event)?;
         out.extend_from_slice(b", ")?;
     }
-    Ok(write!(out, "{waiting} wait")?)
+    push_waiting(out, waiting)
+}
+
+/// Appends how many bytes stay buffered.
+pub fn push_waiting(out: &mut Vec<u8>, waiting: usize) -> Result<(), Failure> {
+    push_decimal(out, waiting)?;
+    Ok(out.extend_from_slice(b" wait")?)
 }
 
 // Appends the events, each after the number of its piece, and how many bytes stay buffered.
@@ -165,9 +171,10 @@ fn push_numbered(
     waiting: usize,
 ) -> Result<(), Failure> {
     for (number, event) in events {
-        write!(out, "{number} ")?;
+        push_decimal(out, *number)?;
+        out.extend_from_slice(b" ")?;
         push_event(out, event)?;
         out.extend_from_slice(b", ")?;
     }
-    Ok(write!(out, "{waiting} wait")?)
+    push_waiting(out, waiting)
 }
