@@ -1,2 +1,1 @@
-pub mod FlushedBytes
 pub mod GoneOn

@@ -1,9 +1,9 @@
 //! Commands to a buffer.
+use crate::answers::{push_bool, push_option};
 use crate::conversation::{Command, Session, bytes_of};
 use crate::failure::Failure;
-use event_text::push_hex;
+use event_text::{push_decimal, push_hex};
 use std::alloc::Global;
-use std::io::Write;
 use termwiz_keymap::readbuf::ReadBuffer;
 
 /// A buffer.
@@ -44,10 +44,10 @@ fn answer_by(
     match command.name {
         "extend_with" => buffer.extend_with(bytes)?,
         "advance" => buffer.advance(place),
-        "find_subsequence" => write!(out, "{:?}", buffer.find_subsequence(place, bytes))?,
-        "len" => write!(out, "{}", buffer.len())?,
-        "is_empty" => write!(out, "{}", buffer.is_empty())?,
-        "capacity" => write!(out, "{}", buffer.capacity())?,
+        "find_subsequence" => push_option(out, buffer.find_subsequence(place, bytes))?,
+        "len" => push_decimal(out, buffer.len())?,
+        "is_empty" => push_bool(out, buffer.is_empty())?,
+        "capacity" => push_decimal(out, buffer.capacity())?,
         "as_slice" => push_hex(out, buffer.as_slice())?,
         _ => return Err(Failure::NoSuchWord),
     }

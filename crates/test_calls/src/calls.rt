@@ -1,41 +1,13 @@
 //! By which calls of the parser bytes are read. Each way returns the events of what is buffered and of the bytes.
+use crate::limits::Limits;
+use crate::noted::Noted;
 use std::alloc::{AllocError, Global};
 use termwiz_input::input::{InputEvent, InputParser};
 use termwiz_input::laws::few_events;
+use termwiz_input::time::expire;
 
-/// The calls.
-#[derive(Clone, Copy, Debug)]
-pub enum Calls {
-    /// `parse_as_vec`.
-    List,
-    /// `parse`.
-    Callback,
-    /// `feed`, and then `next_event` for each event.
-    Event,
-    /// `feed`, and then `for_each_event`.
-    Loop,
-}
-
-impl Calls {
-    /// The events of what is buffered and of these bytes.
-    pub fn events(
-        self,
-        alloc: Global,
-        parser: &mut InputParser,
-        bytes: &[u8],
-        more: bool,
-    ) -> Result<Vec<InputEvent>, AllocError> {
-        match self {
-            Calls::List => listed(parser, bytes, more),
-            Calls::Callback => parsed(alloc, parser, bytes, more),
-            Calls::Event => pulled(alloc, parser, bytes, more),
-            Calls::Loop => looped(alloc, parser, bytes, more),
-        }
-    }
-}
-
-// The events of a call of `parse_as_vec`.
-fn listed(
+/// The events of a call of `parse_as_vec`.
+pub fn listed(
     parser: &mut InputParser,
     bytes: &[u8],
     more: bool,
@@ -53,17 +25,12 @@ pub fn parsed(
     bytes: &[u8],
     more: bool,
 ) -> Result<Vec<InputEvent>, AllocError> {
-    let mut events = Vec::new(alloc);
-    let mut is_refused = false;
-    let mut note = |event: InputEvent| {
-        if events.push(event).is_err() {
-            is_refused = true;
-        }
-    };
-    if parser.parse(bytes, &mut note, more).is_err() || is_refused {
-        return Err(AllocError);
+    let mut noted = Noted::new(alloc);
+    let mut note = |event: InputEvent| noted.push(event);
+    match parser.parse(bytes, &mut note, more) {
+        Ok(()) => noted.all(),
+        Err(_) => Err(AllocError),
     }
-    Ok(events)
 }
 
 /// The events of a call of `parse_pieces`, each with the number of its piece.
@@ -73,21 +40,16 @@ pub fn parsed_pieces(
     pieces: &[&[u8]],
     more: bool,
 ) -> Result<Vec<(usize, InputEvent)>, AllocError> {
-    let mut events = Vec::new(alloc);
-    let mut is_refused = false;
-    let mut note = |number: usize, event: InputEvent| {
-        if events.push((number, event)).is_err() {
-            is_refused = true;
-        }
-    };
-    if parser.parse_pieces(pieces, &mut note, more).is_err() || is_refused {
-        return Err(AllocError);
+    let mut noted = Noted::new(alloc);
+    let mut note = |number: usize, event: InputEvent| noted.push((number, event));
+    match parser.parse_pieces(pieces, &mut note, more) {
+        Ok(()) => noted.all(),
+        Err(_) => Err(AllocError),
     }
-    Ok(events)
 }
 
-// The events, one call of `next_event` for each.
-fn pulled(
+/// The events, one call of `next_event` for each, after the bytes were fed.
+pub fn pulled(
     alloc: Global,
     parser: &mut InputParser,
     bytes: &[u8],
@@ -111,16 +73,21 @@ pub fn looped(
     more: bool,
 ) -> Result<Vec<InputEvent>, AllocError> {
     parser.feed(bytes)?;
-    let mut events = Vec::new(alloc);
-    let mut is_refused = false;
-    let mut note = |event: InputEvent| {
-        if events.push(event).is_err() {
-            is_refused = true;
-        }
-    };
+    let mut noted = Noted::new(alloc);
+    let mut note = |event: InputEvent| noted.push(event);
     parser.for_each_event(&mut note, more)?;
-    if is_refused {
-        return Err(AllocError);
-    }
-    Ok(events)
+    noted.all()
+}
+
+/// The events of a call of `expire`.
+pub fn expired(
+    alloc: Global,
+    parser: &mut InputParser,
+    limits: &mut Limits,
+    now: u64,
+) -> Result<Vec<InputEvent>, AllocError> {
+    let mut noted = Noted::new(alloc);
+    let mut note = |event: InputEvent| noted.push(event);
+    expire(parser, &mut limits.timer, &limits.policy, now, &mut note)?;
+    noted.all()
 }

@@ -1,42 +1,13 @@
 //! By which calls of the extended parser bytes are read. Each way returns the events of what is buffered and of the bytes.
+use crate::limits::Limits;
+use crate::noted::Noted;
 use std::alloc::{AllocError, Global};
 use termwiz_input_extended::input::ExtendedParser;
-use termwiz_input_extended::laws::few_events;
+use termwiz_input_extended::time::expire;
 use termwiz_input_extended::types::ExtendedEvent;
 
-/// The calls.
-#[derive(Clone, Copy, Debug)]
-pub enum ExtendedCalls {
-    /// `parse_as_vec`.
-    List,
-    /// `parse`.
-    Callback,
-    /// `feed`, and then `for_each_event`.
-    Loop,
-    /// `feed`, and then `next_event` for each event.
-    Event,
-}
-
-impl ExtendedCalls {
-    /// The events of what is buffered and of these bytes.
-    pub fn events(
-        self,
-        alloc: Global,
-        parser: &mut ExtendedParser,
-        bytes: &[u8],
-        more: bool,
-    ) -> Result<Vec<ExtendedEvent>, AllocError> {
-        match self {
-            ExtendedCalls::List => listed(parser, bytes, more),
-            ExtendedCalls::Callback => parsed(alloc, parser, bytes, more),
-            ExtendedCalls::Loop => looped(alloc, parser, bytes, more),
-            ExtendedCalls::Event => pulled(alloc, parser, bytes, more),
-        }
-    }
-}
-
-// The events of a call of `parse_as_vec`.
-fn listed(
+/// The events of a call of `parse_as_vec`.
+pub fn listed(
     parser: &mut ExtendedParser,
     bytes: &[u8],
     more: bool,
@@ -47,24 +18,19 @@ fn listed(
     }
 }
 
-// The events of a call of `parse`.
-fn parsed(
+/// The events of a call of `parse`.
+pub fn parsed(
     alloc: Global,
     parser: &mut ExtendedParser,
     bytes: &[u8],
     more: bool,
 ) -> Result<Vec<ExtendedEvent>, AllocError> {
-    let mut events = Vec::new(alloc);
-    let mut is_refused = false;
-    let mut note = |event: ExtendedEvent| {
-        if events.push(event).is_err() {
-            is_refused = true;
-        }
-    };
-    if parser.parse(bytes, &mut note, more).is_err() || is_refused {
-        return Err(AllocError);
+    let mut noted = Noted::new(alloc);
+    let mut note = |event: ExtendedEvent| noted.push(event);
+    match parser.parse(bytes, &mut note, more) {
+        Ok(()) => noted.all(),
+        Err(_) => Err(AllocError),
     }
-    Ok(events)
 }
 
 /// The events of `for_each_event`, after the bytes were fed.
@@ -75,33 +41,21 @@ pub fn looped(
     more: bool,
 ) -> Result<Vec<ExtendedEvent>, AllocError> {
     parser.feed(bytes)?;
-    let mut events = Vec::new(alloc);
-    let mut is_refused = false;
-    let mut note = |event: ExtendedEvent| {
-        if events.push(event).is_err() {
-            is_refused = true;
-        }
-    };
+    let mut noted = Noted::new(alloc);
+    let mut note = |event: ExtendedEvent| noted.push(event);
     parser.for_each_event(&mut note, more)?;
-    if is_refused {
-        return Err(AllocError);
-    }
-    Ok(events)
+    noted.all()
 }
 
-// The events, one call of `next_event` for each.
-fn pulled(
+/// The events of a call of `expire`.
+pub fn expired(
     alloc: Global,
     parser: &mut ExtendedParser,
-    bytes: &[u8],
-    more: bool,
+    limits: &mut Limits,
+    now: u64,
 ) -> Result<Vec<ExtendedEvent>, AllocError> {
-    // By this law each event consumes bytes, so the loop ends.
-    few_events();
-    parser.feed(bytes)?;
-    let mut events = Vec::new(alloc);
-    while let Some(event) = parser.next_event(more)? {
-        events.push(event)?;
-    }
-    Ok(events)
+    let mut noted = Noted::new(alloc);
+    let mut note = |event: ExtendedEvent| noted.push(event);
+    expire(parser, &mut limits.timer, &limits.policy, now, &mut note)?;
+    noted.all()
 }

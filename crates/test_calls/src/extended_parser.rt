@@ -1,25 +1,23 @@
 //! Commands to an extended parser, and whole sequences.
+use crate::answers::{push_bool, push_waiting};
 use crate::conversation::{Command, Session, bytes_of};
-use crate::extended_calls::ExtendedCalls;
-use crate::extended_timed::{expired, flushed, read_at};
+use crate::extended_calls::{expired, listed, looped, parsed};
 use crate::failure::Failure;
-use crate::parser::push_waiting;
-use crate::timed::END_PASTES;
+use crate::limits::{Limits, note_of};
 use event_text::push_event;
 use std::alloc::{AllocError, Global};
 use std::io::Write;
 use termwiz_extended_events::meanings::{event_of, meaning_of};
 use termwiz_extended_events::types::KeyReport;
 use termwiz_input_extended::input::ExtendedParser;
-use termwiz_input_extended::time::{Policy, Timer, limit_of};
+use termwiz_input_extended::time::{limit_of, next_flushed, seen_of};
 use termwiz_input_extended::types::{ExtendedEvent, Protocol};
 
 /// A parser, and its limits in time.
 #[derive(Drop)]
 pub struct ExtendedSession {
     parser: ExtendedParser,
-    timer: Timer,
-    policy: Policy,
+    limits: Limits,
 }
 
 impl ExtendedSession {
@@ -27,8 +25,7 @@ impl ExtendedSession {
     pub fn new(alloc: Global, protocol: Protocol) -> Result<ExtendedSession, AllocError> {
         Ok(ExtendedSession {
             parser: ExtendedParser::new(alloc, protocol)?,
-            timer: Timer::new(),
-            policy: Policy::usual(),
+            limits: Limits::usual(),
         })
     }
 }
@@ -41,71 +38,67 @@ impl Session for ExtendedSession {
         out: &mut Vec<u8>,
     ) -> Result<(), Failure> {
         match command.name {
-            "list" => self.read(alloc, command, ExtendedCalls::List, out),
-            "callback" => self.read(alloc, command, ExtendedCalls::Callback, out),
-            "event" => self.read(alloc, command, ExtendedCalls::Event, out),
-            "loop" => self.read(alloc, command, ExtendedCalls::Loop, out),
-            "at" | "expire" | "flushed" => self.answer_in_time(alloc, command, out),
-            "sequence" => push_sequence(alloc, &bytes_of(alloc, command.hex)?, out),
-            _ => self.tell(command, out),
+            "next_event" => take_next(&mut self.parser, command.number == 1, out),
+            "next_flushed" => flush_next(&mut self.parser, out),
+            "expire" => {
+                let events = expired(alloc, &mut self.parser, &mut self.limits, command.number)?;
+                push_events(out, &events, self.parser.waiting_len())
+            }
+            "end-pastes" | "timeout" | "limit" => {
+                let limit = limit_of(&self.parser, &self.limits.policy);
+                self.limits.answer(command.name, command.number, limit, out)
+            }
+            _ => match note_of(command.name) {
+                Some(note) => {
+                    let seen = seen_of(&self.parser, &self.limits.policy, note.fed, note.taken);
+                    self.limits.note(command.number, seen, out)
+                }
+                None => answer_bytes(&mut self.parser, alloc, command, out),
+            },
         }
     }
 }
 
-impl ExtendedSession {
-    // Reads bytes by some call.
-    fn read(
-        &mut self,
-        alloc: Global,
-        command: &Command<'_>,
-        calls: ExtendedCalls,
-        out: &mut Vec<u8>,
-    ) -> Result<(), Failure> {
-        let bytes = bytes_of(alloc, command.hex)?;
-        let events = calls.events(alloc, &mut self.parser, &bytes, command.number == 1)?;
-        push_events(out, &events, self.parser.waiting_len())
-    }
+// Makes the call that a command names on its bytes.
+fn answer_bytes(
+    parser: &mut ExtendedParser,
+    alloc: Global,
+    command: &Command<'_>,
+    out: &mut Vec<u8>,
+) -> Result<(), Failure> {
+    let bytes = bytes_of(alloc, command.hex)?;
+    let more = command.number == 1;
+    let events = match command.name {
+        "list" => listed(parser, &bytes, more)?,
+        "callback" => parsed(alloc, parser, &bytes, more)?,
+        "loop" => looped(alloc, parser, &bytes, more)?,
+        "feed" => return Ok(parser.feed(&bytes)?),
+        "sequence" => return push_sequence(alloc, &bytes, out),
+        _ => return Err(Failure::NoSuchWord),
+    };
+    push_events(out, &events, parser.waiting_len())
+}
 
-    // Reads bytes at a time, or flushes what is due.
-    fn answer_in_time(
-        &mut self,
-        alloc: Global,
-        command: &Command<'_>,
-        out: &mut Vec<u8>,
-    ) -> Result<(), Failure> {
-        let (parser, timer, policy) = (&mut self.parser, &mut self.timer, &self.policy);
-        let now = command.number;
-        let events = match command.name {
-            "expire" => expired(alloc, parser, timer, policy, now)?,
-            "flushed" => flushed(alloc, parser, timer, policy, now)?,
-            _ => read_at(
-                alloc,
-                parser,
-                timer,
-                policy,
-                (now, &bytes_of(alloc, command.hex)?),
-            )?,
-        };
-        push_events(out, &events, parser.waiting_len())
+// Appends the next event, if there is one.
+fn take_next(parser: &mut ExtendedParser, more: bool, out: &mut Vec<u8>) -> Result<(), Failure> {
+    if let Some(event) = parser.next_event(more)? {
+        push_extended(out, &event)?;
     }
+    push_waiting(out, parser.waiting_len())
+}
 
-    // Appends what the timer tells.
-    fn tell(&mut self, command: &Command<'_>, out: &mut Vec<u8>) -> Result<(), Failure> {
-        match command.name {
-            "timeout" => write!(out, "{:?}", self.timer.next_timeout(command.number))?,
-            "limit" => write!(out, "{:?}", limit_of(&self.parser, &self.policy))?,
-            "end-pastes" => self.policy = END_PASTES,
-            _ => return Err(Failure::NoSuchWord),
-        }
-        Ok(())
+// Appends the next event of a flush, if there is one.
+fn flush_next(parser: &mut ExtendedParser, out: &mut Vec<u8>) -> Result<(), Failure> {
+    if let Some(event) = next_flushed(parser)? {
+        push_extended(out, &event)?;
     }
+    push_waiting(out, parser.waiting_len())
 }
 
 // Appends the events, and how many bytes stay buffered.
 fn push_events(out: &mut Vec<u8>, events: &[ExtendedEvent], waiting: usize) -> Result<(), Failure> {
     for event in events {
         push_extended(out, event)?;
-        out.extend_from_slice(b", ")?;
     }
     push_waiting(out, waiting)
 }
@@ -113,14 +106,16 @@ fn push_events(out: &mut Vec<u8>, events: &[ExtendedEvent], waiting: usize) -> R
 // Appends an event.
 fn push_extended(out: &mut Vec<u8>, event: &ExtendedEvent) -> Result<(), Failure> {
     match event {
-        ExtendedEvent::Input(event) => Ok(push_event(out, event)?),
-        _ => Ok(write!(out, "{event:?}")?),
+        ExtendedEvent::Input(event) => push_event(out, event)?,
+        _ => write!(out, "{event:?}")?,
     }
+    Ok(out.extend_from_slice(b", ")?)
 }
 
 // Appends whether a sequence is a key or the position of the cursor, its event, the event's key, and a clone of the key.
 fn push_sequence(alloc: Global, text: &[u8], out: &mut Vec<u8>) -> Result<(), Failure> {
-    write!(out, "{} / ", meaning_of(text).is_key_or_position())?;
+    push_bool(out, meaning_of(text).is_key_or_position())?;
+    out.extend_from_slice(b", ")?;
     let event = event_of(alloc, text)?;
     push_extended(out, &event)?;
     push_key(alloc, &event, out)
@@ -128,12 +123,13 @@ fn push_sequence(alloc: Global, text: &[u8], out: &mut Vec<u8>) -> Result<(), Fa
 
 fn push_key(alloc: Global, event: &ExtendedEvent, out: &mut Vec<u8>) -> Result<(), Failure> {
     match event.key(alloc)? {
-        Some(report) => push_clone(alloc, &report, out),
+        Some(report) => push_report(alloc, report, out),
         None => Ok(()),
     }
 }
 
-fn push_clone(alloc: Global, report: &KeyReport, out: &mut Vec<u8>) -> Result<(), Failure> {
+fn push_report(alloc: Global, report: KeyReport, out: &mut Vec<u8>) -> Result<(), Failure> {
     let copy = report.clone(alloc)?;
-    Ok(write!(out, " / {report:?} / {copy:?}")?)
+    push_extended(out, &ExtendedEvent::Key(report))?;
+    push_extended(out, &ExtendedEvent::Key(copy))
 }

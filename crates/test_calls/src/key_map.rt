@@ -1,10 +1,13 @@
 //! Commands to a map whose values own memory, and to a clone of it.
+use crate::answers::push_kind;
 use crate::conversation::{Command, Session, bytes_of};
 use crate::failure::Failure;
-use std::alloc::Global;
-use std::io::Write;
+use event_text::{push_decimal, push_hex};
+use itoa::Buffer;
+use std::alloc::{AllocError, Global};
 use std::mem::swap;
-use termwiz_keymap::keymap::KeyMap;
+use std::ops::Range;
+use termwiz_keymap::keymap::{Found, KeyMap};
 
 /// A map, and one that was cloned from it.
 #[derive(Drop)]
@@ -50,8 +53,8 @@ fn answer_by(
     out: &mut Vec<u8>,
 ) -> Result<(), Failure> {
     match command.name {
-        "insert" => map.insert(key, format!(in alloc; "{}", command.number)?)?,
-        "remove" => write!(out, "{:?}", map.remove(key))?,
+        "insert" => map.insert(key, decimal(alloc, command.number)?)?,
+        "remove" => push_value(out, map.remove(key).as_ref())?,
         "remember" => map.remember()?,
         "reserve" => map.reserve(command.number as usize)?,
         _ => ask(map, command, key, out)?,
@@ -67,11 +70,58 @@ fn ask(
     out: &mut Vec<u8>,
 ) -> Result<(), Failure> {
     match command.name {
-        "lookup" => write!(out, "{:?}", map.lookup(key, command.number == 1))?,
-        "len" => write!(out, "{}", map.len())?,
-        "get_index" => write!(out, "{:?}", map.get_index(command.number as usize))?,
-        "extensions" => write!(out, "{:?}", map.extensions(key))?,
-        _ => return Err(Failure::NoSuchWord),
+        "lookup" => push_found(out, map.lookup(key, command.number == 1)),
+        "len" => Ok(push_decimal(out, map.len())?),
+        "get_index" => push_entry(out, map.get_index(command.number as usize)),
+        "extensions" => push_range(out, map.extensions(key)),
+        _ => Err(Failure::NoSuchWord),
     }
-    Ok(())
+}
+
+// The digits of a number.
+fn decimal(alloc: Global, number: u64) -> Result<String, AllocError> {
+    String::from_str(alloc, Buffer::new().format(number))
+}
+
+// Appends a value, if there is one.
+fn push_value(out: &mut Vec<u8>, value: Option<&String>) -> Result<(), Failure> {
+    let text = match value {
+        Some(value) => value.as_str(),
+        None => "None",
+    };
+    Ok(out.extend_from_slice(text.as_bytes())?)
+}
+
+// Appends what a lookup finds.
+fn push_found(out: &mut Vec<u8>, found: Found<&String>) -> Result<(), Failure> {
+    let value = match found {
+        Found::None => return Ok(out.extend_from_slice(b"None")?),
+        Found::NeedData => return Ok(out.extend_from_slice(b"NeedData")?),
+        Found::Exact(len, value) => {
+            push_kind(out, b"Exact ", len)?;
+            value
+        }
+        Found::Ambiguous(len, value) => {
+            push_kind(out, b"Ambiguous ", len)?;
+            value
+        }
+    };
+    push_value(out, Some(value))
+}
+
+// Appends a key and its value.
+fn push_entry(out: &mut Vec<u8>, entry: Option<(&[u8], &String)>) -> Result<(), Failure> {
+    let Some((key, value)) = entry else {
+        return push_value(out, None);
+    };
+    push_hex(out, key)?;
+    out.extend_from_slice(b" ")?;
+    push_value(out, Some(value))
+}
+
+// Appends the places of a range.
+fn push_range(out: &mut Vec<u8>, places: Range<usize>) -> Result<(), Failure> {
+    push_decimal(out, places.start)?;
+    out.extend_from_slice(b"..")?;
+    Ok(push_decimal(out, places.end)?)
 }

@@ -8,6 +8,7 @@
 //! call of a case was refused twice, or nothing could be read or printed.
 #![tactic(auto)]
 
+mod answers;
 mod buffer;
 mod calls;
 mod conversation;
@@ -16,14 +17,14 @@ mod extended;
 mod extended_calls;
 mod extended_parser;
 mod extended_refusals;
-mod extended_timed;
 mod failure;
 mod key_map;
+mod limits;
+mod noted;
 mod parser;
 mod parses;
 mod parts;
 mod refusals;
-mod timed;
 mod values;
 
 use buffer::BufferSession;

@@ -1,20 +1,20 @@
 //! Commands to a parser.
-use crate::calls::{Calls, parsed_pieces};
+use crate::answers::{push_bool, push_kind, push_waiting};
+use crate::calls::{expired, listed, looped, parsed, parsed_pieces, pulled};
 use crate::conversation::{Command, Session, bytes_of};
 use crate::failure::Failure;
-use crate::timed::{END_PASTES, expired, flushed, read_at};
-use event_text::{push_decimal, push_event};
+use crate::limits::{Limits, note_of};
+use event_text::{push_decimal, push_event, push_hex, push_key};
 use std::alloc::{AllocError, Global};
-use std::io::Write;
-use termwiz_input::input::{InputEvent, InputParser};
-use termwiz_input::time::{Policy, Timer, limit_of};
+use termwiz_input::input::{InputEvent, InputParser, KeyEvent};
+use termwiz_input::keymap::Found;
+use termwiz_input::time::{limit_of, next_flushed, seen_of};
 
 /// A parser, and its limits in time.
 #[derive(Drop)]
 pub struct ParserSession {
     parser: InputParser,
-    timer: Timer,
-    policy: Policy,
+    limits: Limits,
 }
 
 impl ParserSession {
@@ -22,8 +22,7 @@ impl ParserSession {
     pub fn new(alloc: Global) -> Result<ParserSession, AllocError> {
         Ok(ParserSession {
             parser: InputParser::new(alloc)?,
-            timer: Timer::new(),
-            policy: Policy::usual(),
+            limits: Limits::usual(),
         })
     }
 }
@@ -36,94 +35,70 @@ impl Session for ParserSession {
         out: &mut Vec<u8>,
     ) -> Result<(), Failure> {
         match command.name {
-            "list" => self.read(alloc, command, Calls::List, out),
-            "callback" => self.read(alloc, command, Calls::Callback, out),
-            "event" => self.read(alloc, command, Calls::Event, out),
-            "loop" => self.read(alloc, command, Calls::Loop, out),
-            "pieces" => self.read_pieces(alloc, command, out),
-            "at" | "expire" | "flushed" => self.answer_in_time(alloc, command, out),
-            "feed" => Ok(self.parser.feed(&bytes_of(alloc, command.hex)?)?),
-            "lookup" => self.look_up(alloc, command, out),
-            _ => self.tell(command, out),
+            "pieces" => read_pieces(&mut self.parser, alloc, command, out),
+            "next_flushed" => flush_next(&mut self.parser, out),
+            "expire" => {
+                let events = expired(alloc, &mut self.parser, &mut self.limits, command.number)?;
+                push_events(out, &events, self.parser.waiting_len())
+            }
+            "end-pastes" | "timeout" | "limit" => {
+                let limit = limit_of(&self.parser, &self.limits.policy);
+                self.limits.answer(command.name, command.number, limit, out)
+            }
+            _ => match note_of(command.name) {
+                Some(note) => {
+                    let seen = seen_of(&self.parser, &self.limits.policy, note.fed, note.taken);
+                    self.limits.note(command.number, seen, out)
+                }
+                None => answer_bytes(&mut self.parser, alloc, command, out),
+            },
         }
     }
 }
 
-impl ParserSession {
-    // Reads bytes by some call.
-    fn read(
-        &mut self,
-        alloc: Global,
-        command: &Command<'_>,
-        calls: Calls,
-        out: &mut Vec<u8>,
-    ) -> Result<(), Failure> {
-        let bytes = bytes_of(alloc, command.hex)?;
-        let events = calls.events(alloc, &mut self.parser, &bytes, command.number == 1)?;
-        push_events(out, &events, self.parser.waiting_len())
-    }
+// Makes the call that a command names on its bytes.
+fn answer_bytes(
+    parser: &mut InputParser,
+    alloc: Global,
+    command: &Command<'_>,
+    out: &mut Vec<u8>,
+) -> Result<(), Failure> {
+    let bytes = bytes_of(alloc, command.hex)?;
+    let more = command.number == 1;
+    let events = match command.name {
+        "list" => listed(parser, &bytes, more)?,
+        "callback" => parsed(alloc, parser, &bytes, more)?,
+        "event" => pulled(alloc, parser, &bytes, more)?,
+        "loop" => looped(alloc, parser, &bytes, more)?,
+        "feed" => return Ok(parser.feed(&bytes)?),
+        "lookup" => return push_found(out, parser.lookup(&bytes, more)),
+        _ => return tell(parser, command, out),
+    };
+    push_events(out, &events, parser.waiting_len())
+}
 
-    // Reads pieces, each of which ends with a comma.
-    fn read_pieces(
-        &mut self,
-        alloc: Global,
-        command: &Command<'_>,
-        out: &mut Vec<u8>,
-    ) -> Result<(), Failure> {
-        let pieces = pieces_given(alloc, command.hex)?;
-        let pieces = slices_of(alloc, &pieces)?;
-        let events = parsed_pieces(alloc, &mut self.parser, &pieces, command.number == 1)?;
-        push_numbered(out, &events, self.parser.waiting_len())
+// Appends what a parser tells.
+fn tell(parser: &mut InputParser, command: &Command<'_>, out: &mut Vec<u8>) -> Result<(), Failure> {
+    match command.name {
+        "has_item" => push_bool(out, parser.has_item(command.number == 1)),
+        "awaits_paste_end" => push_bool(out, parser.awaits_paste_end()),
+        "row" => push_row(out, parser.row(command.number as usize)),
+        "reset" => Ok(push_decimal(out, parser.reset())?),
+        _ => Err(Failure::NoSuchWord),
     }
+}
 
-    // Reads bytes at a time, or flushes what is due.
-    fn answer_in_time(
-        &mut self,
-        alloc: Global,
-        command: &Command<'_>,
-        out: &mut Vec<u8>,
-    ) -> Result<(), Failure> {
-        let (parser, timer, policy) = (&mut self.parser, &mut self.timer, &self.policy);
-        let now = command.number;
-        let events = match command.name {
-            "expire" => expired(alloc, parser, timer, policy, now)?,
-            "flushed" => flushed(alloc, parser, timer, policy, now)?,
-            _ => read_at(
-                alloc,
-                parser,
-                timer,
-                policy,
-                (now, &bytes_of(alloc, command.hex)?),
-            )?,
-        };
-        push_events(out, &events, parser.waiting_len())
-    }
-
-    // Appends what a lookup finds in the sequence table.
-    fn look_up(
-        &self,
-        alloc: Global,
-        command: &Command<'_>,
-        out: &mut Vec<u8>,
-    ) -> Result<(), Failure> {
-        let bytes = bytes_of(alloc, command.hex)?;
-        Ok(write!(out, "{:?}", self.parser.lookup(&bytes, command.number == 1))?)
-    }
-
-    // Appends what the parser or the timer tells.
-    fn tell(&mut self, command: &Command<'_>, out: &mut Vec<u8>) -> Result<(), Failure> {
-        match command.name {
-            "has_item" => write!(out, "{}", self.parser.has_item(command.number == 1))?,
-            "awaits_paste_end" => write!(out, "{}", self.parser.awaits_paste_end())?,
-            "row" => write!(out, "{:?}", self.parser.row(command.number as usize))?,
-            "reset" => write!(out, "{}", self.parser.reset())?,
-            "timeout" => write!(out, "{:?}", self.timer.next_timeout(command.number))?,
-            "limit" => write!(out, "{:?}", limit_of(&self.parser, &self.policy))?,
-            "end-pastes" => self.policy = END_PASTES,
-            _ => return Err(Failure::NoSuchWord),
-        }
-        Ok(())
-    }
+// Reads pieces, each of which ends with a comma.
+fn read_pieces(
+    parser: &mut InputParser,
+    alloc: Global,
+    command: &Command<'_>,
+    out: &mut Vec<u8>,
+) -> Result<(), Failure> {
+    let pieces = pieces_given(alloc, command.hex)?;
+    let pieces = slices_of(alloc, &pieces)?;
+    let events = parsed_pieces(alloc, parser, &pieces, command.number == 1)?;
+    push_numbered(out, &events, parser.waiting_len())
 }
 
 // The bytes of pieces, each of which ends with a comma.
@@ -145,6 +120,15 @@ fn slices_of(alloc: Global, pieces: &[Vec<u8>]) -> Result<Vec<&[u8]>, AllocError
     Ok(slices)
 }
 
+// Appends the next event of a flush, if there is one.
+fn flush_next(parser: &mut InputParser, out: &mut Vec<u8>) -> Result<(), Failure> {
+    if let Some(event) = next_flushed(parser)? {
+        push_event(out, &event)?;
+        out.extend_from_slice(b", ")?;
+    }
+    push_waiting(out, parser.waiting_len())
+}
+
 /// Appends the events, and how many bytes stay buffered.
 pub fn push_events(
     out: &mut Vec<u8>,
@@ -156,12 +140,6 @@ pub fn push_events(
         out.extend_from_slice(b", ")?;
     }
     push_waiting(out, waiting)
-}
-
-/// Appends how many bytes stay buffered.
-pub fn push_waiting(out: &mut Vec<u8>, waiting: usize) -> Result<(), Failure> {
-    push_decimal(out, waiting)?;
-    Ok(out.extend_from_slice(b" wait")?)
 }
 
 // Appends the events, each after the number of its piece, and how many bytes stay buffered.
@@ -177,4 +155,31 @@ fn push_numbered(
         out.extend_from_slice(b", ")?;
     }
     push_waiting(out, waiting)
+}
+
+/// Appends what a lookup finds.
+pub fn push_found(out: &mut Vec<u8>, found: Found<&KeyEvent>) -> Result<(), Failure> {
+    let event = match found {
+        Found::None => return Ok(out.extend_from_slice(b"None")?),
+        Found::NeedData => return Ok(out.extend_from_slice(b"NeedData")?),
+        Found::Exact(len, event) => {
+            push_kind(out, b"Exact ", len)?;
+            event
+        }
+        Found::Ambiguous(len, event) => {
+            push_kind(out, b"Ambiguous ", len)?;
+            event
+        }
+    };
+    Ok(push_key(out, event.key, event.modifiers)?)
+}
+
+// Appends the bytes and the key of a row.
+fn push_row(out: &mut Vec<u8>, row: Option<(&[u8], &KeyEvent)>) -> Result<(), Failure> {
+    let Some((bytes, event)) = row else {
+        return Ok(out.extend_from_slice(b"None")?);
+    };
+    push_hex(out, bytes)?;
+    out.extend_from_slice(b" ")?;
+    Ok(push_key(out, event.key, event.modifiers)?)
 }

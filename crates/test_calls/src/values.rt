@@ -1,11 +1,13 @@
 //! Commands that want values: of events, keys, modifiers, mouse reports, bindings and errors.
+use crate::answers::{push_bool, push_option};
 use crate::conversation::{Command, Session, bytes_of};
 use crate::events::{different_events, unread_events};
 use crate::failure::Failure;
-use crate::parser::push_events;
+use crate::parser::{push_events, push_found};
+use event_text::{push_decimal, push_hex, push_key_name, push_modifiers};
 use std::alloc::Global;
 use std::io::Write;
-use termwiz_base::{Flags, Modifiers, ctrl_mapping, sgr_mouse};
+use termwiz_base::{Flags, Modifiers, MouseReport, ctrl_mapping, sgr_mouse};
 use termwiz_bindings::bindings::{BindError, Bindings};
 use termwiz_bindings::chord::Chord;
 use termwiz_bindings::names::{print_press, read};
@@ -50,19 +52,24 @@ impl Session for ValuesSession {
 fn push_of_number(name: &str, number: u64, out: &mut Vec<u8>) -> Result<(), Failure> {
     let held = Modifiers::from_bits_retain((number % 65536) as u16);
     match name {
-        "ctrl_mapping" => push_control(number, out)?,
-        "encode_xterm" => write!(out, "{}", held.encode_xterm())?,
-        "remove_positional_mods" => write!(out, "{}", held.remove_positional_mods().bits())?,
-        _ => return Err(Failure::NoSuchWord),
+        "ctrl_mapping" => push_control(number, out),
+        "encode_xterm" => Ok(push_decimal(out, usize::from(held.encode_xterm()))?),
+        "remove_positional_mods" => {
+            let kept = held.remove_positional_mods();
+            Ok(push_decimal(out, usize::from(kept.bits()))?)
+        }
+        _ => Err(Failure::NoSuchWord),
     }
-    Ok(())
 }
 
 // Appends the code of what Ctrl makes of the character with a code.
 fn push_control(code: u64, out: &mut Vec<u8>) -> Result<(), Failure> {
-    match char::from_u32((code % 0x110000) as u32).and_then(ctrl_mapping) {
-        Some(control) => Ok(write!(out, "{}", u32::from(control))?),
-        None => Ok(out.extend_from_slice(b"None")?),
+    let Some(c) = char::from_u32((code % 0x110000) as u32) else {
+        return Err(Failure::NoSuchWord);
+    };
+    match ctrl_mapping(c) {
+        Some(control) => push_option(out, Some(u32::from(control) as usize)),
+        None => push_option(out, None),
     }
 }
 
@@ -73,9 +80,30 @@ fn push_reports(code: u64, last: &[u8], out: &mut Vec<u8>) -> Result<(), Failure
     };
     let code = (code % 65536) as u16;
     for (x, y) in [(42, 12), (0, 1), (1, 1), (65535, 65535)] {
-        write!(out, "{:?} / ", sgr_mouse(code, x, y, *last))?;
+        push_report(out, sgr_mouse(code, x, y, *last))?;
     }
     Ok(())
+}
+
+// Appends a report: the column, the row, the button and the modifiers.
+fn push_report(out: &mut Vec<u8>, report: Option<MouseReport>) -> Result<(), Failure> {
+    let Some(
+        MouseReport::SGR1006 {
+            x,
+            y,
+            button,
+            modifiers,
+        },
+    ) = report
+    else {
+        return Ok(out.extend_from_slice(b"None / ")?);
+    };
+    push_decimal(out, usize::from(x))?;
+    out.extend_from_slice(b" ")?;
+    push_decimal(out, usize::from(y))?;
+    write!(out, " {button:?} ")?;
+    push_modifiers(out, modifiers)?;
+    Ok(out.extend_from_slice(b" / ")?)
 }
 
 // Appends for each event which events it equals, by a `=` at their places, and for its clone.
@@ -98,20 +126,23 @@ fn push_equals(
     Ok(out.extend_from_slice(b" ")?)
 }
 
-// Appends a pasted text as it is seen, and as it is taken out.
+// Appends a pasted text in hexadecimal, as it is seen and as it is taken out.
 fn push_pasted(alloc: Global, out: &mut Vec<u8>) -> Result<(), Failure> {
     let text = PastedText::new(String::from_str(alloc, "two\nlines")?);
-    write!(out, "{:?}", text.as_str())?;
-    Ok(write!(out, " {:?}", text.into_string())?)
+    push_hex(out, text.as_str().as_bytes())?;
+    out.extend_from_slice(b" ")?;
+    Ok(push_hex(out, text.into_string().as_bytes())?)
 }
 
-// Appends the messages of errors, and the beginnings of sequences.
+// Appends the messages of errors, and in hexadecimal the beginnings of sequences.
 fn push_messages(out: &mut Vec<u8>) -> Result<(), Failure> {
     write!(out, "{} / {} / ", ParseError::NotTaken, ParseError::Taken)?;
     write!(out, "{} / ", PiecesError { taken: 3 })?;
     write!(out, "{} / ", EncodeError::UnhandledFunctionKey(25))?;
     write!(out, "{} / ", EncodeError::Memory)?;
-    Ok(write!(out, "{CSI:?} {SS3:?}")?)
+    push_hex(out, CSI.as_bytes())?;
+    out.extend_from_slice(b" / ")?;
+    Ok(push_hex(out, SS3.as_bytes())?)
 }
 
 // The keys that are asked whether they are modifiers.
@@ -137,14 +168,12 @@ const KEYS: &[KeyCode] = &[
     KeyCode::LeftMenu,
 ];
 
-// Appends those that are, and in brackets those that aren't.
+// Appends these keys, and of which isn't one that it isn't.
 fn push_modifier_keys(out: &mut Vec<u8>) -> Result<(), Failure> {
     for key in KEYS {
-        if key.is_modifier() {
-            write!(out, "{key:?} ")?;
-        } else {
-            write!(out, "({key:?}) ")?;
-        }
+        push_key_name(out, *key)?;
+        let end: &[u8] = if key.is_modifier() { b" " } else { b" isn't " };
+        out.extend_from_slice(end)?;
     }
     Ok(())
 }
@@ -171,8 +200,9 @@ const TYPED: &[(KeyCode, u16)] = &[
 // Appends what these keys are with Shift.
 fn push_shifted(out: &mut Vec<u8>) -> Result<(), Failure> {
     for (key, bits) in TYPED {
-        let key = key.normalize_shift_to_upper_case(Modifiers::from_bits_retain(*bits));
-        write!(out, "{key:?} ")?;
+        let held = Modifiers::from_bits_retain(*bits);
+        push_key_name(out, key.normalize_shift_to_upper_case(held))?;
+        out.extend_from_slice(b" ")?;
     }
     Ok(())
 }
@@ -227,17 +257,26 @@ const ENCODED: &[(KeyCode, u16, KeyCodeEncodeModes, bool)] = &[
 // Appends what the encoder answers to each.
 fn push_encoded(alloc: Global, out: &mut Vec<u8>) -> Result<(), Failure> {
     for (key, bits, modes, is_down) in ENCODED {
-        let modifiers = Modifiers::from_bits_retain(*bits);
-        write!(
-            out,
-            "{:?} / ",
-            key.encode(alloc, modifiers, *modes, *is_down)
-        )?;
+        let held = Modifiers::from_bits_retain(*bits);
+        push_text(out, key.encode(alloc, held, *modes, *is_down))?;
     }
     Ok(())
 }
 
-// Appends what is found in a clone of a map of key events, and a clone of an answer.
+// Appends a text in hexadecimal, or the number of a function key without a text.
+fn push_text(out: &mut Vec<u8>, text: Result<String, EncodeError>) -> Result<(), Failure> {
+    match text {
+        Ok(text) => push_hex(out, text.as_bytes())?,
+        Err(EncodeError::UnhandledFunctionKey(number)) => {
+            out.extend_from_slice(b"F")?;
+            push_decimal(out, usize::from(number))?;
+        }
+        Err(EncodeError::Memory) => return Err(Failure::TooEarly),
+    }
+    Ok(out.extend_from_slice(b" / ")?)
+}
+
+// Appends what is found in a clone of a map of key events, and whether a clone of an answer equals it.
 fn push_clones(alloc: Global, out: &mut Vec<u8>) -> Result<(), Failure> {
     let mut keys = KeyMap::new(alloc);
     let enter = KeyEvent {
@@ -245,12 +284,10 @@ fn push_clones(alloc: Global, out: &mut Vec<u8>) -> Result<(), Failure> {
         modifiers: Modifiers::CTRL,
     };
     keys.insert(b"\r", enter)?;
-    push_found(&keys.clone()?, out)?;
-    Ok(write!(out, " / {:?}", Found::Ambiguous(2, 7u32).clone()?)?)
-}
-
-fn push_found(keys: &KeyMap<KeyEvent>, out: &mut Vec<u8>) -> Result<(), Failure> {
-    Ok(write!(out, "{:?}", keys.lookup(b"\r", true))?)
+    push_found(out, keys.clone()?.lookup(b"\r", true))?;
+    out.extend_from_slice(b" ")?;
+    let answer = Found::Ambiguous(2, 7u32);
+    push_bool(out, answer.clone()? == answer)
 }
 
 // The chord of one function key.
@@ -265,12 +302,18 @@ fn function(number: u8) -> Chord {
 // Appends what is found in a clone of 256 chords, and in the bindings themselves, in which one was unbound after that.
 fn push_bindings(alloc: Global, out: &mut Vec<u8>) -> Result<(), Failure> {
     let mut bindings = Bindings::new(alloc);
-    if bind_functions(&mut bindings).is_err() {
-        return Err(Failure::Failed);
+    push_bindings_of(&mut bindings, out)
+}
+
+// The same with bindings that are empty.
+fn push_bindings_of(bindings: &mut Bindings<u8>, out: &mut Vec<u8>) -> Result<(), Failure> {
+    if bind_functions(bindings).is_err() {
+        return Err(Failure::TooEarly);
     }
-    push_bound(&bindings.clone()?, out)?;
-    write!(out, "/ {:?} / ", bindings.unbind(&function(0)))?;
-    push_bound(&bindings, out)
+    let copy = bindings.clone()?;
+    push_number(out, bindings.unbind(&function(0)))?;
+    push_bound(bindings, out)?;
+    push_bound(&copy, out)
 }
 
 // Binds the chord of each function key to its number.
@@ -283,17 +326,30 @@ fn bind_functions(bindings: &mut Bindings<u8>) -> Result<(), BindError> {
 
 // Appends how many chords are bound, and to what each function key is.
 fn push_bound(bindings: &Bindings<u8>, out: &mut Vec<u8>) -> Result<(), Failure> {
-    write!(out, "{} ", bindings.len())?;
+    push_decimal(out, bindings.len())?;
+    out.extend_from_slice(b": ")?;
     for number in 0..=u8::MAX {
-        write!(out, "{:?} ", bindings.lookup(&function(number)))?;
+        push_number(out, bindings.lookup(&function(number)).copied())?;
     }
     Ok(())
 }
 
+// Appends the number to which a chord is bound, or was.
+fn push_number(out: &mut Vec<u8>, number: Option<u8>) -> Result<(), Failure> {
+    match number {
+        Some(number) => push_decimal(out, usize::from(number))?,
+        None => out.extend_from_slice(b"None")?,
+    }
+    Ok(out.extend_from_slice(b" ")?)
+}
+
 // Appends the name of one press.
 fn push_name(alloc: Global, out: &mut Vec<u8>) -> Result<(), Failure> {
-    match read("<M-Left>").ok().and_then(|chord| chord.get(0)) {
-        Some(press) => Ok(write!(out, "{}", print_press(alloc, press)?)?),
-        None => Ok(()),
+    let Ok(chord) = read("<M-Left>") else {
+        return Err(Failure::NoSuchWord);
+    };
+    match chord.get(0) {
+        Some(press) => Ok(out.extend_from_slice(print_press(alloc, press)?.as_bytes())?),
+        None => Err(Failure::NoSuchWord),
     }
 }
