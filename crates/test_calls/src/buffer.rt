@@ -1,8 +1,7 @@
 //! Commands to a buffer.
-use crate::answers::{push_bool, push_option};
 use crate::conversation::{Command, Session, bytes_of};
 use crate::failure::Failure;
-use event_text::{push_decimal, push_hex};
+use crate::line::Line;
 use std::alloc::Global;
 use termwiz_keymap::readbuf::ReadBuffer;
 
@@ -26,10 +25,10 @@ impl Session for BufferSession {
         &mut self,
         alloc: Global,
         command: &Command<'_>,
-        out: &mut Vec<u8>,
+        line: &mut Line,
     ) -> Result<(), Failure> {
         let bytes = bytes_of(alloc, command.hex)?;
-        answer_by(&mut self.buffer, command, &bytes, out)
+        answer_by(&mut self.buffer, command, &bytes, line)
     }
 }
 
@@ -38,17 +37,17 @@ fn answer_by(
     buffer: &mut ReadBuffer,
     command: &Command<'_>,
     bytes: &[u8],
-    out: &mut Vec<u8>,
+    line: &mut Line,
 ) -> Result<(), Failure> {
     let place = (command.number as usize).min(buffer.len());
     match command.name {
         "extend_with" => buffer.extend_with(bytes)?,
         "advance" => buffer.advance(place),
-        "find_subsequence" => push_option(out, buffer.find_subsequence(place, bytes))?,
-        "len" => push_decimal(out, buffer.len())?,
-        "is_empty" => push_bool(out, buffer.is_empty())?,
-        "capacity" => push_decimal(out, buffer.capacity())?,
-        "as_slice" => push_hex(out, buffer.as_slice())?,
+        "find_subsequence" => line.option(buffer.find_subsequence(place, bytes)),
+        "len" => line.number(buffer.len()),
+        "is_empty" => line.holds(buffer.is_empty()),
+        "capacity" => line.number(buffer.capacity()),
+        "as_slice" => line.hex(buffer.as_slice()),
         _ => return Err(Failure::NoSuchWord),
     }
     Ok(())

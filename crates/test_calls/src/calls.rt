@@ -18,18 +18,40 @@ pub fn listed(
     }
 }
 
-/// The events of a call of `parse`.
-pub fn parsed(
+/// A call with a callback.
+#[derive(Clone, Copy)]
+pub enum Callback {
+    /// `parse`, with the flag.
+    Parse(bool),
+    /// `feed`, and then `for_each_event` with the flag.
+    Loop(bool),
+    /// `expire`, at a time, which takes no bytes.
+    Expire(u64),
+}
+
+/// The events that a callback is given.
+pub fn called_back(
     alloc: Global,
     parser: &mut InputParser,
+    limits: &mut Limits,
+    callback: Callback,
     bytes: &[u8],
-    more: bool,
 ) -> Result<Vec<InputEvent>, AllocError> {
     let mut noted = Noted::new(alloc);
     let mut note = |event: InputEvent| noted.push(event);
-    match parser.parse(bytes, &mut note, more) {
-        Ok(()) => noted.all(),
-        Err(_) => Err(AllocError),
+    let is_done = match callback {
+        Callback::Parse(more) => parser.parse(bytes, &mut note, more).is_ok(),
+        Callback::Loop(more) => {
+            parser.feed(bytes).is_ok() && parser.for_each_event(&mut note, more).is_ok()
+        }
+        Callback::Expire(now) => {
+            expire(parser, &mut limits.timer, &limits.policy, now, &mut note).is_ok()
+        }
+    };
+    if is_done {
+        noted.all()
+    } else {
+        Err(AllocError)
     }
 }
 
@@ -63,31 +85,4 @@ pub fn pulled(
         events.push(event)?;
     }
     Ok(events)
-}
-
-/// The events of `for_each_event`, after the bytes were fed.
-pub fn looped(
-    alloc: Global,
-    parser: &mut InputParser,
-    bytes: &[u8],
-    more: bool,
-) -> Result<Vec<InputEvent>, AllocError> {
-    parser.feed(bytes)?;
-    let mut noted = Noted::new(alloc);
-    let mut note = |event: InputEvent| noted.push(event);
-    parser.for_each_event(&mut note, more)?;
-    noted.all()
-}
-
-/// The events of a call of `expire`.
-pub fn expired(
-    alloc: Global,
-    parser: &mut InputParser,
-    limits: &mut Limits,
-    now: u64,
-) -> Result<Vec<InputEvent>, AllocError> {
-    let mut noted = Noted::new(alloc);
-    let mut note = |event: InputEvent| noted.push(event);
-    expire(parser, &mut limits.timer, &limits.policy, now, &mut note)?;
-    noted.all()
 }

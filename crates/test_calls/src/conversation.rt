@@ -3,6 +3,7 @@
 //! A command is a line `NAME [NUMBER [HEX]]`: a name, a number, which is 0 if there is none, and bytes in hexadecimal. Bytes that are read by a
 //! parser have the number 1 if more may come, and 0 if they are the last.
 use crate::failure::Failure;
+use crate::line::Line;
 use std::alloc::Global;
 use std::io::{BufRead, BufReader, Write};
 
@@ -34,12 +35,12 @@ pub fn bytes_of(alloc: Global, digits: &str) -> Result<Vec<u8>, Failure> {
 
 /// What commands are about.
 pub trait Session {
-    /// Makes the calls of a command, and appends what they return to `out`, as one line without its end.
+    /// Makes the calls of a command, and appends what they return to a line.
     fn answer(
         &mut self,
         alloc: Global,
         command: &Command<'_>,
-        out: &mut Vec<u8>,
+        line: &mut Line,
     ) -> Result<(), Failure>;
 }
 
@@ -54,8 +55,7 @@ pub fn converse<S: Session>(rt: &HostRuntime, session: &mut S) -> Result<(), Fai
 
 // Answers a line.
 fn answer_line<S: Session>(rt: &HostRuntime, session: &mut S, line: &str) -> Result<(), Failure> {
-    let mut out = Vec::new(rt.alloc());
-    session.answer(rt.alloc(), &command_of(line)?, &mut out)?;
-    out.extend_from_slice(b"\n")?;
-    Ok(rt.stdout().write_all(&out)?)
+    let mut answer = Line::new(rt.alloc());
+    session.answer(rt.alloc(), &command_of(line)?, &mut answer)?;
+    Ok(rt.stdout().write_all(&answer.end()?)?)
 }

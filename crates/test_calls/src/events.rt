@@ -38,33 +38,41 @@ fn pixel_mouse(
 
 /// Events that all differ, many of them from another one in one field alone.
 pub fn different_events(alloc: Global) -> Result<Vec<InputEvent>, AllocError> {
-    let mut events = vec![in alloc;
-        key(KeyCode::Char('a'), Modifiers::NONE),
-        key(KeyCode::Char('b'), Modifiers::NONE),
-        key(KeyCode::Char('a'), Modifiers::ALT),
-        key(KeyCode::Function(1), Modifiers::NONE),
-        key(KeyCode::Function(2), Modifiers::NONE),
-        key(KeyCode::Home, Modifiers::NONE),
-        key(KeyCode::KeyPadHome, Modifiers::NONE),
-        mouse(1, 2, MouseButtons::NONE, Modifiers::NONE),
-        mouse(3, 2, MouseButtons::NONE, Modifiers::NONE),
-        mouse(1, 3, MouseButtons::NONE, Modifiers::NONE),
-        mouse(1, 2, MouseButtons::LEFT, Modifiers::NONE),
-        mouse(1, 2, MouseButtons::NONE, Modifiers::CTRL),
-        pixel_mouse(1, 2, MouseButtons::NONE, Modifiers::NONE),
-        pixel_mouse(3, 2, MouseButtons::NONE, Modifiers::NONE),
-        pixel_mouse(1, 3, MouseButtons::NONE, Modifiers::NONE),
-        pixel_mouse(1, 2, MouseButtons::LEFT, Modifiers::NONE),
-        pixel_mouse(1, 2, MouseButtons::NONE, Modifiers::CTRL),
-        InputEvent::Resized { cols: 1, rows: 2 },
-        InputEvent::Resized { cols: 3, rows: 2 },
-        InputEvent::Resized { cols: 1, rows: 3 },
-        InputEvent::Wake,
-    ]?;
-    for text in ["", "a", "b", "ab"] {
-        events.push(pasted(alloc, text)?)?;
+    let mut events = Vec::new(alloc);
+    for number in 0..25 {
+        events.push(event_of(alloc, number)?)?;
     }
     Ok(events)
+}
+
+fn event_of(alloc: Global, number: usize) -> Result<InputEvent, AllocError> {
+    Ok(match number {
+        0 => key(KeyCode::Char('a'), Modifiers::NONE),
+        1 => key(KeyCode::Char('b'), Modifiers::NONE),
+        2 => key(KeyCode::Char('a'), Modifiers::ALT),
+        3 => key(KeyCode::Function(1), Modifiers::NONE),
+        4 => key(KeyCode::Function(2), Modifiers::NONE),
+        5 => key(KeyCode::Home, Modifiers::NONE),
+        6 => key(KeyCode::KeyPadHome, Modifiers::NONE),
+        7 => mouse(1, 2, MouseButtons::NONE, Modifiers::NONE),
+        8 => mouse(3, 2, MouseButtons::NONE, Modifiers::NONE),
+        9 => mouse(1, 3, MouseButtons::NONE, Modifiers::NONE),
+        10 => mouse(1, 2, MouseButtons::LEFT, Modifiers::NONE),
+        11 => mouse(1, 2, MouseButtons::NONE, Modifiers::CTRL),
+        12 => pixel_mouse(1, 2, MouseButtons::NONE, Modifiers::NONE),
+        13 => pixel_mouse(3, 2, MouseButtons::NONE, Modifiers::NONE),
+        14 => pixel_mouse(1, 3, MouseButtons::NONE, Modifiers::NONE),
+        15 => pixel_mouse(1, 2, MouseButtons::LEFT, Modifiers::NONE),
+        16 => pixel_mouse(1, 2, MouseButtons::NONE, Modifiers::CTRL),
+        17 => InputEvent::Resized { cols: 1, rows: 2 },
+        18 => InputEvent::Resized { cols: 3, rows: 2 },
+        19 => InputEvent::Resized { cols: 1, rows: 3 },
+        20 => InputEvent::Wake,
+        21 => pasted(alloc, "")?,
+        22 => pasted(alloc, "a")?,
+        23 => pasted(alloc, "b")?,
+        _ => pasted(alloc, "ab")?,
+    })
 }
 
 /// Events that no bytes mean.

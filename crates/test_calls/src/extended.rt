@@ -163,7 +163,7 @@ pub fn parse<F: FnMut(ExtendedEvent), G: FnMut(ExtendedEvent)>(
 }
 
 /// The events of a call of `parse_as_vec` and of the call that goes on after it.
-#[derive(Debug, Drop)]
+#[derive(Drop)]
 pub struct ExtendedLists {
     /// The events of the first call, or those that its error has.
     pub first: Vec<ExtendedEvent>,

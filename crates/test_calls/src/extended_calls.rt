@@ -1,4 +1,5 @@
-//! By which calls of the extended parser bytes are read. Each way returns the events of what is buffered and of the bytes.
+//! By which calls of the extended parser bytes are read. Each returns the events of what is buffered and of the bytes.
+use crate::calls::Callback;
 use crate::limits::Limits;
 use crate::noted::Noted;
 use std::alloc::{AllocError, Global};
@@ -18,44 +19,28 @@ pub fn listed(
     }
 }
 
-/// The events of a call of `parse`.
-pub fn parsed(
-    alloc: Global,
-    parser: &mut ExtendedParser,
-    bytes: &[u8],
-    more: bool,
-) -> Result<Vec<ExtendedEvent>, AllocError> {
-    let mut noted = Noted::new(alloc);
-    let mut note = |event: ExtendedEvent| noted.push(event);
-    match parser.parse(bytes, &mut note, more) {
-        Ok(()) => noted.all(),
-        Err(_) => Err(AllocError),
-    }
-}
-
-/// The events of `for_each_event`, after the bytes were fed.
-pub fn looped(
-    alloc: Global,
-    parser: &mut ExtendedParser,
-    bytes: &[u8],
-    more: bool,
-) -> Result<Vec<ExtendedEvent>, AllocError> {
-    parser.feed(bytes)?;
-    let mut noted = Noted::new(alloc);
-    let mut note = |event: ExtendedEvent| noted.push(event);
-    parser.for_each_event(&mut note, more)?;
-    noted.all()
-}
-
-/// The events of a call of `expire`.
-pub fn expired(
+/// The events that a callback is given.
+pub fn called_back(
     alloc: Global,
     parser: &mut ExtendedParser,
     limits: &mut Limits,
-    now: u64,
+    callback: Callback,
+    bytes: &[u8],
 ) -> Result<Vec<ExtendedEvent>, AllocError> {
     let mut noted = Noted::new(alloc);
     let mut note = |event: ExtendedEvent| noted.push(event);
-    expire(parser, &mut limits.timer, &limits.policy, now, &mut note)?;
-    noted.all()
+    let is_done = match callback {
+        Callback::Parse(more) => parser.parse(bytes, &mut note, more).is_ok(),
+        Callback::Loop(more) => {
+            parser.feed(bytes).is_ok() && parser.for_each_event(&mut note, more).is_ok()
+        }
+        Callback::Expire(now) => {
+            expire(parser, &mut limits.timer, &limits.policy, now, &mut note).is_ok()
+        }
+    };
+    if is_done {
+        noted.all()
+    } else {
+        Err(AllocError)
+    }
 }

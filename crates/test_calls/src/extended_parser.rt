@@ -1,12 +1,11 @@
 //! Commands to an extended parser, and whole sequences.
-use crate::answers::{push_bool, push_waiting};
+use crate::calls::Callback;
 use crate::conversation::{Command, Session, bytes_of};
-use crate::extended_calls::{expired, listed, looped, parsed};
+use crate::extended_calls::{called_back, listed};
 use crate::failure::Failure;
 use crate::limits::{Limits, note_of};
-use event_text::push_event;
+use crate::line::Line;
 use std::alloc::{AllocError, Global};
-use std::io::Write;
 use termwiz_extended_events::meanings::{event_of, meaning_of};
 use termwiz_extended_events::types::KeyReport;
 use termwiz_input_extended::input::ExtendedParser;
@@ -35,27 +34,46 @@ impl Session for ExtendedSession {
         &mut self,
         alloc: Global,
         command: &Command<'_>,
-        out: &mut Vec<u8>,
+        line: &mut Line,
     ) -> Result<(), Failure> {
+        let more = command.number == 1;
         match command.name {
-            "next_event" => take_next(&mut self.parser, command.number == 1, out),
-            "next_flushed" => flush_next(&mut self.parser, out),
-            "expire" => {
-                let events = expired(alloc, &mut self.parser, &mut self.limits, command.number)?;
-                push_events(out, &events, self.parser.waiting_len())
-            }
+            "next_event" => take_next(&mut self.parser, more, line),
+            "next_flushed" => flush_next(&mut self.parser, line),
+            "callback" => self.call_back(alloc, command, Callback::Parse(more), line),
+            "loop" => self.call_back(alloc, command, Callback::Loop(more), line),
+            "expire" => self.call_back(alloc, command, Callback::Expire(command.number), line),
             "end-pastes" | "timeout" | "limit" => {
                 let limit = limit_of(&self.parser, &self.limits.policy);
-                self.limits.answer(command.name, command.number, limit, out)
+                self.limits
+                    .answer(command.name, command.number, limit, line)
             }
             _ => match note_of(command.name) {
                 Some(note) => {
                     let seen = seen_of(&self.parser, &self.limits.policy, note.fed, note.taken);
-                    self.limits.note(command.number, seen, out)
+                    self.limits.note(command.number, seen, line);
+                    Ok(())
                 }
-                None => answer_bytes(&mut self.parser, alloc, command, out),
+                None => answer_bytes(&mut self.parser, alloc, command, line),
             },
         }
+    }
+}
+
+impl ExtendedSession {
+    // Makes a call with a callback.
+    fn call_back(
+        &mut self,
+        alloc: Global,
+        command: &Command<'_>,
+        callback: Callback,
+        line: &mut Line,
+    ) -> Result<(), Failure> {
+        let bytes = bytes_of(alloc, command.hex)?;
+        let (parser, limits) = (&mut self.parser, &mut self.limits);
+        let events = called_back(alloc, parser, limits, callback, &bytes)?;
+        show_events(&events, parser.waiting_len(), line);
+        Ok(())
     }
 }
 
@@ -64,72 +82,70 @@ fn answer_bytes(
     parser: &mut ExtendedParser,
     alloc: Global,
     command: &Command<'_>,
-    out: &mut Vec<u8>,
+    line: &mut Line,
 ) -> Result<(), Failure> {
     let bytes = bytes_of(alloc, command.hex)?;
     let more = command.number == 1;
     let events = match command.name {
         "list" => listed(parser, &bytes, more)?,
-        "callback" => parsed(alloc, parser, &bytes, more)?,
-        "loop" => looped(alloc, parser, &bytes, more)?,
         "feed" => return Ok(parser.feed(&bytes)?),
-        "sequence" => return push_sequence(alloc, &bytes, out),
+        "sequence" => return show_sequence(alloc, &bytes, line),
         _ => return Err(Failure::NoSuchWord),
     };
-    push_events(out, &events, parser.waiting_len())
+    show_events(&events, parser.waiting_len(), line);
+    Ok(())
 }
 
 // Appends the next event, if there is one.
-fn take_next(parser: &mut ExtendedParser, more: bool, out: &mut Vec<u8>) -> Result<(), Failure> {
+fn take_next(parser: &mut ExtendedParser, more: bool, line: &mut Line) -> Result<(), Failure> {
     if let Some(event) = parser.next_event(more)? {
-        push_extended(out, &event)?;
+        show_event(&event, line);
     }
-    push_waiting(out, parser.waiting_len())
+    line.waiting(parser.waiting_len());
+    Ok(())
 }
 
 // Appends the next event of a flush, if there is one.
-fn flush_next(parser: &mut ExtendedParser, out: &mut Vec<u8>) -> Result<(), Failure> {
+fn flush_next(parser: &mut ExtendedParser, line: &mut Line) -> Result<(), Failure> {
     if let Some(event) = next_flushed(parser)? {
-        push_extended(out, &event)?;
+        show_event(&event, line);
     }
-    push_waiting(out, parser.waiting_len())
+    line.waiting(parser.waiting_len());
+    Ok(())
 }
 
 // Appends the events, and how many bytes stay buffered.
-fn push_events(out: &mut Vec<u8>, events: &[ExtendedEvent], waiting: usize) -> Result<(), Failure> {
+fn show_events(events: &[ExtendedEvent], waiting: usize, line: &mut Line) {
     for event in events {
-        push_extended(out, event)?;
+        show_event(event, line);
     }
-    push_waiting(out, waiting)
+    line.waiting(waiting);
 }
 
 // Appends an event.
-fn push_extended(out: &mut Vec<u8>, event: &ExtendedEvent) -> Result<(), Failure> {
+fn show_event(event: &ExtendedEvent, line: &mut Line) {
     match event {
-        ExtendedEvent::Input(event) => push_event(out, event)?,
-        _ => write!(out, "{event:?}")?,
+        ExtendedEvent::Input(event) => line.event(event),
+        _ => line.shown(format_args!("{event:?}")),
     }
-    Ok(out.extend_from_slice(b", ")?)
+    line.word(", ");
 }
 
 // Appends whether a sequence is a key or the position of the cursor, its event, the event's key, and a clone of the key.
-fn push_sequence(alloc: Global, text: &[u8], out: &mut Vec<u8>) -> Result<(), Failure> {
-    push_bool(out, meaning_of(text).is_key_or_position())?;
-    out.extend_from_slice(b", ")?;
+fn show_sequence(alloc: Global, text: &[u8], line: &mut Line) -> Result<(), Failure> {
+    line.holds(meaning_of(text).is_key_or_position());
+    line.word(", ");
     let event = event_of(alloc, text)?;
-    push_extended(out, &event)?;
-    push_key(alloc, &event, out)
-}
-
-fn push_key(alloc: Global, event: &ExtendedEvent, out: &mut Vec<u8>) -> Result<(), Failure> {
+    show_event(&event, line);
     match event.key(alloc)? {
-        Some(report) => push_report(alloc, report, out),
+        Some(report) => show_report(alloc, report, line),
         None => Ok(()),
     }
 }
 
-fn push_report(alloc: Global, report: KeyReport, out: &mut Vec<u8>) -> Result<(), Failure> {
+fn show_report(alloc: Global, report: KeyReport, line: &mut Line) -> Result<(), Failure> {
     let copy = report.clone(alloc)?;
-    push_extended(out, &ExtendedEvent::Key(report))?;
-    push_extended(out, &ExtendedEvent::Key(copy))
+    show_event(&ExtendedEvent::Key(report), line);
+    show_event(&ExtendedEvent::Key(copy), line);
+    Ok(())
 }

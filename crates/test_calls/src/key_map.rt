@@ -1,8 +1,7 @@
 //! Commands to a map whose values own memory, and to a clone of it.
-use crate::answers::push_kind;
 use crate::conversation::{Command, Session, bytes_of};
 use crate::failure::Failure;
-use event_text::{push_decimal, push_hex};
+use crate::line::Line;
 use itoa::Buffer;
 use std::alloc::{AllocError, Global};
 use std::mem::swap;
@@ -31,14 +30,14 @@ impl Session for MapSession {
         &mut self,
         alloc: Global,
         command: &Command<'_>,
-        out: &mut Vec<u8>,
+        line: &mut Line,
     ) -> Result<(), Failure> {
         let key = bytes_of(alloc, command.hex)?;
         match command.name {
             "new" => self.map = KeyMap::new(alloc),
             "clone" => self.copy = self.map.clone()?,
             "exchange" => swap(&mut self.map, &mut self.copy),
-            _ => answer_by(&mut self.map, alloc, command, &key, out)?,
+            _ => answer_by(&mut self.map, alloc, command, &key, line)?,
         }
         Ok(())
     }
@@ -50,14 +49,14 @@ fn answer_by(
     alloc: Global,
     command: &Command<'_>,
     key: &[u8],
-    out: &mut Vec<u8>,
+    line: &mut Line,
 ) -> Result<(), Failure> {
     match command.name {
         "insert" => map.insert(key, decimal(alloc, command.number)?)?,
-        "remove" => push_value(out, map.remove(key).as_ref())?,
+        "remove" => show_value(map.remove(key).as_ref(), line),
         "remember" => map.remember()?,
         "reserve" => map.reserve(command.number as usize)?,
-        _ => ask(map, command, key, out)?,
+        _ => ask(map, command, key, line)?,
     }
     Ok(())
 }
@@ -67,15 +66,16 @@ fn ask(
     map: &KeyMap<String>,
     command: &Command<'_>,
     key: &[u8],
-    out: &mut Vec<u8>,
+    line: &mut Line,
 ) -> Result<(), Failure> {
     match command.name {
-        "lookup" => push_found(out, map.lookup(key, command.number == 1)),
-        "len" => Ok(push_decimal(out, map.len())?),
-        "get_index" => push_entry(out, map.get_index(command.number as usize)),
-        "extensions" => push_range(out, map.extensions(key)),
-        _ => Err(Failure::NoSuchWord),
+        "lookup" => show_found(map.lookup(key, command.number == 1), line),
+        "len" => line.number(map.len()),
+        "get_index" => show_entry(map.get_index(command.number as usize), line),
+        "extensions" => show_range(map.extensions(key), line),
+        _ => return Err(Failure::NoSuchWord),
     }
+    Ok(())
 }
 
 // The digits of a number.
@@ -84,44 +84,45 @@ fn decimal(alloc: Global, number: u64) -> Result<String, AllocError> {
 }
 
 // Appends a value, if there is one.
-fn push_value(out: &mut Vec<u8>, value: Option<&String>) -> Result<(), Failure> {
-    let text = match value {
-        Some(value) => value.as_str(),
-        None => "None",
-    };
-    Ok(out.extend_from_slice(text.as_bytes())?)
+fn show_value(value: Option<&String>, line: &mut Line) {
+    match value {
+        Some(value) => line.word(value.as_str()),
+        None => line.word("None"),
+    }
 }
 
 // Appends what a lookup finds.
-fn push_found(out: &mut Vec<u8>, found: Found<&String>) -> Result<(), Failure> {
-    let value = match found {
-        Found::None => return Ok(out.extend_from_slice(b"None")?),
-        Found::NeedData => return Ok(out.extend_from_slice(b"NeedData")?),
-        Found::Exact(len, value) => {
-            push_kind(out, b"Exact ", len)?;
-            value
-        }
-        Found::Ambiguous(len, value) => {
-            push_kind(out, b"Ambiguous ", len)?;
-            value
-        }
-    };
-    push_value(out, Some(value))
+fn show_found(found: Found<&String>, line: &mut Line) {
+    match found {
+        Found::None => line.word("None"),
+        Found::NeedData => line.word("NeedData"),
+        Found::Exact(len, value) => show_match("Exact ", len, value.as_str(), line),
+        Found::Ambiguous(len, value) => show_match("Ambiguous ", len, value.as_str(), line),
+    }
+}
+
+fn show_match(kind: &str, len: usize, value: &str, line: &mut Line) {
+    line.word(kind);
+    line.number(len);
+    line.word(" ");
+    line.word(value);
 }
 
 // Appends a key and its value.
-fn push_entry(out: &mut Vec<u8>, entry: Option<(&[u8], &String)>) -> Result<(), Failure> {
-    let Some((key, value)) = entry else {
-        return push_value(out, None);
-    };
-    push_hex(out, key)?;
-    out.extend_from_slice(b" ")?;
-    push_value(out, Some(value))
+fn show_entry(entry: Option<(&[u8], &String)>, line: &mut Line) {
+    match entry {
+        Some((key, value)) => {
+            line.hex(key);
+            line.word(" ");
+            line.word(value.as_str());
+        }
+        None => line.word("None"),
+    }
 }
 
 // Appends the places of a range.
-fn push_range(out: &mut Vec<u8>, places: Range<usize>) -> Result<(), Failure> {
-    push_decimal(out, places.start)?;
-    out.extend_from_slice(b"..")?;
-    Ok(push_decimal(out, places.end)?)
+fn show_range(places: Range<usize>, line: &mut Line) {
+    line.number(places.start);
+    line.word("..");
+    line.number(places.end);
 }

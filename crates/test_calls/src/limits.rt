@@ -1,6 +1,6 @@
 //! The limits in time of a parser, which both parsers have.
-use crate::answers::{push_bool, push_option};
 use crate::failure::Failure;
+use crate::line::Line;
 use termwiz_input::time::{Age, Limit, Policy, Seen, Timer};
 
 /// The usual limits, and one for a paste that stalls.
@@ -49,9 +49,9 @@ impl Limits {
     }
 
     /// Notes what is seen at a time, and appends whether what is buffered is due.
-    pub fn note(&mut self, now: u64, seen: Seen, out: &mut Vec<u8>) -> Result<(), Failure> {
+    pub fn note(&mut self, now: u64, seen: Seen, line: &mut Line) {
         self.timer.note(now, seen);
-        push_bool(out, self.timer.is_due(now))
+        line.holds(self.timer.is_due(now));
     }
 
     /// Gives up pastes that stall, or appends how long may be waited at a time, or a limit.
@@ -60,12 +60,12 @@ impl Limits {
         name: &str,
         now: u64,
         limit: Limit,
-        out: &mut Vec<u8>,
+        line: &mut Line,
     ) -> Result<(), Failure> {
         match name {
             "end-pastes" => self.policy = END_PASTES,
-            "timeout" => push_millis(out, self.timer.next_timeout(now))?,
-            "limit" => push_limit(out, limit)?,
+            "timeout" => show_millis(self.timer.next_timeout(now), line),
+            "limit" => show_limit(limit, line),
             _ => return Err(Failure::NoSuchWord),
         }
         Ok(())
@@ -73,19 +73,18 @@ impl Limits {
 }
 
 // Appends so many milliseconds, or that there is no limit.
-fn push_millis(out: &mut Vec<u8>, millis: Option<u64>) -> Result<(), Failure> {
+fn show_millis(millis: Option<u64>, line: &mut Line) {
     match millis {
-        Some(millis) => push_option(out, Some(millis as usize)),
-        None => push_option(out, None),
+        Some(millis) => line.number(millis as usize),
+        None => line.word("None"),
     }
 }
 
 // Appends a limit: its milliseconds, and the age that is limited.
-fn push_limit(out: &mut Vec<u8>, limit: Limit) -> Result<(), Failure> {
-    push_millis(out, limit.millis)?;
-    let age: &[u8] = match limit.by {
-        Age::Last => b" Last",
-        Age::Front => b" Front",
-    };
-    Ok(out.extend_from_slice(age)?)
+fn show_limit(limit: Limit, line: &mut Line) {
+    show_millis(limit.millis, line);
+    line.word(match limit.by {
+        Age::Last => " Last",
+        Age::Front => " Front",
+    });
 }

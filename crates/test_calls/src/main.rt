@@ -8,7 +8,6 @@
 //! call of a case was refused twice, or nothing could be read or printed.
 #![tactic(auto)]
 
-mod answers;
 mod buffer;
 mod calls;
 mod conversation;
@@ -20,10 +19,12 @@ mod extended_refusals;
 mod failure;
 mod key_map;
 mod limits;
+mod line;
 mod noted;
 mod parser;
 mod parses;
 mod parts;
+mod printing;
 mod refusals;
 mod values;
 

@@ -1,10 +1,9 @@
 //! Commands to a parser.
-use crate::answers::{push_bool, push_kind, push_waiting};
-use crate::calls::{expired, listed, looped, parsed, parsed_pieces, pulled};
+use crate::calls::{Callback, called_back, listed, parsed_pieces, pulled};
 use crate::conversation::{Command, Session, bytes_of};
 use crate::failure::Failure;
 use crate::limits::{Limits, note_of};
-use event_text::{push_decimal, push_event, push_hex, push_key};
+use crate::line::Line;
 use std::alloc::{AllocError, Global};
 use termwiz_input::input::{InputEvent, InputParser, KeyEvent};
 use termwiz_input::keymap::Found;
@@ -32,27 +31,46 @@ impl Session for ParserSession {
         &mut self,
         alloc: Global,
         command: &Command<'_>,
-        out: &mut Vec<u8>,
+        line: &mut Line,
     ) -> Result<(), Failure> {
+        let more = command.number == 1;
         match command.name {
-            "pieces" => read_pieces(&mut self.parser, alloc, command, out),
-            "next_flushed" => flush_next(&mut self.parser, out),
-            "expire" => {
-                let events = expired(alloc, &mut self.parser, &mut self.limits, command.number)?;
-                push_events(out, &events, self.parser.waiting_len())
-            }
+            "pieces" => read_pieces(&mut self.parser, alloc, command, line),
+            "next_flushed" => flush_next(&mut self.parser, line),
+            "callback" => self.call_back(alloc, command, Callback::Parse(more), line),
+            "loop" => self.call_back(alloc, command, Callback::Loop(more), line),
+            "expire" => self.call_back(alloc, command, Callback::Expire(command.number), line),
             "end-pastes" | "timeout" | "limit" => {
                 let limit = limit_of(&self.parser, &self.limits.policy);
-                self.limits.answer(command.name, command.number, limit, out)
+                self.limits
+                    .answer(command.name, command.number, limit, line)
             }
             _ => match note_of(command.name) {
                 Some(note) => {
                     let seen = seen_of(&self.parser, &self.limits.policy, note.fed, note.taken);
-                    self.limits.note(command.number, seen, out)
+                    self.limits.note(command.number, seen, line);
+                    Ok(())
                 }
-                None => answer_bytes(&mut self.parser, alloc, command, out),
+                None => answer_bytes(&mut self.parser, alloc, command, line),
             },
         }
+    }
+}
+
+impl ParserSession {
+    // Makes a call with a callback.
+    fn call_back(
+        &mut self,
+        alloc: Global,
+        command: &Command<'_>,
+        callback: Callback,
+        line: &mut Line,
+    ) -> Result<(), Failure> {
+        let bytes = bytes_of(alloc, command.hex)?;
+        let (parser, limits) = (&mut self.parser, &mut self.limits);
+        let events = called_back(alloc, parser, limits, callback, &bytes)?;
+        show_events(&events, parser.waiting_len(), line);
+        Ok(())
     }
 }
 
@@ -61,31 +79,34 @@ fn answer_bytes(
     parser: &mut InputParser,
     alloc: Global,
     command: &Command<'_>,
-    out: &mut Vec<u8>,
+    line: &mut Line,
 ) -> Result<(), Failure> {
     let bytes = bytes_of(alloc, command.hex)?;
     let more = command.number == 1;
     let events = match command.name {
         "list" => listed(parser, &bytes, more)?,
-        "callback" => parsed(alloc, parser, &bytes, more)?,
         "event" => pulled(alloc, parser, &bytes, more)?,
-        "loop" => looped(alloc, parser, &bytes, more)?,
         "feed" => return Ok(parser.feed(&bytes)?),
-        "lookup" => return push_found(out, parser.lookup(&bytes, more)),
-        _ => return tell(parser, command, out),
+        "lookup" => {
+            show_found(parser.lookup(&bytes, more), line);
+            return Ok(());
+        }
+        _ => return tell(parser, command, line),
     };
-    push_events(out, &events, parser.waiting_len())
+    show_events(&events, parser.waiting_len(), line);
+    Ok(())
 }
 
 // Appends what a parser tells.
-fn tell(parser: &mut InputParser, command: &Command<'_>, out: &mut Vec<u8>) -> Result<(), Failure> {
+fn tell(parser: &mut InputParser, command: &Command<'_>, line: &mut Line) -> Result<(), Failure> {
     match command.name {
-        "has_item" => push_bool(out, parser.has_item(command.number == 1)),
-        "awaits_paste_end" => push_bool(out, parser.awaits_paste_end()),
-        "row" => push_row(out, parser.row(command.number as usize)),
-        "reset" => Ok(push_decimal(out, parser.reset())?),
-        _ => Err(Failure::NoSuchWord),
+        "has_item" => line.holds(parser.has_item(command.number == 1)),
+        "awaits_paste_end" => line.holds(parser.awaits_paste_end()),
+        "row" => show_row(parser.row(command.number as usize), line),
+        "reset" => line.number(parser.reset()),
+        _ => return Err(Failure::NoSuchWord),
     }
+    Ok(())
 }
 
 // Reads pieces, each of which ends with a comma.
@@ -93,12 +114,13 @@ fn read_pieces(
     parser: &mut InputParser,
     alloc: Global,
     command: &Command<'_>,
-    out: &mut Vec<u8>,
+    line: &mut Line,
 ) -> Result<(), Failure> {
     let pieces = pieces_given(alloc, command.hex)?;
     let pieces = slices_of(alloc, &pieces)?;
     let events = parsed_pieces(alloc, parser, &pieces, command.number == 1)?;
-    push_numbered(out, &events, parser.waiting_len())
+    show_numbered(&events, parser.waiting_len(), line);
+    Ok(())
 }
 
 // The bytes of pieces, each of which ends with a comma.
@@ -121,65 +143,60 @@ fn slices_of(alloc: Global, pieces: &[Vec<u8>]) -> Result<Vec<&[u8]>, AllocError
 }
 
 // Appends the next event of a flush, if there is one.
-fn flush_next(parser: &mut InputParser, out: &mut Vec<u8>) -> Result<(), Failure> {
+fn flush_next(parser: &mut InputParser, line: &mut Line) -> Result<(), Failure> {
     if let Some(event) = next_flushed(parser)? {
-        push_event(out, &event)?;
-        out.extend_from_slice(b", ")?;
+        line.event(&event);
+        line.word(", ");
     }
-    push_waiting(out, parser.waiting_len())
+    line.waiting(parser.waiting_len());
+    Ok(())
 }
 
 /// Appends the events, and how many bytes stay buffered.
-pub fn push_events(
-    out: &mut Vec<u8>,
-    events: &[InputEvent],
-    waiting: usize,
-) -> Result<(), Failure> {
+pub fn show_events(events: &[InputEvent], waiting: usize, line: &mut Line) {
     for event in events {
-        push_event(out, event)?;
-        out.extend_from_slice(b", ")?;
+        line.event(event);
+        line.word(", ");
     }
-    push_waiting(out, waiting)
+    line.waiting(waiting);
 }
 
 // Appends the events, each after the number of its piece, and how many bytes stay buffered.
-fn push_numbered(
-    out: &mut Vec<u8>,
-    events: &[(usize, InputEvent)],
-    waiting: usize,
-) -> Result<(), Failure> {
+fn show_numbered(events: &[(usize, InputEvent)], waiting: usize, line: &mut Line) {
     for (number, event) in events {
-        push_decimal(out, *number)?;
-        out.extend_from_slice(b" ")?;
-        push_event(out, event)?;
-        out.extend_from_slice(b", ")?;
+        line.number(*number);
+        line.word(" ");
+        line.event(event);
+        line.word(", ");
     }
-    push_waiting(out, waiting)
+    line.waiting(waiting);
 }
 
 /// Appends what a lookup finds.
-pub fn push_found(out: &mut Vec<u8>, found: Found<&KeyEvent>) -> Result<(), Failure> {
-    let event = match found {
-        Found::None => return Ok(out.extend_from_slice(b"None")?),
-        Found::NeedData => return Ok(out.extend_from_slice(b"NeedData")?),
-        Found::Exact(len, event) => {
-            push_kind(out, b"Exact ", len)?;
-            event
-        }
-        Found::Ambiguous(len, event) => {
-            push_kind(out, b"Ambiguous ", len)?;
-            event
-        }
-    };
-    Ok(push_key(out, event.key, event.modifiers)?)
+pub fn show_found(found: Found<&KeyEvent>, line: &mut Line) {
+    match found {
+        Found::None => line.word("None"),
+        Found::NeedData => line.word("NeedData"),
+        Found::Exact(len, event) => show_match("Exact ", len, event, line),
+        Found::Ambiguous(len, event) => show_match("Ambiguous ", len, event, line),
+    }
+}
+
+fn show_match(kind: &str, len: usize, event: &KeyEvent, line: &mut Line) {
+    line.word(kind);
+    line.number(len);
+    line.word(" ");
+    line.key(event);
 }
 
 // Appends the bytes and the key of a row.
-fn push_row(out: &mut Vec<u8>, row: Option<(&[u8], &KeyEvent)>) -> Result<(), Failure> {
-    let Some((bytes, event)) = row else {
-        return Ok(out.extend_from_slice(b"None")?);
-    };
-    push_hex(out, bytes)?;
-    out.extend_from_slice(b" ")?;
-    Ok(push_key(out, event.key, event.modifiers)?)
+fn show_row(row: Option<(&[u8], &KeyEvent)>, line: &mut Line) {
+    match row {
+        Some((bytes, event)) => {
+            line.hex(bytes);
+            line.word(" ");
+            line.key(event);
+        }
+        None => line.word("None"),
+    }
 }

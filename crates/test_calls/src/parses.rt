@@ -13,7 +13,7 @@ use termwiz_input::input::{InputEvent, InputParser, ParseError, ParseVecError, P
 use termwiz_input::laws::resumes;
 
 /// What a call left.
-#[derive(Clone, Copy, Debug)]
+#[derive(Clone, Copy)]
 pub struct Left {
     /// How many bytes were buffered.
     pub waiting: usize,
@@ -34,7 +34,7 @@ impl Left {
 }
 
 /// What stood after a call was refused memory.
-#[derive(Clone, Copy, Debug)]
+#[derive(Clone, Copy)]
 pub struct Stop {
     /// Whether the bytes were buffered.
     pub taken: bool,
@@ -42,7 +42,7 @@ pub struct Stop {
 }
 
 /// What stood after a call on pieces was refused memory.
-#[derive(Clone, Copy, Debug)]
+#[derive(Clone, Copy)]
 pub struct PiecesStop {
     /// How many pieces were buffered.
     pub taken: usize,
@@ -82,7 +82,7 @@ pub fn parse<F: FnMut(InputEvent), G: FnMut(InputEvent)>(
 }
 
 /// The events of a call of `parse_as_vec` and of the call that goes on after it.
-#[derive(Debug, Drop)]
+#[derive(Drop)]
 pub struct Lists {
     /// The events of the first call, or those that its error has.
     pub first: Vec<InputEvent>,

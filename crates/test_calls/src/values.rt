@@ -1,12 +1,10 @@
 //! Commands that want values: of events, keys, modifiers, mouse reports, bindings and errors.
-use crate::answers::{push_bool, push_option};
 use crate::conversation::{Command, Session, bytes_of};
 use crate::events::{different_events, unread_events};
 use crate::failure::Failure;
-use crate::parser::{push_events, push_found};
-use event_text::{push_decimal, push_hex, push_key_name, push_modifiers};
+use crate::line::Line;
+use crate::parser::{show_events, show_found};
 use std::alloc::Global;
-use std::io::Write;
 use termwiz_base::{Flags, Modifiers, MouseReport, ctrl_mapping, sgr_mouse};
 use termwiz_bindings::bindings::{BindError, Bindings};
 use termwiz_bindings::chord::Chord;
@@ -28,121 +26,119 @@ impl Session for ValuesSession {
         &mut self,
         alloc: Global,
         command: &Command<'_>,
-        out: &mut Vec<u8>,
+        line: &mut Line,
     ) -> Result<(), Failure> {
-        let number = command.number;
         match command.name {
-            "equality" => push_equalities(alloc, &different_events(alloc)?, out),
-            "lines" => push_events(out, &unread_events(alloc)?, 0),
-            "pasted" => push_pasted(alloc, out),
-            "messages" => push_messages(out),
-            "is_modifier" => push_modifier_keys(out),
-            "shifted" => push_shifted(out),
-            "encode" => push_encoded(alloc, out),
-            "clones" => push_clones(alloc, out),
-            "bindings" => push_bindings(alloc, out),
-            "print_press" => push_name(alloc, out),
-            "sgr_mouse" => push_reports(number, &bytes_of(alloc, command.hex)?, out),
-            _ => push_of_number(command.name, number, out),
+            "equality" => show_equalities(alloc, &different_events(alloc)?, line)?,
+            "lines" => show_events(&unread_events(alloc)?, 0, line),
+            "pasted" => show_pasted(alloc, line)?,
+            "clones" => show_clones(alloc, line)?,
+            "bindings" => show_bindings(&mut Bindings::new(alloc), line)?,
+            "print_press" => show_name(alloc, line)?,
+            "encode" => show_encoded(alloc, line)?,
+            "messages" => show_messages(line),
+            "is_modifier" => show_modifier_keys(line),
+            "shifted" => show_shifted(line),
+            "sgr_mouse" => show_reports(command.number, &bytes_of(alloc, command.hex)?, line),
+            _ => show_of_number(command.name, command.number, line)?,
         }
+        Ok(())
     }
 }
 
 // Appends what a function makes of a number.
-fn push_of_number(name: &str, number: u64, out: &mut Vec<u8>) -> Result<(), Failure> {
+fn show_of_number(name: &str, number: u64, line: &mut Line) -> Result<(), Failure> {
     let held = Modifiers::from_bits_retain((number % 65536) as u16);
     match name {
-        "ctrl_mapping" => push_control(number, out),
-        "encode_xterm" => Ok(push_decimal(out, usize::from(held.encode_xterm()))?),
-        "remove_positional_mods" => {
-            let kept = held.remove_positional_mods();
-            Ok(push_decimal(out, usize::from(kept.bits()))?)
+        "ctrl_mapping" => {
+            let c = char::from_u32((number % 0x110000) as u32).unwrap_or('\0');
+            show_control(c, line);
         }
-        _ => Err(Failure::NoSuchWord),
+        "encode_xterm" => line.number(usize::from(held.encode_xterm())),
+        "remove_positional_mods" => {
+            line.number(usize::from(held.remove_positional_mods().bits()));
+        }
+        _ => return Err(Failure::NoSuchWord),
     }
+    Ok(())
 }
 
-// Appends the code of what Ctrl makes of the character with a code.
-fn push_control(code: u64, out: &mut Vec<u8>) -> Result<(), Failure> {
-    let Some(c) = char::from_u32((code % 0x110000) as u32) else {
-        return Err(Failure::NoSuchWord);
-    };
+// Appends the code of what Ctrl makes of a character.
+fn show_control(c: char, line: &mut Line) {
     match ctrl_mapping(c) {
-        Some(control) => push_option(out, Some(u32::from(control) as usize)),
-        None => push_option(out, None),
+        Some(control) => line.number(u32::from(control) as usize),
+        None => line.word("None"),
     }
 }
 
 // Appends the reports of a mouse code and a final byte at four places.
-fn push_reports(code: u64, last: &[u8], out: &mut Vec<u8>) -> Result<(), Failure> {
-    let [last] = last else {
-        return Err(Failure::NoSuchWord);
-    };
+fn show_reports(code: u64, last: &[u8], line: &mut Line) {
     let code = (code % 65536) as u16;
+    let last = last.first().copied().unwrap_or(0);
     for (x, y) in [(42, 12), (0, 1), (1, 1), (65535, 65535)] {
-        push_report(out, sgr_mouse(code, x, y, *last))?;
+        show_report(sgr_mouse(code, x, y, last), line);
     }
-    Ok(())
 }
 
 // Appends a report: the column, the row, the button and the modifiers.
-fn push_report(out: &mut Vec<u8>, report: Option<MouseReport>) -> Result<(), Failure> {
-    let Some(
-        MouseReport::SGR1006 {
-            x,
-            y,
-            button,
-            modifiers,
-        },
-    ) = report
-    else {
-        return Ok(out.extend_from_slice(b"None / ")?);
-    };
-    push_decimal(out, usize::from(x))?;
-    out.extend_from_slice(b" ")?;
-    push_decimal(out, usize::from(y))?;
-    write!(out, " {button:?} ")?;
-    push_modifiers(out, modifiers)?;
-    Ok(out.extend_from_slice(b" / ")?)
+fn show_report(report: Option<MouseReport>, line: &mut Line) {
+    match report {
+        Some(
+            MouseReport::SGR1006 {
+                x,
+                y,
+                button,
+                modifiers,
+            },
+        ) => {
+            line.shown(format_args!("{x} {y} {button:?} "));
+            line.modifiers(modifiers);
+            line.word(" / ");
+        }
+        _ => line.word("None / "),
+    }
 }
 
 // Appends for each event which events it equals, by a `=` at their places, and for its clone.
-fn push_equalities(alloc: Global, events: &[InputEvent], out: &mut Vec<u8>) -> Result<(), Failure> {
+fn show_equalities(alloc: Global, events: &[InputEvent], line: &mut Line) -> Result<(), Failure> {
     for event in events {
-        push_equals(event, events, out)?;
-        push_equals(&event.clone(alloc)?, events, out)?;
+        show_equals(event, events, line);
+        show_equals(&event.clone(alloc)?, events, line);
     }
     Ok(())
 }
 
-fn push_equals(
-    event: &InputEvent,
-    others: &[InputEvent],
-    out: &mut Vec<u8>,
-) -> Result<(), Failure> {
+fn show_equals(event: &InputEvent, others: &[InputEvent], line: &mut Line) {
     for other in others {
-        out.extend_from_slice(if event == other { b"=" } else { b"." })?;
+        line.word(if event == other { "=" } else { "." });
     }
-    Ok(out.extend_from_slice(b" ")?)
+    line.word(" ");
 }
 
 // Appends a pasted text in hexadecimal, as it is seen and as it is taken out.
-fn push_pasted(alloc: Global, out: &mut Vec<u8>) -> Result<(), Failure> {
+fn show_pasted(alloc: Global, line: &mut Line) -> Result<(), Failure> {
     let text = PastedText::new(String::from_str(alloc, "two\nlines")?);
-    push_hex(out, text.as_str().as_bytes())?;
-    out.extend_from_slice(b" ")?;
-    Ok(push_hex(out, text.into_string().as_bytes())?)
+    line.hex(text.as_str().as_bytes());
+    line.word(" ");
+    line.hex(text.into_string().as_bytes());
+    Ok(())
 }
 
 // Appends the messages of errors, and in hexadecimal the beginnings of sequences.
-fn push_messages(out: &mut Vec<u8>) -> Result<(), Failure> {
-    write!(out, "{} / {} / ", ParseError::NotTaken, ParseError::Taken)?;
-    write!(out, "{} / ", PiecesError { taken: 3 })?;
-    write!(out, "{} / ", EncodeError::UnhandledFunctionKey(25))?;
-    write!(out, "{} / ", EncodeError::Memory)?;
-    push_hex(out, CSI.as_bytes())?;
-    out.extend_from_slice(b" / ")?;
-    Ok(push_hex(out, SS3.as_bytes())?)
+fn show_messages(line: &mut Line) {
+    line.shown(ParseError::NotTaken);
+    line.word(" / ");
+    line.shown(ParseError::Taken);
+    line.word(" / ");
+    line.shown(PiecesError { taken: 3 });
+    line.word(" / ");
+    line.shown(EncodeError::UnhandledFunctionKey(25));
+    line.word(" / ");
+    line.shown(EncodeError::Memory);
+    line.word(" / ");
+    line.hex(CSI.as_bytes());
+    line.word(" / ");
+    line.hex(SS3.as_bytes());
 }
 
 // The keys that are asked whether they are modifiers.
@@ -169,13 +165,11 @@ const KEYS: &[KeyCode] = &[
 ];
 
 // Appends these keys, and of which isn't one that it isn't.
-fn push_modifier_keys(out: &mut Vec<u8>) -> Result<(), Failure> {
+fn show_modifier_keys(line: &mut Line) {
     for key in KEYS {
-        push_key_name(out, *key)?;
-        let end: &[u8] = if key.is_modifier() { b" " } else { b" isn't " };
-        out.extend_from_slice(end)?;
+        line.name(*key);
+        line.word(if key.is_modifier() { " " } else { " isn't " });
     }
-    Ok(())
 }
 
 const SHIFT: u16 = 1 << 1;
@@ -198,13 +192,12 @@ const TYPED: &[(KeyCode, u16)] = &[
 ];
 
 // Appends what these keys are with Shift.
-fn push_shifted(out: &mut Vec<u8>) -> Result<(), Failure> {
+fn show_shifted(line: &mut Line) {
     for (key, bits) in TYPED {
         let held = Modifiers::from_bits_retain(*bits);
-        push_key_name(out, key.normalize_shift_to_upper_case(held))?;
-        out.extend_from_slice(b" ")?;
+        line.name(key.normalize_shift_to_upper_case(held));
+        line.word(" ");
     }
-    Ok(())
 }
 
 // xterm's encoding, with every other mode off.
@@ -255,39 +248,41 @@ const ENCODED: &[(KeyCode, u16, KeyCodeEncodeModes, bool)] = &[
 ];
 
 // Appends what the encoder answers to each.
-fn push_encoded(alloc: Global, out: &mut Vec<u8>) -> Result<(), Failure> {
+fn show_encoded(alloc: Global, line: &mut Line) -> Result<(), Failure> {
     for (key, bits, modes, is_down) in ENCODED {
         let held = Modifiers::from_bits_retain(*bits);
-        push_text(out, key.encode(alloc, held, *modes, *is_down))?;
+        show_text(key.encode(alloc, held, *modes, *is_down), line)?;
     }
     Ok(())
 }
 
 // Appends a text in hexadecimal, or the number of a function key without a text.
-fn push_text(out: &mut Vec<u8>, text: Result<String, EncodeError>) -> Result<(), Failure> {
+fn show_text(text: Result<String, EncodeError>, line: &mut Line) -> Result<(), Failure> {
     match text {
-        Ok(text) => push_hex(out, text.as_bytes())?,
+        Ok(text) => line.hex(text.as_bytes()),
         Err(EncodeError::UnhandledFunctionKey(number)) => {
-            out.extend_from_slice(b"F")?;
-            push_decimal(out, usize::from(number))?;
+            line.word("F");
+            line.number(usize::from(number));
         }
         Err(EncodeError::Memory) => return Err(Failure::TooEarly),
     }
-    Ok(out.extend_from_slice(b" / ")?)
+    line.word(" / ");
+    Ok(())
 }
 
 // Appends what is found in a clone of a map of key events, and whether a clone of an answer equals it.
-fn push_clones(alloc: Global, out: &mut Vec<u8>) -> Result<(), Failure> {
+fn show_clones(alloc: Global, line: &mut Line) -> Result<(), Failure> {
     let mut keys = KeyMap::new(alloc);
     let enter = KeyEvent {
         key: KeyCode::Enter,
         modifiers: Modifiers::CTRL,
     };
     keys.insert(b"\r", enter)?;
-    push_found(out, keys.clone()?.lookup(b"\r", true))?;
-    out.extend_from_slice(b" ")?;
+    show_found(keys.clone()?.lookup(b"\r", true), line);
     let answer = Found::Ambiguous(2, 7u32);
-    push_bool(out, answer.clone()? == answer)
+    line.word(" ");
+    line.holds(answer.clone()? == answer);
+    Ok(())
 }
 
 // The chord of one function key.
@@ -299,21 +294,17 @@ fn function(number: u8) -> Chord {
     chord
 }
 
-// Appends what is found in a clone of 256 chords, and in the bindings themselves, in which one was unbound after that.
-fn push_bindings(alloc: Global, out: &mut Vec<u8>) -> Result<(), Failure> {
-    let mut bindings = Bindings::new(alloc);
-    push_bindings_of(&mut bindings, out)
-}
-
-// The same with bindings that are empty.
-fn push_bindings_of(bindings: &mut Bindings<u8>, out: &mut Vec<u8>) -> Result<(), Failure> {
+// Binds 256 chords, and unbinds one once the bindings were cloned. Appends what is found in them, and in the clone.
+fn show_bindings(bindings: &mut Bindings<u8>, line: &mut Line) -> Result<(), Failure> {
     if bind_functions(bindings).is_err() {
         return Err(Failure::TooEarly);
     }
     let copy = bindings.clone()?;
-    push_number(out, bindings.unbind(&function(0)))?;
-    push_bound(bindings, out)?;
-    push_bound(&copy, out)
+    line.option(bindings.unbind(&function(0)).map(usize::from));
+    line.word(" ");
+    show_bound(bindings, line);
+    show_bound(&copy, line);
+    Ok(())
 }
 
 // Binds the chord of each function key to its number.
@@ -325,31 +316,24 @@ fn bind_functions(bindings: &mut Bindings<u8>) -> Result<(), BindError> {
 }
 
 // Appends how many chords are bound, and to what each function key is.
-fn push_bound(bindings: &Bindings<u8>, out: &mut Vec<u8>) -> Result<(), Failure> {
-    push_decimal(out, bindings.len())?;
-    out.extend_from_slice(b": ")?;
+fn show_bound(bindings: &Bindings<u8>, line: &mut Line) {
+    line.number(bindings.len());
+    line.word(": ");
     for number in 0..=u8::MAX {
-        push_number(out, bindings.lookup(&function(number)).copied())?;
+        match bindings.lookup(&function(number)) {
+            Some(number) => line.number(usize::from(*number)),
+            None => line.word("None"),
+        }
+        line.word(" ");
     }
-    Ok(())
-}
-
-// Appends the number to which a chord is bound, or was.
-fn push_number(out: &mut Vec<u8>, number: Option<u8>) -> Result<(), Failure> {
-    match number {
-        Some(number) => push_decimal(out, usize::from(number))?,
-        None => out.extend_from_slice(b"None")?,
-    }
-    Ok(out.extend_from_slice(b" ")?)
 }
 
 // Appends the name of one press.
-fn push_name(alloc: Global, out: &mut Vec<u8>) -> Result<(), Failure> {
-    let Ok(chord) = read("<M-Left>") else {
-        return Err(Failure::NoSuchWord);
-    };
-    match chord.get(0) {
-        Some(press) => Ok(out.extend_from_slice(print_press(alloc, press)?.as_bytes())?),
-        None => Err(Failure::NoSuchWord),
+fn show_name(alloc: Global, line: &mut Line) -> Result<(), Failure> {
+    if let Ok(chord) = read("<M-Left>") {
+        if let Some(press) = chord.get(0) {
+            line.word(print_press(alloc, press)?.as_str());
+        }
     }
+    Ok(())
 }
