@@ -5,89 +5,107 @@ use termwiz_input::input::{
     InputEvent, KeyCode, KeyEvent, Modifiers, MouseButtons, MouseEvent, PastedText, PixelMouseEvent,
 };
 
-fn pasted(alloc: Global, text: &str) -> Result<InputEvent, AllocError> {
-    Ok(InputEvent::Paste(PastedText::new(String::from_str(alloc, text)?)))
-}
-
 fn key(key: KeyCode, modifiers: Modifiers) -> InputEvent {
     InputEvent::Key(KeyEvent { key, modifiers })
 }
 
-fn mouse(x: u16, y: u16, mouse_buttons: MouseButtons, modifiers: Modifiers) -> InputEvent {
-    InputEvent::Mouse(MouseEvent {
-        x,
-        y,
-        mouse_buttons,
-        modifiers,
-    })
-}
+const KEYS: &[(KeyCode, Modifiers)] = &[
+    (KeyCode::Char('a'), Modifiers::NONE),
+    (KeyCode::Char('b'), Modifiers::NONE),
+    (KeyCode::Char('a'), Modifiers::ALT),
+    (KeyCode::Function(1), Modifiers::NONE),
+    (KeyCode::Function(2), Modifiers::NONE),
+    (KeyCode::Home, Modifiers::NONE),
+    (KeyCode::KeyPadHome, Modifiers::NONE),
+];
 
-fn pixel_mouse(
-    x_pixels: u16,
-    y_pixels: u16,
-    mouse_buttons: MouseButtons,
-    modifiers: Modifiers,
-) -> InputEvent {
-    InputEvent::PixelMouse(PixelMouseEvent {
-        x_pixels,
-        y_pixels,
-        mouse_buttons,
-        modifiers,
-    })
-}
-
-/// Events that all differ, many of them from another one in one field alone.
-pub fn different_events(alloc: Global) -> Result<Vec<InputEvent>, AllocError> {
-    let mut events = Vec::new(alloc);
-    for number in 0..25 {
-        events.push(event_of(alloc, number)?)?;
+fn push_keys(events: &mut Vec<InputEvent>) -> Result<(), AllocError> {
+    for (code, modifiers) in KEYS {
+        events.push(key(*code, *modifiers))?;
     }
-    Ok(events)
+    Ok(())
 }
 
-fn event_of(alloc: Global, number: usize) -> Result<InputEvent, AllocError> {
-    Ok(match number {
-        0 => key(KeyCode::Char('a'), Modifiers::NONE),
-        1 => key(KeyCode::Char('b'), Modifiers::NONE),
-        2 => key(KeyCode::Char('a'), Modifiers::ALT),
-        3 => key(KeyCode::Function(1), Modifiers::NONE),
-        4 => key(KeyCode::Function(2), Modifiers::NONE),
-        5 => key(KeyCode::Home, Modifiers::NONE),
-        6 => key(KeyCode::KeyPadHome, Modifiers::NONE),
-        7 => mouse(1, 2, MouseButtons::NONE, Modifiers::NONE),
-        8 => mouse(3, 2, MouseButtons::NONE, Modifiers::NONE),
-        9 => mouse(1, 3, MouseButtons::NONE, Modifiers::NONE),
-        10 => mouse(1, 2, MouseButtons::LEFT, Modifiers::NONE),
-        11 => mouse(1, 2, MouseButtons::NONE, Modifiers::CTRL),
-        12 => pixel_mouse(1, 2, MouseButtons::NONE, Modifiers::NONE),
-        13 => pixel_mouse(3, 2, MouseButtons::NONE, Modifiers::NONE),
-        14 => pixel_mouse(1, 3, MouseButtons::NONE, Modifiers::NONE),
-        15 => pixel_mouse(1, 2, MouseButtons::LEFT, Modifiers::NONE),
-        16 => pixel_mouse(1, 2, MouseButtons::NONE, Modifiers::CTRL),
-        17 => InputEvent::Resized { cols: 1, rows: 2 },
-        18 => InputEvent::Resized { cols: 3, rows: 2 },
-        19 => InputEvent::Resized { cols: 1, rows: 3 },
-        20 => InputEvent::Wake,
-        21 => pasted(alloc, "")?,
-        22 => pasted(alloc, "a")?,
-        23 => pasted(alloc, "b")?,
-        _ => pasted(alloc, "ab")?,
+// Columns, rows, whether the left button is down, and modifiers.
+const MOUSE: &[(u16, u16, bool, Modifiers)] = &[
+    (1, 2, false, Modifiers::NONE),
+    (3, 2, false, Modifiers::NONE),
+    (1, 3, false, Modifiers::NONE),
+    (1, 2, true, Modifiers::NONE),
+    (1, 2, false, Modifiers::CTRL),
+];
+
+fn left_if(is_down: bool) -> MouseButtons {
+    if is_down {
+        MouseButtons::LEFT
+    } else {
+        MouseButtons::NONE
+    }
+}
+
+fn push_mouse(events: &mut Vec<InputEvent>) -> Result<(), AllocError> {
+    for (x, y, is_down, modifiers) in MOUSE {
+        events.push(InputEvent::Mouse(MouseEvent {
+            x: *x,
+            y: *y,
+            mouse_buttons: left_if(*is_down),
+            modifiers: *modifiers,
+        }))?;
+    }
+    Ok(())
+}
+
+fn pixel_mouse(x: u16, y: u16, mouse_buttons: MouseButtons, modifiers: Modifiers) -> InputEvent {
+    InputEvent::PixelMouse(PixelMouseEvent {
+        x_pixels: x,
+        y_pixels: y,
+        mouse_buttons,
+        modifiers,
     })
+}
+
+fn push_pixels(events: &mut Vec<InputEvent>) -> Result<(), AllocError> {
+    for (x, y, is_down, modifiers) in MOUSE {
+        events.push(pixel_mouse(*x, *y, left_if(*is_down), *modifiers))?;
+    }
+    Ok(())
+}
+
+fn push_resized(events: &mut Vec<InputEvent>) -> Result<(), AllocError> {
+    for (cols, rows) in [(1, 2), (3, 2), (1, 3)] {
+        events.push(InputEvent::Resized { cols, rows })?;
+    }
+    Ok(events.push(InputEvent::Wake)?)
+}
+
+fn push_pasted(alloc: Global, events: &mut Vec<InputEvent>) -> Result<(), AllocError> {
+    for text in ["", "a", "b", "ab"] {
+        let text = PastedText::new(String::from_str(alloc, text)?);
+        events.push(InputEvent::Paste(text))?;
+    }
+    Ok(())
+}
+
+/// Appends events that all differ, many of them from another one in one field alone.
+pub fn push_different(alloc: Global, events: &mut Vec<InputEvent>) -> Result<(), AllocError> {
+    push_keys(events)?;
+    push_mouse(events)?;
+    push_pixels(events)?;
+    push_resized(events)?;
+    push_pasted(alloc, events)
 }
 
 /// Events that no bytes mean.
 pub fn unread_events(alloc: Global) -> Result<Vec<InputEvent>, AllocError> {
     let held = Modifiers::RIGHT_SHIFT.union(Modifiers::LEFT_ALT);
     let turned = MouseButtons::WHEEL_POSITIVE.union(MouseButtons::VERT_WHEEL);
+    let unnamed = Modifiers::from_bits_retain(1 << 15 | 1);
     Ok(vec![in alloc;
         key(KeyCode::Char('\u{a}'), Modifiers::CTRL),
         key(KeyCode::Char('\u{10ffff}'), Modifiers::SUPER),
         key(KeyCode::Function(0), Modifiers::LEADER),
         key(KeyCode::Numpad0, held),
-        key(
-            KeyCode::InternalPasteEnd,
-            Modifiers::from_bits_retain(1 << 15 | 1)
-        ),
+        key(KeyCode::InternalPasteEnd, unnamed),
         pixel_mouse(65535, 0, turned, Modifiers::ALT),
         InputEvent::Resized { cols: 80, rows: 24 },
         InputEvent::Wake,

@@ -1,6 +1,6 @@
 //! Commands that want values: of events, keys, modifiers, mouse reports, bindings and errors.
 use crate::conversation::{Command, Session, bytes_of};
-use crate::events::{different_events, unread_events};
+use crate::events::{push_different, unread_events};
 use crate::failure::Failure;
 use crate::line::Line;
 use crate::parser::{show_events, show_found};
@@ -29,7 +29,7 @@ impl Session for ValuesSession {
         line: &mut Line,
     ) -> Result<(), Failure> {
         match command.name {
-            "equality" => show_equalities(alloc, &different_events(alloc)?, line)?,
+            "equality" => show_equalities(alloc, &mut Vec::new(alloc), line)?,
             "lines" => show_events(&unread_events(alloc)?, 0, line),
             "pasted" => show_pasted(alloc, line)?,
             "clones" => show_clones(alloc, line)?,
@@ -99,9 +99,14 @@ fn show_report(report: Option<MouseReport>, line: &mut Line) {
     }
 }
 
-// Appends for each event which events it equals, by a `=` at their places, and for its clone.
-fn show_equalities(alloc: Global, events: &[InputEvent], line: &mut Line) -> Result<(), Failure> {
-    for event in events {
+// Makes a list of events that all differ. Appends for each event which events it equals, by a `=` at their places, and for its clone.
+fn show_equalities(
+    alloc: Global,
+    events: &mut Vec<InputEvent>,
+    line: &mut Line,
+) -> Result<(), Failure> {
+    push_different(alloc, events)?;
+    for event in events.iter() {
         show_equals(event, events, line);
         show_equals(&event.clone(alloc)?, events, line);
     }
