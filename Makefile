@@ -25,11 +25,13 @@ CALLS := $(shell sed -nE 's/^[a-z].*[ *](hed_[a-z_]+)\$(open).*$$/\1/p' c/hedrug
 SONAME := libhedrugal.so.$(firstword $(subst ., ,$(VERSION)))
 
 # The library is that of LIBRARY, else what rt makes of these sources, and without rt the prebuilt one for the processor of CC. keyshow
-# is likewise that of KEYSHOW, or what rt makes, or linked from a prebuilt object.
+# is likewise that of KEYSHOW, or what rt makes, or linked from a prebuilt object. The gate takes what is prebuilt too, and compares it with
+# what the sources make.
 has_rt := $(shell command -v rt)
+takes_prebuilt := $(if $(has_rt),$(GATE),yes)
 platform := $(subst -, ,$(shell $(CC) -dumpmachine 2> /dev/null))
 prebuilt := prebuilt/$(firstword $(platform))-$(filter linux,$(platform))
-origin := $(if $(has_rt),what rt proved and built,the prebuilt one of $(prebuilt))
+origin := $(if $(takes_prebuilt),the prebuilt one of $(prebuilt),what rt proved and built)
 lib := $(or $(LIBRARY),out/lib)
 keyshow := $(or $(KEYSHOW),out/bin/keyshow)
 library_files := $(addprefix $(lib)/,libhedrugal.a libhedrugal.so.$(VERSION) hedrugal.h hedrugal.pc hedrugal_terminal.h hedrugal_terminal.c)
@@ -111,7 +113,7 @@ out/build/libhedrugal.a: $(proved_libraries) | out/build
 	@tools/gate.sh part library '(cd crates/hedrugal && $(call static_library,hedrugal,$(call libraries_of,hedrugal),$@) \
 		$(call kept_by,hedrugal)) && tools/axioms.sh hedrugal out/gate/library.log'
 
-crates/%/out/keyshow crates/%/out/test_calls: out/gate/%.proved ;
+crates/%/out/test_calls: out/gate/%.proved ;
 else
 proved_libraries := $(crate_files)
 out/build/libhedrugal.a: $(crate_files) | out/build
@@ -147,13 +149,13 @@ ifndef LIBRARY
 out/build/origin: FORCE | out/build
 	@echo '$(origin)' | cmp -s - $@ || echo '$(origin)' > $@
 
-ifdef has_rt
-out/lib/libhedrugal.a: out/build/hedrugal.o out/build/origin | out/lib
-	rm -f $@ && $(AR) rcs $@ $<
-else
+ifdef takes_prebuilt
 out/lib/libhedrugal.a: $(prebuilt)/libhedrugal.a out/build/origin | out/lib
 	@$(check_prebuilt)
 	cp $< $@
+else
+out/lib/libhedrugal.a: out/build/hedrugal.o out/build/origin | out/lib
+	rm -f $@ && $(AR) rcs $@ $<
 endif
 
 # (Its other names are no symbolic links here: rt refuses those in a repository.)
@@ -185,13 +187,16 @@ out/build/lib%.a: tools/growth/%.rt.txt $(proved_libraries) | out/build
 		{ $(call static_library,$*,termwiz_input,$@); } $(call logged,$*)
 
 # The programs.
-ifdef has_rt
-out/bin/keyshow: crates/keyshow/out/keyshow | out/bin
-	cp $< $@
-else
+ifdef KEYSHOW
+$(keyshow):
+	@echo "make: there is no $@, which KEYSHOW names" >&2; exit 1
+else ifdef takes_prebuilt
 out/bin/keyshow: $(prebuilt)/keyshow.o | out/bin
 	@$(check_prebuilt)
 	$(CC) $(LDFLAGS) -o $@ $<
+else
+out/bin/keyshow: crates/keyshow/out/keyshow | out/bin
+	cp $< $@
 endif
 
 hedrugal-keys: out/bin/hedrugal-keys
@@ -313,13 +318,14 @@ format: ## lays out the sources in C, Rust and Python
 
 # The gate. Each part runs `make check-NAME` once what it needs is there; out/gate/NAME.log keeps what it printed.
 #
-# `rt ci` is the first part: it proves each crate from nothing, or takes what an earlier run on this machine proved of the same files. It
-# keeps no static library, and leaves what it proves without the stamp by which `rt lib` would know it. So the library is proved and built by
-# rattle itself over the libraries that `rt ci` has written to crates/*/out by then, and nothing below it is proved twice. keyshow and the
-# other programs are those that `rt ci` builds. The parts that test them run beside its must-fail edits, to which they are preferred.
+# `rt ci` is the first part: it proves each crate from nothing, or takes what an earlier run on this machine proved of the same files. The
+# tests run beside it from the start, over what the folder prebuilt has, and are preferred to it. The part prebuilt shows that these are the
+# bytes that the sources make. `rt ci` keeps no static library, and leaves what it proves without the stamp by which `rt lib` would know it.
+# So the library is proved and built by rattle itself over the libraries that `rt ci` has written to crates/*/out by then, and nothing below
+# it is proved twice. The parts that wait for a proof come last, since a wait is one of the JOBS.
 JOBS ?= 6
-gate_parts := ci library prebuilt lint numbers c-arm64 tests-arm64 rust c packages clone programs page docs growth listings refusals rattle \
-	python install axioms fuzz
+gate_parts := ci lint numbers c-arm64 tests-arm64 clone rust programs page packages c python docs install fuzz \
+	library prebuilt growth refusals rattle listings axioms
 gate_checks := $(filter-out ci library,$(gate_parts))
 
 gate: ## proves everything from nothing, tries the must-fail edits, and runs every test

@@ -54,7 +54,7 @@ out/prebuilt/%-linux/libhedrugal.a: out/build/%/hedrugal.o
 # The crates that the two are made of. (In crates.txt a crate is below those that it stands on.)
 prebuilt_crates = $(shell tac crates.txt | awk -F '[: ]+' \
 	'BEGIN { below["hedrugal"]; below["keyshow"] } $$1 in below { print $$1; for (i = 2; i <= NF; i++) below[$$i] }')
-prebuilt_sources = crates.txt $(if $(filter aarch64,$(1)),c/kit) $(wildcard $(foreach it,$(prebuilt_crates),$(addprefix crates/$(it)/,src specs proofs)))
+prebuilt_sources = $(if $(filter aarch64,$(1)),c/kit) $(wildcard $(foreach it,$(prebuilt_crates),$(addprefix crates/$(it)/,src specs proofs)))
 # The line by which rattle ends a log, but for the words on what it reads without checking it again. A missing log has none.
 verdict = $$(sed -n 's/^\(logic=proved .* sum=[0-9a-f]*\).*/\1/p' $(1) 2> /dev/null | tail -n 1)
 library_logs = $(if $(filter x86_64,$*),out/gate/library.log out/build/hedrugal.log,out/build/hedrugal-$*.log)
@@ -65,7 +65,8 @@ out/prebuilt/%-linux/PROVENANCE: out/prebuilt/%-linux/libhedrugal.a out/prebuilt
 	  echo "proof of the crate hedrugal: $(call verdict,$(library_logs))"; \
 	  echo "proof of the crate keyshow: $(call verdict,out/build/keyshow-$*.log)"; \
 	  echo "joined by: $$($*-linux-gnu-gcc --version | head -n 1), $$($*-linux-gnu-ld --version | head -n 1)"; \
-	  echo "sources: $$(find $(call prebuilt_sources,$*) -type f | sort | xargs sha256sum | sha256sum | cut -d ' ' -f 1)"; \
+	  echo "sources: $$({ awk -F '[: ]' 'index(" $(prebuilt_crates) ", " " $$1 " ")' crates.txt | sort; \
+	    find $(call prebuilt_sources,$*) -type f | sort | xargs sha256sum; } | sha256sum | cut -d ' ' -f 1)"; \
 	  for file in libhedrugal.a keyshow.o; do echo "sha256 $$file: $$(sha256sum < $(@D)/$$file | cut -d ' ' -f 1)"; done; \
 	  echo 'to check: make prebuilt-check, with the kit, builds the same bytes again'; \
 	  echo 'to refresh: make prebuilt, with the kit'; \

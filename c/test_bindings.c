@@ -190,6 +190,9 @@ static void binds_a_thousand_chords(void) {
     EXPECT(hed_bindings_unbind(&bindings, keys, 3, &value) == HED_BOUND_NONE && value == 77);
     EXPECT(hed_bindings_len(&bindings) == CHORDS - 1 - i);
   }
+  /* all 64 bits of a value are kept */
+  EXPECT(hed_bindings_bind(&bindings, keys, 3, UINT64_MAX) == HED_BOUND_VALUE);
+  EXPECT(hed_bindings_lookup(&bindings, keys, 3, &value) == HED_BOUND_VALUE && value == UINT64_MAX);
   hed_bindings_free(&bindings);
 }
 

@@ -993,6 +993,7 @@ static void reads_from_a_page_that_is_read_only(void) {
   EXPECT(hed_extended_waiting_len(parser) == 7 && hed_extended_waiting(parser) == HED_WAITING_PASTE && hed_extended_is_paste_open(parser));
   EXPECT(hed_extended_text(parser, text, sizeof text) == 2 && memcmp(text, "4;..", 4) == 0);
   EXPECT(hed_extended_init_sharing(&sharing, HED_PROTOCOL_LEGACY, parser) && hed_parser_init_sharing_extended(&input, parser));
+  EXPECT(hed_extended_waiting_len(parser) == 7 && hed_parser_waiting_len(&input) == 0);
   hed_extended_free(&sharing);
   hed_parser_free(&input);
   EXPECT(mprotect(parser, 4096, PROT_READ | PROT_WRITE) == 0);

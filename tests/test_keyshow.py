@@ -3,7 +3,9 @@
 The texts are files, or come through sockets: a byte at a time, with a failure after each number of
 reads, or so that the test sees how much a read asks for, and what is written before the next."""
 import contextlib
+import functools
 import os
+import resource
 import socket
 import subprocess
 import tempfile
@@ -56,10 +58,10 @@ WRONG += [[" 5"], [""], [b"\xff"], [b"5\xff"], ["5", b"\xff"], [b"\xff", "5"], [
 WRONG += [it.split() for it in ("1 2", "5 foo", "foo 5", "x 2 3", "5 5", "5 5 5")]
 
 
-def run(words, source, target=subprocess.PIPE):
+def run(words, source, target=subprocess.PIPE, **others):
     """Runs the program. Returns its standard output, its standard error and its status."""
     how = {"stdin": source, "stdout": target, "stderr": subprocess.PIPE, "timeout": SECONDS}
-    ran = subprocess.run([KEYSHOW, *words], **how)
+    ran = subprocess.run([KEYSHOW, *words], **how, **others)
     return ran.stdout, ran.stderr, ran.returncode
 
 
@@ -165,6 +167,28 @@ def test_reads_fail():
             with failing(text) as source:
                 found = run([str(piece)], source)
             assert found == (lines, b"keyshow: read failed\n", 1), (piece, count)
+
+
+def limited(most):
+    """What has a program's files have at most so many bytes, by which its writes are cut short and
+    fail. (Python ignores the signal that comes then, and the program inherits that.)"""
+    limit = (most, resource.getrlimit(resource.RLIMIT_FSIZE)[1])
+    set_limit = functools.partial(resource.setrlimit, resource.RLIMIT_FSIZE, limit)
+    return {"preexec_fn": set_limit, "restore_signals": False}
+
+
+@pytest.mark.parametrize("piece", PIECES)
+def test_writes_fail(piece):
+    """After each number of bytes. A write that is cut short goes on, and none follows one that
+    failed."""
+    lines = FIVE + b"key Escape NONE\n"
+    for most in range(len(lines) + 1):
+        with file_of(TYPED) as source, tempfile.TemporaryFile() as target:
+            _, *ended = run([str(piece)], source, target, **limited(most))
+            target.seek(0)
+            written = target.read()
+        failed = [b"keyshow: write failed\n", 1] if most < len(lines) else [b"", 0]
+        assert (written, ended) == (lines[:most], failed), most
 
 
 @contextlib.contextmanager

@@ -76,8 +76,9 @@ program="cargo init --quiet --vcs none ~/program; cd ~/program; ln -s ~/hedrugal
     cargo run 2> ~/said | grep -F '[Key(KeyEvent { key: Char('\\''q'\\''), modifiers: ' || { cat ~/said; false; }
     grep '$taken' ~/said"
 
-# The longest tests in Python, for pytest.
-longest_in_python='completions or parse-rows or encodings or nothing_else or dicts'
+# The longest tests in Python, for pytest, and the files of those that start programs.
+longest_in_python='completions or parse-rows or encodings or nothing_else or dicts or test_backend or test_documents or test_library'
+longest_in_python+=' or test_memory or test_threads or test_terminal'
 
 # Makes the packages for both processors, of another clone.
 make_packages() {

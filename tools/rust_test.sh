@@ -2,10 +2,10 @@
 # Tests the Rust package over the library: `make check-rust`. HEDRUGAL_LIBRARY names the library's folder, else it is out/lib; KEYSHOW names
 # the program, else it is out/bin/keyshow.
 #
-# The package is built with its tests, with the examples of its documentation, and with each feature that names other crates, alone and
-# with the others. It has to find the library in each way that docs/rust.md names, and to say so if there is none. All tests but the longest
-# also run under valgrind, and one refuses every request for memory in turn. cargo asks no registry. The last line is 'N passed, N failed',
-# the status 1 if a case failed.
+# The package is built with its tests and with its features that name other crates, of which each is checked alone too. It has to find the
+# library in each way that docs/rust.md names, and to say so if there is none. All tests but the longest also run under valgrind, and one
+# refuses every request for memory in turn. cargo asks no registry. The examples of the documentation are left to `cargo test`, which
+# tools/clone_test.sh runs. The last line is 'N passed, N failed', the status 1 if a case failed.
 . "$(dirname "$0")/common.sh"
 start_cases "$@"
 export KEYSHOW=$keyshow
@@ -39,9 +39,9 @@ rust_with() { # command words..
         --manifest-path "$work/rust/with/Cargo.toml" --config rust/with/system.toml "${@:2}"
 }
 
-# A feature alone: its tests, examples and documentation.
+# A feature alone, with its tests and examples.
 rust_feature() { # name
-    rust_with test --features "$1" --tests --examples && rust_with clippy --features "$1" --all-targets -- -D warnings
+    rust_with clippy --features "$1" --all-targets -- -D warnings
 }
 
 rust_features() {
@@ -97,7 +97,6 @@ rust_links_nothing() {
 }
 
 check 'tests' rust_tests
-check 'examples of the documentation' rust test --doc
 check 'documentation' rust_documentation
 check 'clippy' rust clippy --all-targets -- -D warnings
 mkdir "$work/rust" && cp -r rust/{build.rs,src,tests,examples,with} "$work/rust/" || exit

@@ -12,8 +12,6 @@ ghost use Rattle.keyshow.specs.Words.{IsPiece, PieceOf, fault_text};
 
 mod lines;
 mod pump;
-#[cfg(test)]
-mod tests;
 
 use pump::{RunError, run};
 use std::alloc::Global;
