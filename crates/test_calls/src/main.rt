@@ -50,7 +50,10 @@ fn main(rt: HostRuntime) -> ExitCode {
 
 // Runs the mode that the program was called with.
 fn run(rt: &HostRuntime) -> Result<(), Failure> {
-    let mut words = env::args(rt)?;
+    // Words are refused memory too.
+    let Ok(mut words) = env::args(rt) else {
+        return Err(Failure::TooEarly);
+    };
     let _name = words.next();
     let Some(mode) = words.next() else {
         return Err(Failure::NoSuchWord);
