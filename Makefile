@@ -85,7 +85,7 @@ libraries_of = $(shell sed -nE 's/^$(1)( staticlib)?://p' crates.txt)
 rlibs_of = $(if $(wildcard crates/$(1)/src),$(or $(abspath $(RLIBS)),$(CURDIR)/crates/$(1)/out/rlib),$(kit)/rlibs)
 over = $(foreach it,std $(1),--extern $(it)=$(call rlibs_of,$(it))/$(it).rlib) -L dependency=$(kit)/rlibs \
 	$(if $(RLIBS),-L dependency=$(abspath $(RLIBS)),$(patsubst %/src/lib.rt,-L dependency=$(CURDIR)/%/out/rlib,$(proved_below))) \
-	--antt-project $(kit)/rattle/logic/antt-project.json --logic-built $(kit)/logic_built --jobs 4 --list-axioms
+	--antt-project $(kit)/rattle/logic/antt-project.json --logic-built $(kit)/logic_built --jobs $(if $(GATE),1,4) --list-axioms
 proved_below = $(filter-out crates/test_%,$(wildcard crates/*/src/lib.rt))
 # Where a proof of a crate keeps what it checked, for one of the same crate for the other processor. rt keeps it in the crate's folder: NAME
 kept_by = --incremental $(if $(GATE)$(RLIBS),$(abspath out/build/$(1).kept),out/incremental)
