@@ -322,10 +322,11 @@ format: ## lays out the sources in C, Rust and Python
 # tests run beside it from the start, over what the folder prebuilt has, and are preferred to it. The part prebuilt shows that these are the
 # bytes that the sources make. `rt ci` keeps no static library, and leaves what it proves without the stamp by which `rt lib` would know it.
 # So the library is proved and built by rattle itself over the libraries that `rt ci` has written to crates/*/out by then, and nothing below
-# it is proved twice. The parts that wait for a proof come last, since a wait is one of the JOBS.
-JOBS ?= 6
-gate_parts := ci lint numbers c-arm64 tests-arm64 clone rust programs page packages c python docs install fuzz \
-	library prebuilt growth refusals rattle listings axioms
+# it is proved twice. It comes early, since it takes longest where the rest is kept. Other parts that wait for a proof come last, as a wait is
+# one of the JOBS.
+JOBS ?= 7
+gate_parts := ci library lint numbers c-arm64 tests-arm64 clone rust programs page packages c python docs install fuzz \
+	prebuilt growth refusals rattle listings axioms
 gate_checks := $(filter-out ci library,$(gate_parts))
 
 gate: ## proves everything from nothing, tries the must-fail edits, and runs every test
