@@ -41,7 +41,7 @@ part() { # name command
     if [ "$1" = ci ]; then
         { time bash -c "$2" 2>&1 < /dev/null | tee "$log"; } 2> "$gate/$1.time" || status=$?
     else
-        { time timeout 1200 bash -c "$2" > "$log" 2>&1 < /dev/null; } 2> "$gate/$1.time" || status=$?
+        { time timeout 2400 bash -c "$2" > "$log" 2>&1 < /dev/null; } 2> "$gate/$1.time" || status=$?
     fi
     ended=$(date +%s)
     counts=$(count "$status" "$log")
