@@ -253,7 +253,8 @@ uint32_t hed_parser_end_paste(hed_parser *parser, hed_event *event);
  * Returns the number of bytes that were buffered, 0 if there is no parser. */
 size_t hed_parser_reset(hed_parser *parser);
 
-/* How long each kind of bytes may stay buffered, in milliseconds: then they are due to be flushed. Negative: forever. */
+/* How long each kind of bytes may stay buffered, in milliseconds: then they are due to be flushed. 0 is the usual limit, so a program names
+ * only those that it changes; 1 is the least. Negative: forever. */
 typedef struct hed_policy {
   int32_t escape; /* ESC or ESC ESC, since its last byte */
   int32_t alt_key; /* ESC and one byte that may begin a sequence, since the ESC: unless more follows, the byte's key with Alt */
@@ -263,7 +264,7 @@ typedef struct hed_policy {
   int32_t paste; /* an open paste, since bytes last came */
 } hed_policy;
 
-/* The limits of a parser for which none were set. */
+/* The usual limits: those of a parser for which none were set. */
 #define HED_POLICY_USUAL \
   { 50, 100, 1000, 5000, -1, -1 }
 
@@ -520,7 +521,8 @@ enum hed_encoded {
   HED_ENCODED_TOO_LONG = 4, /* The bytes would be more than a sequence or a string may have. */
   HED_ENCODED_BAD_TEXT = 5, /* The text of a key report or of a paste isn't UTF-8. */
   HED_ENCODED_TOO_FAR = 6, /* The place of the mouse report is above 223, which its encoding can't tell. */
-  HED_ENCODED_NO_TEXT = 7 /* No bytes are read as the event. */
+  HED_ENCODED_NO_TEXT = 7, /* No bytes are read as the event. */
+  HED_ENCODED_NO_PARSER = 8 /* There is no parser: it wasn't made yet, or it was freed. */
   /* numbers.txt: end */
 };
 
@@ -950,27 +952,29 @@ typedef struct hed_mouse_report {
  * if memory was refused; HED_ENCODED_BAD_NUMBER if button, tracking or encoding names nothing, or a bit of modifiers has no name. */
 uint32_t hed_encode_mouse(const hed_mouse_report *report, uint32_t tracking, uint32_t encoding, uint8_t *out, size_t len, size_t *sent_len);
 
-/* Writes the bytes that an extended parser with this reading reads as the event to out, and the number of these bytes to *sent_len: the other
- * way from hed_extended_next, whatever the terminal sent. A multiplexer passes replies on by it, and a test or a recorder writes what it feeds
+/* Writes the bytes that the parser reads as the event to out, and the number of these bytes to *sent_len: the other way from
+ * hed_extended_next, whatever the terminal sent. A multiplexer passes replies on by it, and a test or a recorder writes what it feeds
  * to a parser. event and text, text_len bytes, are as hed_extended_next and hed_extended_text give them. Of event only the fields are read that
- * its kind has, and text is read for a paste, a key report, a control sequence and a string.
+ * its kind has, and text is read for a paste, a key report, a control sequence and a string. The parser says how the bytes are read, by its
+ * reading and its sequence table. It is unchanged, and what it has buffered doesn't matter.
  *
  * With no more to come the bytes are that event alone, and nothing stays buffered. That is so with more to come too, but for HED_KIND_KEY, whose
- * text may begin a sequence. A key is written as a row of the sequence table or as its character, and a key report in the form of Kitty's
- * protocol, with what happened to the key always told. hed_encode and hed_encode_kitty write keys as a terminal sends them.
+ * text may begin a sequence. A key is written as what hed_encode writes, as its character, or as a row of the sequence table, and a key report
+ * in the form of Kitty's protocol, with what happened to the key always told. hed_encode and hed_encode_kitty write keys as a terminal sends them.
  *
  * Returns an enum hed_encoded. With HED_ENCODED_TEXT *sent_len is the number of all these bytes, and out has as many of them as len says:
  * if *sent_len is above len, call again with more room. The rest of out is unchanged. Otherwise *sent_len is 0 and out is unchanged:
  * HED_ENCODED_NO_TEXT if no bytes are read as the event, as for HED_KIND_STRING_PART, HED_KIND_STRING_CUT, a paste that has ESC [201~ in it,
- * and an event that no parser makes; HED_ENCODED_TOO_LONG if the sequence would have more than 256 bytes, or the string 65535 before its end;
+ * and an event that no parser makes, such as a position with a 0; HED_ENCODED_NO_PARSER; HED_ENCODED_TOO_LONG if the sequence would have more than 256 bytes, or the string 65535 before its end;
  * HED_ENCODED_BAD_TEXT if the text of a paste or a key report isn't UTF-8; HED_ENCODED_REFUSED_MEMORY if memory was refused;
  * HED_ENCODED_BAD_NUMBER if a number names nothing, as the kind HED_KIND_PASTE_PART does here, or a bit of the modifiers has no name. */
-uint32_t hed_encode_event(const hed_extended_event *event, const uint8_t *text, size_t text_len, const hed_reading *reading, uint8_t *out,
+uint32_t hed_encode_event(const hed_extended_event *event, const uint8_t *text, size_t text_len, const hed_extended *parser, uint8_t *out,
                           size_t len, size_t *sent_len);
 
 /* Writes what a terminal replies to a question for the position of its cursor to out, and the number of these bytes to *sent_len: ESC [, the
  * row, a semicolon, the column and R. private_reply says that the question was ESC [?6n, not ESC [6n: then ? comes before the row. The first row
- * and the first column are 1. Without it a reply for row 1 and the columns 1 to 16 has the bytes of F3 with modifiers.
+ * and the first column are 1: a parser reads a reply with a 0 as a HED_KIND_CSI. Without the ? a reply for row 1 and the columns 1 to 16 has
+ * the bytes of F3 with modifiers.
  *
  * Returns HED_ENCODED_TEXT or HED_ENCODED_REFUSED_MEMORY, as hed_encode_paste does. */
 uint32_t hed_encode_cursor_position(uint16_t row, uint16_t column, bool private_reply, uint8_t *out, size_t len, size_t *sent_len);

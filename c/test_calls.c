@@ -1314,17 +1314,22 @@ static void expires_after_a_pause_alone(hed_parser *parser, const hed_parser *ot
   EXPECT(hed_parser_expire(parser, now + 4, &taken) == HED_NEXT_NONE && is_rest(parser, 0, HED_WAITING_NOTHING));
 }
 
-/* The limits that are set hold, from 0 to for ever, and a limit of before holds no longer. A parser that is made anew has the usual ones. */
+/* The limits that are set hold, from 1 to for ever, and a limit of before holds no longer. 0 is the usual limit, and a parser that is made anew
+ * has the usual ones. */
 static void keeps_its_limits(hed_parser *parser, const hed_parser *other) {
-  static const hed_policy never = { -1, -1, -1, -1, -1, -1 }, at_once = { 0, 0, 0, 0, 0, 0 };
+  static const hed_policy never = { -1, -1, -1, -1, -1, -1 }, soon = { 1, 1, 1, 1, 1, 1 }, one = { .escape = 25 };
   EXPECT(hed_parser_init_sharing(parser, other) && NEXT(parser, "\033", true) == HED_NEXT_NONE);
   EXPECT(hed_parser_timeout(parser, 10) == 50 && hed_parser_timeout(parser, 30) == 30);
   EXPECT(hed_parser_set_policy(parser, &never) && hed_parser_timeout(parser, UINT64_MAX) == -1);
   EXPECT(hed_parser_expire(parser, UINT64_MAX, &taken) == HED_NEXT_NONE && is_rest(parser, 1, HED_WAITING_ESCAPE));
-  EXPECT(hed_parser_set_policy(parser, &at_once) && hed_parser_timeout(parser, 0) == 0);
-  EXPECT(hed_parser_expire(parser, 0, &taken) == HED_NEXT_EVENT && is_key(HED_KEY_ESCAPE, 0, HED_TERMWIZ_MOD_NONE));
-  EXPECT(hed_parser_timeout(parser, 0) == -1 && NEXT(parser, "\342", true) == HED_NEXT_NONE && hed_parser_timeout(parser, 0) == 0);
-  EXPECT(hed_parser_set_policy(parser, &usual_policy) && hed_parser_timeout(parser, 0) == -1);
+  EXPECT(hed_parser_reset(parser) == 1 && NEXT(parser, "\033", true) == HED_NEXT_NONE);
+  EXPECT(hed_parser_set_policy(parser, &soon) && hed_parser_timeout(parser, 0) == 1);
+  EXPECT(hed_parser_expire(parser, 1, &taken) == HED_NEXT_EVENT && is_key(HED_KEY_ESCAPE, 0, HED_TERMWIZ_MOD_NONE));
+  EXPECT(hed_parser_timeout(parser, 1) == -1 && NEXT(parser, "\342", true) == HED_NEXT_NONE && hed_parser_timeout(parser, 1) == 1);
+  EXPECT(hed_parser_set_policy(parser, &usual_policy) && hed_parser_timeout(parser, 2) == -1);
+  EXPECT(hed_parser_set_policy(parser, &one) && hed_parser_timeout(parser, 2) == -1 && hed_parser_reset(parser) == 1);
+  EXPECT(NEXT(parser, "\033", true) == HED_NEXT_NONE && hed_parser_timeout(parser, 2) == 25 && hed_parser_reset(parser) == 1);
+  EXPECT(NEXT(parser, "\033[", true) == HED_NEXT_NONE && hed_parser_timeout(parser, 2) == 100);
   EXPECT(hed_parser_init_sharing(parser, other) && NEXT(parser, "\033[", true) == HED_NEXT_NONE && hed_parser_timeout(parser, 0) == 100);
 }
 

@@ -1362,12 +1362,17 @@ static const struct written written[] = {
   { HED_PROTOCOL_LEGACY, TEXT("\033["), "\033[" },
   { HED_PROTOCOL_LEGACY, TEXT("\033[9u"), "\033[9;1u" },
   { HED_PROTOCOL_LEGACY, TEXT("\033[27;1;9~"), "\t" },
-  { HED_PROTOCOL_LEGACY, TEXT("a"), "\033[27;1;97~" },
+  { HED_PROTOCOL_LEGACY, TEXT("a"), "a" },
   { HED_PROTOCOL_KITTY, TEXT("a"), "a" },
+  { HED_PROTOCOL_LEGACY, TEXT("\303\251"), "\303\251" },
+  { HED_PROTOCOL_LEGACY, TEXT("\033[13u"), "\033[13;1u" },
+  { HED_PROTOCOL_LEGACY, TEXT("\033a"), "\033[27;3;97~" },
   { HED_PROTOCOL_LEGACY, TEXT("\033\303\251"), "\033\303\251" },
   { HED_PROTOCOL_KITTY, TEXT("\033[A"), "\033[1;1:1A" },
   { HED_PROTOCOL_KITTY, TEXT("\033[97;5u"), "\033[97;5:1u" },
   { HED_PROTOCOL_KITTY, TEXT("\033[97:65:99;2:3u"), "\033[97:65:99;2:3u" },
+  { HED_PROTOCOL_KITTY, TEXT("\033[97:65;1u"), "\033[97:65u" },
+  { HED_PROTOCOL_KITTY, TEXT("\033[97::99;1:3u"), "\033[97::99;:3u" },
   { HED_PROTOCOL_KITTY, TEXT("\033[097;1:2;097u"), "\033[97;:2;97u" },
   { HED_PROTOCOL_KITTY, TEXT("\033[97::99;;97u"), "\033[97::99;;97u" },
   { HED_PROTOCOL_KITTY, TEXT("\033[1;9:2A"), "\033[1;9:2A" },
@@ -1375,6 +1380,7 @@ static const struct written written[] = {
   { HED_PROTOCOL_KITTY, TEXT("\033[57414u"), "\033[57414;1:1u" },
   { HED_PROTOCOL_KITTY, TEXT("\033[27;5;57344~"), "\033[27;5;57344~" },
   { HED_PROTOCOL_KITTY, TEXT("\033[1;5R"), "\033[?1;5R" },
+  { HED_PROTOCOL_KITTY, TEXT("\033[0;5R"), "\033[0;5R" },
   { HED_PROTOCOL_LEGACY, TEXT("\033[<4;3;4M"), "\033[<4;3;4M" },
   { HED_PROTOCOL_LEGACY, TEXT("\033[<64;3;4M"), "\033[<64;3;4M" },
   { HED_PROTOCOL_LEGACY, TEXT("\033[<0;3;4m"), "\033[<35;3;4M" },
@@ -1391,12 +1397,12 @@ static const struct written written[] = {
   { HED_PROTOCOL_LEGACY, TEXT("\033_Gi=1;OK\033\\"), "\033_Gi=1;OK\033\\" },
 };
 
-static void writes_event_in(const hed_extended_event *event, const uint8_t *text, const struct written *it, size_t len) {
-  hed_reading reading = { it->protocol, false, 0 };
+static void writes_event_in(const hed_extended *parser, const hed_extended_event *event, const uint8_t *text, const struct written *it,
+                            size_t len) {
   uint8_t room[64];
   size_t wanted = strlen(it->bytes), kept = wanted < len ? wanted : len, sent_len = 99;
   memset(room, '.', sizeof room);
-  EXPECT(hed_encode_event(event, text, event->text_len, &reading, room, len, &sent_len) == HED_ENCODED_TEXT && sent_len == wanted);
+  EXPECT(hed_encode_event(event, text, event->text_len, parser, room, len, &sent_len) == HED_ENCODED_TEXT && sent_len == wanted);
   EXPECT(memcmp(room, it->bytes, kept) == 0 && room[kept] == '.' && room[63] == '.');
 }
 
@@ -1409,21 +1415,24 @@ static void writes_events(hed_extended *parser) {
     EXPECT(set_reading(parser, it->protocol, false, 0) && hed_extended_feed(parser, (const uint8_t *)it->text, it->len));
     EXPECT(hed_extended_next(parser, false, &event) == HED_NEXT_EVENT && hed_extended_waiting_len(parser) == 0);
     if (event.text_len) hed_extended_text(parser, text, sizeof text);
-    for (size_t len = 0; len <= strlen(it->bytes) + 1; len++) writes_event_in(&event, text, it, len);
+    for (size_t len = 0; len <= strlen(it->bytes) + 1; len++) writes_event_in(parser, &event, text, it, len);
   }
 }
 
-static void refuses_event(hed_extended_event event, const char *text, size_t text_len, uint32_t protocol, uint32_t answer) {
-  hed_reading reading = { protocol, false, 0 };
+static void refuses_event(hed_extended *parser, hed_extended_event event, const char *text, size_t text_len, uint32_t protocol,
+                          uint32_t answer) {
   uint8_t room[4] = { '.' };
   size_t sent_len = 99;
-  EXPECT(hed_encode_event(&event, (const uint8_t *)text, text_len, &reading, room, sizeof room, &sent_len) == answer);
+  EXPECT(set_reading(parser, protocol, false, 0));
+  EXPECT(hed_encode_event(&event, (const uint8_t *)text, text_len, parser, room, sizeof room, &sent_len) == answer);
   EXPECT(sent_len == 0 && room[0] == '.');
 }
 
 /* Events that no bytes are read as, that are too long, or whose numbers or texts stand for nothing. */
-static void refuses_events(void) {
+static void refuses_events(hed_extended *parser) {
   static char long_text[65536];
+  static const hed_extended none = HED_EXTENDED_NONE;
+  hed_extended_event nowhere = { .kind = HED_KIND_CURSOR_POSITION, .column = 5 };
   hed_extended_event report = { .kind = HED_KIND_REPORT,
                                 .report = { HED_KEY_EVENT_KIND_PRESS, 0, HED_KEY_COPY, 0, HED_NO_CODE, HED_NO_CODE } };
   hed_extended_event caps_lock = { .kind = HED_KIND_REPORT, .report = { HED_KEY_EVENT_KIND_PRESS, 0, 0, 57358, HED_NO_CODE, HED_NO_CODE } };
@@ -1434,28 +1443,43 @@ static void refuses_events(void) {
   hed_extended_event side = { .kind = HED_KIND_SIDE_BUTTON, .flags = HED_SIDE_BUTTON_PRESS, .input = { .detail = 7 } };
   memset(long_text, 'a', sizeof long_text);
   memcpy(long_text, "52;", 3);
-  refuses_event(report, NULL, 0, HED_PROTOCOL_LEGACY, HED_ENCODED_NO_TEXT);
-  refuses_event(caps_lock, NULL, 0, HED_PROTOCOL_KITTY, HED_ENCODED_NO_TEXT);
-  refuses_event(released, NULL, 0, HED_PROTOCOL_KITTY, HED_ENCODED_NO_TEXT);
-  refuses_event(key, NULL, 0, HED_PROTOCOL_KITTY, HED_ENCODED_NO_TEXT);
-  refuses_event(cut, TEXT("11;a"), HED_PROTOCOL_LEGACY, HED_ENCODED_NO_TEXT);
-  refuses_event(side, NULL, 0, HED_PROTOCOL_LEGACY, HED_ENCODED_NO_TEXT);
-  refuses_event((hed_extended_event){ .kind = HED_KIND_PASTE }, TEXT("a" END), HED_PROTOCOL_LEGACY, HED_ENCODED_NO_TEXT);
-  refuses_event((hed_extended_event){ .kind = HED_KIND_CSI }, TEXT("I"), HED_PROTOCOL_LEGACY, HED_ENCODED_NO_TEXT);
-  refuses_event((hed_extended_event){ .kind = HED_KIND_OSC }, TEXT("ab"), HED_PROTOCOL_LEGACY, HED_ENCODED_NO_TEXT);
-  refuses_event((hed_extended_event){ .kind = HED_KIND_OSC }, long_text, sizeof long_text, HED_PROTOCOL_LEGACY, HED_ENCODED_TOO_LONG);
-  refuses_event((hed_extended_event){ .kind = HED_KIND_CSI }, long_text, 300, HED_PROTOCOL_LEGACY, HED_ENCODED_TOO_LONG);
-  refuses_event((hed_extended_event){ .kind = HED_KIND_PASTE }, TEXT("\377"), HED_PROTOCOL_LEGACY, HED_ENCODED_BAD_TEXT);
+  refuses_event(parser, report, NULL, 0, HED_PROTOCOL_LEGACY, HED_ENCODED_NO_TEXT);
+  refuses_event(parser, caps_lock, NULL, 0, HED_PROTOCOL_KITTY, HED_ENCODED_NO_TEXT);
+  refuses_event(parser, released, NULL, 0, HED_PROTOCOL_KITTY, HED_ENCODED_NO_TEXT);
+  refuses_event(parser, key, NULL, 0, HED_PROTOCOL_KITTY, HED_ENCODED_NO_TEXT);
+  refuses_event(parser, cut, TEXT("11;a"), HED_PROTOCOL_LEGACY, HED_ENCODED_NO_TEXT);
+  refuses_event(parser, side, NULL, 0, HED_PROTOCOL_LEGACY, HED_ENCODED_NO_TEXT);
+  refuses_event(parser, nowhere, NULL, 0, HED_PROTOCOL_LEGACY, HED_ENCODED_NO_TEXT);
+  refuses_event(parser, (hed_extended_event){ .kind = HED_KIND_PASTE }, TEXT("a" END), HED_PROTOCOL_LEGACY, HED_ENCODED_NO_TEXT);
+  refuses_event(parser, (hed_extended_event){ .kind = HED_KIND_CSI }, TEXT("I"), HED_PROTOCOL_LEGACY, HED_ENCODED_NO_TEXT);
+  refuses_event(parser, (hed_extended_event){ .kind = HED_KIND_OSC }, TEXT("ab"), HED_PROTOCOL_LEGACY, HED_ENCODED_NO_TEXT);
+  refuses_event(parser, (hed_extended_event){ .kind = HED_KIND_OSC }, long_text, sizeof long_text, HED_PROTOCOL_LEGACY, HED_ENCODED_TOO_LONG);
+  refuses_event(parser, (hed_extended_event){ .kind = HED_KIND_CSI }, long_text, 300, HED_PROTOCOL_LEGACY, HED_ENCODED_TOO_LONG);
+  refuses_event(parser, (hed_extended_event){ .kind = HED_KIND_PASTE }, TEXT("\377"), HED_PROTOCOL_LEGACY, HED_ENCODED_BAD_TEXT);
   report.report.key = KEYS + 1;
   key.input.modifiers = 1;
   cut.flags = HED_KIND_CSI;
   side.input.detail = 256;
-  refuses_event(report, NULL, 0, HED_PROTOCOL_LEGACY, HED_ENCODED_BAD_NUMBER);
-  refuses_event(key, NULL, 0, HED_PROTOCOL_LEGACY, HED_ENCODED_BAD_NUMBER);
-  refuses_event(cut, NULL, 0, HED_PROTOCOL_LEGACY, HED_ENCODED_BAD_NUMBER);
-  refuses_event(side, NULL, 0, HED_PROTOCOL_LEGACY, HED_ENCODED_BAD_NUMBER);
-  refuses_event((hed_extended_event){ .kind = HED_KIND_PASTE_PART }, TEXT("a"), HED_PROTOCOL_LEGACY, HED_ENCODED_BAD_NUMBER);
-  refuses_event((hed_extended_event){ .kind = HED_KIND_FOCUS_LOST }, NULL, 0, HED_PROTOCOL_KITTY + 1, HED_ENCODED_BAD_NUMBER);
+  refuses_event(parser, report, NULL, 0, HED_PROTOCOL_LEGACY, HED_ENCODED_BAD_NUMBER);
+  refuses_event(parser, key, NULL, 0, HED_PROTOCOL_LEGACY, HED_ENCODED_BAD_NUMBER);
+  refuses_event(parser, cut, NULL, 0, HED_PROTOCOL_LEGACY, HED_ENCODED_BAD_NUMBER);
+  refuses_event(parser, side, NULL, 0, HED_PROTOCOL_LEGACY, HED_ENCODED_BAD_NUMBER);
+  refuses_event(parser, (hed_extended_event){ .kind = HED_KIND_PASTE_PART }, TEXT("a"), HED_PROTOCOL_LEGACY, HED_ENCODED_BAD_NUMBER);
+  uint8_t room[4];
+  size_t sent_len = 99;
+  hed_extended_event focus = { .kind = HED_KIND_FOCUS_LOST };
+  EXPECT(hed_encode_event(&focus, NULL, 0, &none, room, sizeof room, &sent_len) == HED_ENCODED_NO_PARSER && sent_len == 0);
+}
+
+/* The parser that says how bytes are read keeps what it has buffered. */
+static void writes_beside_what_is_buffered(hed_extended *parser) {
+  hed_extended_event event = { .kind = HED_KIND_KEY, .input = { .kind = HED_KIND_KEY, .key = HED_KEY_CHAR, .detail = 'a' } };
+  uint8_t room[4];
+  size_t sent_len;
+  EXPECT(set_reading(parser, HED_PROTOCOL_LEGACY, false, 0) && hed_extended_feed(parser, (const uint8_t *)"\033[1;", 4));
+  for (int i = 0; i < 2; i++)
+    EXPECT(hed_encode_event(&event, NULL, 0, parser, room, sizeof room, &sent_len) == HED_ENCODED_TEXT && sent_len == 1 && room[0] == 'a');
+  EXPECT(hed_extended_waiting_len(parser) == 4 && hed_extended_reset(parser) == 4);
 }
 
 static void is_written(uint32_t answer, const uint8_t *room, const size_t *sent_len, const char *wanted) {
@@ -1785,27 +1809,53 @@ static void expires(const hed_extended *other) {
 
 /* The limits that are set hold. A flush goes on whatever the time is, unless bytes are fed. What it hasn't emitted yet may not wait. */
 static void expires_by_its_limits(const hed_extended *other) {
-  static const hed_policy never = { -1, -1, -1, -1, -1, -1 }, at_once = { 0, 0, 0, 0, 0, 0 };
+  static const hed_policy never = { -1, -1, -1, -1, -1, -1 }, soon = { 1, 1, 1, 1, 1, 1 };
   hed_extended parser = HED_EXTENDED_NONE;
   hed_extended_event event;
+  uint64_t now = 1 << 20;
   EXPECT(hed_extended_init_sharing(&parser, HED_PROTOCOL_KITTY, other) && hed_extended_set_policy(&parser, &never));
   told[0] = '\0';
   feed(&parser, TEXT("\033]0;ab"), true);
-  EXPECT(hed_extended_timeout(&parser, 1 << 20) == -1 && hed_extended_expire(&parser, 1 << 20, &event) == HED_NEXT_NONE);
-  EXPECT(hed_extended_reset(&parser) == 6 && hed_extended_set_policy(&parser, &at_once));
+  EXPECT(hed_extended_timeout(&parser, now) == -1 && hed_extended_expire(&parser, now, &event) == HED_NEXT_NONE);
+  EXPECT(hed_extended_reset(&parser) == 6 && hed_extended_set_policy(&parser, &soon));
   feed(&parser, TEXT("\033[200~ab"), true);
-  EXPECT(hed_extended_expire(&parser, 1 << 20, &event) == HED_NEXT_EVENT);
+  EXPECT(hed_extended_timeout(&parser, now) == 1 && hed_extended_expire(&parser, now, &event) == HED_NEXT_NONE);
+  EXPECT(hed_extended_expire(&parser, ++now, &event) == HED_NEXT_EVENT);
   tell_event(&parser, &event);
-  EXPECT(hed_extended_expire(&parser, 1 << 20, &event) == HED_NEXT_NONE && hed_extended_waiting_len(&parser) == 0);
+  EXPECT(hed_extended_expire(&parser, now, &event) == HED_NEXT_NONE && hed_extended_waiting_len(&parser) == 0);
   feed(&parser, TEXT("\033[1;"), true);
-  EXPECT(hed_extended_timeout(&parser, 1 << 20) == 0 && hed_extended_set_policy(&parser, &never));
-  EXPECT(hed_extended_expire(&parser, 1 << 20, &event) == HED_NEXT_NONE && hed_extended_set_policy(&parser, &at_once));
-  EXPECT(hed_extended_expire(&parser, 1 << 20, &event) == HED_NEXT_EVENT && hed_extended_expire(&parser, 0, &event) == HED_NEXT_EVENT);
+  EXPECT(hed_extended_timeout(&parser, now) == 1 && hed_extended_set_policy(&parser, &never));
+  EXPECT(hed_extended_expire(&parser, ++now, &event) == HED_NEXT_NONE && hed_extended_set_policy(&parser, &soon));
+  EXPECT(hed_extended_expire(&parser, now, &event) == HED_NEXT_EVENT && hed_extended_expire(&parser, 0, &event) == HED_NEXT_EVENT);
   tell_event(&parser, &event);
   EXPECT(hed_extended_set_policy(&parser, &never) && hed_extended_timeout(&parser, 0) == 0);
   EXPECT(FEED(&parser, "q") && hed_extended_timeout(&parser, 0) == -1 && hed_extended_expire(&parser, 0, &event) == HED_NEXT_NONE);
   tell_events(&parser, true);
   EXPECT(strcmp(told, "Paste(ab); 1; ;; q; ") == 0);
+  hed_extended_free(&parser);
+}
+
+/* A policy that names one limit has the usual ones besides. So the rest of a paste that is cut after its first read isn't typed. */
+static void has_usual_limits_besides(const hed_extended *other) {
+  static const hed_policy policy = { .escape = 25 };
+  hed_extended parser = HED_EXTENDED_NONE;
+  hed_extended_event event;
+  EXPECT(hed_extended_init_sharing(&parser, HED_PROTOCOL_LEGACY, other) && hed_extended_set_policy(&parser, &policy));
+  told[0] = '\0';
+  for (uint64_t now = 0; now < 2 << 20; now += 1 << 20) {
+    feed(&parser, TEXT("\033"), true);
+    EXPECT(hed_extended_timeout(&parser, now) == 25 && hed_extended_expire(&parser, now + 25, &event) == HED_NEXT_EVENT);
+    tell_event(&parser, &event);
+    feed(&parser, TEXT("\033[200~rm -r "), true);
+    EXPECT(hed_extended_timeout(&parser, now + 25) == -1 && hed_extended_expire(&parser, now + 9999, &event) == HED_NEXT_NONE);
+    feed(&parser, TEXT("~\r\033[201~"), true);
+    tell_events(&parser, true);
+    feed(&parser, TEXT("\033["), true);
+    EXPECT(hed_extended_timeout(&parser, now + 9999) == 100 && hed_extended_reset(&parser) == 2);
+    feed(&parser, TEXT("\033[1"), true);
+    EXPECT(hed_extended_timeout(&parser, now + 9999) == 1000 && hed_extended_reset(&parser) == 3);
+  }
+  EXPECT(strcmp(told, "Escape; Paste(rm -r ~\r); Escape; Paste(rm -r ~\r); ") == 0);
   hed_extended_free(&parser);
 }
 
@@ -1967,6 +2017,7 @@ int main(void) {
   expects_positions(&parser);
   expires(&parser);
   expires_by_its_limits(&parser);
+  has_usual_limits_besides(&parser);
   hed_extended_free(&parser);
   hed_extended_free(&parser);
   keeps_texts_past_other_events();
@@ -1990,7 +2041,8 @@ int main(void) {
   encodes_pastes(&parser);
   encodes_mouse_reports(&parser);
   writes_events(&parser);
-  refuses_events();
+  refuses_events(&parser);
+  writes_beside_what_is_buffered(&parser);
   writes_replies();
   hed_extended_free(&parser);
   return expected("test_extended");

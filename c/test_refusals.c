@@ -159,7 +159,7 @@ static void refuse_while_ending(bool is_part) {
 
 /* Makes one of the calls that tell the time of a parser in which an ESC waits. Returns whether it was granted. */
 static bool ask_time(hed_parser *parser, int call, hed_event *event) {
-  static const hed_policy policy = { 7, 7, 7, 7, 7, 0 };
+  static const hed_policy policy = { 7, 7, 7, 7, 7, 7 };
   if (call == 0) return hed_parser_set_policy(parser, &policy);
   if (call == 1) return hed_parser_timeout(parser, 1000) == 50;
   return hed_parser_expire(parser, 1000, event) == HED_NEXT_NONE;
@@ -195,11 +195,12 @@ static void refuse_time(void) {
 /* An open paste that is due, with the memory for the time or for its text refused. */
 static void refuse_while_expiring(void) {
   static const char open[] = "\033[200~text";
-  static const hed_policy policy = { 50, 100, 1000, 5000, -1, 0 };
+  static const hed_policy policy = { .paste = 1 };
   hed_parser parser = HED_PARSER_NONE;
   hed_event event;
   EXPECT(hed_parser_init(&parser) && hed_parser_set_policy(&parser, &policy));
   EXPECT(hed_parser_feed(&parser, (const uint8_t *)open, sizeof open - 1) && hed_parser_next(&parser, true, &event) == HED_NEXT_NONE);
+  EXPECT(hed_parser_timeout(&parser, 4) == 1);
   for (int again = 0; again < 2; again++) {
     refuse(1);
     EXPECT(hed_parser_expire(&parser, 5, &event) == HED_NEXT_NO_MEMORY && refused == 1);

@@ -427,7 +427,8 @@ def test_times_are_rounded(parser):
     """Whole milliseconds count, also those that a float just misses."""
     assert parser.parse(b"\x1b") == []
     for limit, left in [
-        (0, 0.0),
+        (0, 0.001),
+        (0.0009, 0.001),
         (0.0019, 0.001),
         (1.001, 1.001),
         (3, 3.0),

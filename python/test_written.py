@@ -46,9 +46,18 @@ LEGACY, KITTY = Reading(Protocol.LEGACY), Reading(Protocol.KITTY)
 SHIFT, ALT, CTRL = Modifiers.SHIFT, Modifiers.ALT, Modifiers.CTRL
 PRIVATE = "\ue000"
 
+
+def parser_by(reading):
+    parser = ExtendedParser(reading.protocol)
+    parser.reading = reading
+    return parser
+
+
 # Events and what they are written as, by every reading.
 ROWS = [
     (KeyEvent(KeyCode.ENTER), b"\r"),
+    (KeyEvent("a"), b"a"),
+    (KeyEvent("é"), "é".encode()),
     (KeyEvent("é", ALT), b"\x1b\xc3\xa9"),
     (KeyEvent("[", ALT), b"\x1b["),
     (MouseEvent(3, 4, MouseButtons.LEFT, SHIFT), b"\x1b[<4;3;4M"),
@@ -58,6 +67,8 @@ ROWS = [
         KeyReport("a", KittyModifiers.SHIFT, KeyEventKind.RELEASE, "A", "c"),
         b"\x1b[97:65:99;2:3u",
     ),
+    (KeyReport("a", shifted="A"), b"\x1b[97:65u"),
+    (KeyReport("a", base="c", kind=KeyEventKind.RELEASE), b"\x1b[97::99;:3u"),
     (KeyReport("a", base="c", text="a"), b"\x1b[97::99;;97u"),
     (KeyReport("a", kind=KeyEventKind.REPEAT, text="a"), b"\x1b[97;:2;97u"),
     (KeyReport(KeyCode.UP_ARROW, KittyModifiers.SUPER, KeyEventKind.REPEAT), b"\x1b[1;9:2A"),
@@ -95,6 +106,8 @@ UNWRITTEN = [
     KeyReport(PRIVATE, text="a"),
     KeyReport(KeyCode.UP_ARROW, text="a"),
     KeyReport(KeyCode.COPY),
+    CursorPosition(0, 5),
+    CursorPosition(5, 0),
     SideButton(7, SideButtonKind.PRESS, 1, 1),
     SideButton(8, SideButtonKind.PRESS, 1, 1, Modifiers.SUPER),
     Csi(b"I"),
@@ -117,39 +130,47 @@ LONG = [
 @pytest.mark.parametrize("reading", [LEGACY, KITTY])
 @pytest.mark.parametrize("event, sent", ROWS, ids=lambda it: repr(it)[:40])
 def test_rows(event, sent, reading):
-    assert encode_event(event, reading) == sent
     parser = ExtendedParser(reading.protocol)
+    assert encode_event(event, parser) == sent
     assert list(parser.parse(sent, maybe_more=not isinstance(event, KeyEvent))) == [event]
     assert parser.waiting_len == 0
 
 
 def test_rows_of_one_reading():
+    legacy, kitty = parser_by(LEGACY), parser_by(KITTY)
     up = KeyEvent(KeyCode.UP_ARROW, CTRL)
-    assert encode_event(up, LEGACY) == b"\x1b[1;5A"
-    assert encode_event(up, KITTY) == b"\x1bOa"
+    assert encode_event(up, legacy) == b"\x1b[1;5A"
+    assert encode_event(up, kitty) == b"\x1bOa"
     with pytest.raises(EncodeError, match="no bytes are read as this KeyEvent"):
-        encode_event(KeyEvent(KeyCode.UP_ARROW), KITTY)
-    # A character of ASCII has rows, which are key reports by Kitty's protocol.
-    assert encode_event(KeyEvent("a"), LEGACY) == b"\x1b[27;1;97~"
-    assert encode_event(KeyEvent("a"), KITTY) == b"a"
+        encode_event(KeyEvent(KeyCode.UP_ARROW), kitty)
+    # With Alt a character of ASCII has rows, which are key reports by Kitty's protocol.
+    assert encode_event(KeyEvent("a", Modifiers.ALT), legacy) == b"\x1b[27;3;97~"
+    assert encode_event(KeyEvent("a", Modifiers.ALT), kitty) == b"\x1ba"
     # While a reply is expected, this row is the position of the cursor.
-    asked = Reading(Protocol.LEGACY, questions=1)
+    asked = parser_by(Reading(Protocol.LEGACY, questions=1))
     assert encode_event(KeyEvent(hedrugal.Function(3), CTRL), asked) != b"\x1b[1;5R"
-    # By default the reading is that of a new parser.
-    assert encode_event(up) == encode_event(up, LEGACY)
+
+
+def test_what_is_buffered_stays():
+    with ExtendedParser() as parser:
+        assert list(parser.parse(b"\x1b[1;")) == []
+        assert [encode_event(KeyEvent("a"), parser) for _ in range(2)] == [b"a"] * 2
+        assert list(parser.parse(b"5A")) == [KeyEvent(KeyCode.UP_ARROW, CTRL)]
+    with pytest.raises(ValueError):
+        encode_event(KeyEvent("a"), parser)
 
 
 @pytest.mark.parametrize("reading", [LEGACY, KITTY])
 @pytest.mark.parametrize("event", UNWRITTEN)
 def test_no_bytes(event, reading):
     with pytest.raises(EncodeError, match="no bytes are read"):
-        encode_event(event, reading)
+        encode_event(event, parser_by(reading))
 
 
 @pytest.mark.parametrize("event", LONG)
 def test_too_long(event):
     with pytest.raises(EncodeError, match="is too long"):
-        encode_event(event)
+        encode_event(event, ExtendedParser())
 
 
 def texts():
@@ -188,19 +209,17 @@ def test_what_is_read_is_written(reading):
         parser.reset()
     whole = [event for event in seen if not isinstance(event, (StringPart, StringCut))]
     assert len(whole) > 1000
-    # The sequence table is made for each key of the port: so few of them.
-    plain = [event for event in whole if not isinstance(event, (KeyEvent, Csi))]
-    for event in plain + [event for event in whole if isinstance(event, (KeyEvent, Csi))][::20]:
-        sent = encode_event(event, reading)
-        parser.reset()
+    for event in whole:
         parser.reading = reading
+        sent = encode_event(event, parser)
         assert list(parser.parse(sent, maybe_more=not isinstance(event, KeyEvent))) == [event], sent
         assert parser.waiting_len == 0
 
 
 def test_replies():
     assert encode_cursor_position(1, 5) == b"\x1b[1;5R"
-    assert encode_cursor_position(65535, 0, private=True) == b"\x1b[?65535;0R"
+    assert encode_cursor_position(65535, 2, private=True) == b"\x1b[?65535;2R"
+    assert list(ExtendedParser().parse(encode_cursor_position(0, 2))) == [Csi(b"0;2R")]
     assert encode_colour_scheme(ColourScheme.DARK) == b"\x1b[?997;1n"
     assert encode_colour_scheme(ColourScheme.LIGHT) == b"\x1b[?997;2n"
     assert encode_device_attributes([]) == b"\x1b[?c"
@@ -211,9 +230,10 @@ def test_replies():
 
 
 def test_bad_values():
+    parser = ExtendedParser()
     for event in (None, "a", KeyEvent("a", None), MouseEvent(1, 1, None)):
         with pytest.raises(TypeError):
-            encode_event(event)
+            encode_event(event, parser)
     with pytest.raises(TypeError):
         encode_event(FocusGained(), Protocol.KITTY)
     for event in (
@@ -222,9 +242,9 @@ def test_bad_values():
         SideButton(300, SideButtonKind.PRESS, 1, 1),
     ):
         with pytest.raises(EncodeError):
-            encode_event(event)
+            encode_event(event, parser)
     with pytest.raises(EncodeError):
-        encode_event(Paste("\ud800"))
+        encode_event(Paste("\ud800"), parser)
     with pytest.raises(EncodeError):
         encode_cursor_position(-1, 1)
     with pytest.raises(TypeError):
@@ -235,4 +255,4 @@ def test_bad_values():
 def test_answers(answer, error):
     with mock.patch.object(hedrugal._library, "hed_encode_event", lambda *_: answer):
         with pytest.raises(error):
-            encode_event(FocusGained())
+            encode_event(FocusGained(), ExtendedParser())

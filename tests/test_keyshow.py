@@ -55,7 +55,7 @@ WRITES = [(1, [A, B, b"", b"", UP, C]), (2, [A + B, b"", UP + C]), (4096, [A + B
 RIGHT = [(64,), (1, "1"), (2, "2"), (64, "64"), (64, "0064"), (4096, "4096"), (1, "0001"), (9, "9")]
 WRONG = [[it] for it in "0 0000 4097 9999 00001 +5 -5 0x5 x 6x foo 5foo \u0664".split()]
 WRONG += [[" 5"], [""], [b"\xff"], [b"5\xff"], ["5", b"\xff"], [b"\xff", "5"], ["", "5"], ["5", ""]]
-WRONG += [it.split() for it in ("1 2", "5 foo", "foo 5", "x 2 3", "5 5", "5 5 5")]
+WRONG += [it.split() for it in ("1 2", "5 foo", "foo 5", "x 2 3", "5 5", "5 5 5", "--help", "--help 5")]
 
 
 def run(words, source, target=subprocess.PIPE, **others):
@@ -119,17 +119,6 @@ def test_refuses(words):
     with file_of(b"abc\n") as source:
         assert run(words, source) == (b"", b"usage: keyshow [PIECE]\n", 2)
         assert unread(source) == 4
-
-
-def test_helps():
-    """By the word --help alone, and it reads nothing."""
-    with file_of(b"abc\n") as source:
-        printed, errors, status = run(["--help"], source)
-        assert printed.startswith(b"usage: keyshow [PIECE]\n\n") and printed.endswith(b"\n")
-        assert (errors, status, unread(source)) == (b"", 0, 4)
-        with open("/dev/full", "wb") as full:
-            assert run(["--help"], source, full) == (None, b"keyshow: write failed\n", 1)
-        assert run(["--help", "1"], source) == (b"", b"usage: keyshow [PIECE]\n", 2)
 
 
 @pytest.mark.parametrize("text, lines", PRINTED, ids=[repr(text) for text, _ in PRINTED])

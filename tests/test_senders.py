@@ -7,6 +7,7 @@ import pytest
 from terminal_data import data_files, load
 
 from hedrugal import (
+    ExtendedParser,
     FocusGained,
     FocusLost,
     Modifiers,
@@ -15,7 +16,6 @@ from hedrugal import (
     MouseReport,
     MouseTracking,
     Protocol,
-    Reading,
     encode_event,
     encode_paste,
 )
@@ -109,4 +109,4 @@ def test_focus():
     assert Counter(line.what for line in lines) == {"gained": 7, "lost": 8}
     for line in lines:
         for protocol in Protocol:
-            assert encode_event(FOCUS[line.what], Reading(protocol)) == line.bytes
+            assert encode_event(FOCUS[line.what], ExtendedParser(protocol)) == line.bytes

@@ -10,6 +10,7 @@ turn, and of each the least time counts. What is printed is what docs/PERFORMANC
 - how many events each parser makes of an input, where these aren't its items
 - what many parsers cost that get reads in turn
 - what names of keys, bindings and a matcher cost, from C
+- what it costs to write an event of each kind as bytes, from C
 - processor time for an event through each layer over a terminal: those in C, Rust and Python, and
   crossterm's
 
@@ -100,6 +101,11 @@ class Builder:
         run("cc", "-O2", f"-I{self.library}", "-o", program, *sources, library)
         return [program, "figures"]
 
+    def written(self):
+        program, library = f"{self.work}/written", f"{self.library}/libhedrugal.a"
+        run("cc", "-O2", f"-I{self.library}", "-o", program, f"{TOOLS}/written.c", library)
+        return [program]
+
     def cargo(self, manifest, *words):
         words = ["build", "--quiet", "--offline", "--release", "--manifest-path", manifest, *words]
         run("cargo", *words, HEDRUGAL_LIBRARY=self.library, CARGO_TARGET_DIR=self.work)
@@ -187,10 +193,29 @@ TASKS = {
     "bind drawn": "to bind a chord, of 10,000 in no order",
     "unbind drawn": "to unbind a chord of these, in no order",
 }
+# The kinds of events of tools/measure/written.c, by the reading of Legacy.
+KINDS = {
+    "character": "a typed character",
+    "arrow": "an arrow key",
+    "row": "Alt and a letter, which has rows of the table",
+    "alt": "Alt and a character that has none",
+    "mouse": "a mouse report",
+    "paste": "a paste of 11 bytes",
+    "report": "a key report",
+    "focus": "a change of the focus",
+    "position": "a position of the cursor",
+    "size": "a new size",
+    "flags": "flags of Kitty's protocol",
+    "side": "a side button",
+    "csi": "a control sequence (DA1)",
+    "osc": "an OSC: a colour",
+    "dcs": "a DCS: a version",
+    "apc": "an APC: a reply of Kitty's graphics",
+}
 
 
 def build(chosen, work):
-    """Returns the programs, why some couldn't be built, and the tasks."""
+    """Returns the programs, why some couldn't be built, and what is measured besides."""
     progress("building the library")
     run("make", "-s", "library", f"LIBRARY={chosen.library or ''}")
     builder = Builder(f"{work}/built", chosen.library or f"{TOP}/out/lib")
@@ -208,7 +233,8 @@ def build(chosen, work):
     progress("building the layers")
     is_whole = {"C", "Rust", "Python", "crossterm"} <= {*programs}
     layers = [Layers(work, builder.layers())] if is_whole else []
-    return programs, missing, [Tasks(builder.tasks())] if "C" in programs else [], layers
+    from_c = [Tasks(builder.tasks()), Written(builder.written())] if "C" in programs else []
+    return programs, missing, from_c, layers
 
 
 class Input:
@@ -247,6 +273,8 @@ class Cell:
 class Tasks:
     """The least nanoseconds of each task, a time, and its bytes of heap."""
 
+    title, heads = "Names and bindings", ["From C", "ns", "bytes of heap"]
+
     def __init__(self, words):
         self.words, self.costs = words, {}
 
@@ -261,6 +289,23 @@ class Tasks:
         for task, title in TASKS.items():
             time, heap = self.costs[task]
             yield [title, figure(time), f"{heap:.0f}" if task.startswith("bind") else ""]
+
+
+class Written:
+    """The least nanoseconds of each kind of event that is written."""
+
+    title, heads = "Events to bytes", ["From C", "ns"]
+
+    def __init__(self, words):
+        self.words, self.times = words, {}
+
+    def measure(self):
+        for kind, time in map(str.split, run(*self.words).splitlines()):
+            self.times[kind] = min(float(time), self.times.get(kind, float(time)))
+
+    def rows(self):
+        for kind, title in KINDS.items():
+            yield [title, figure(self.times[kind])]
 
 
 class Layers:
@@ -336,7 +381,7 @@ def costs(many):
 
 def report(chosen, work):
     """Builds and measures, and returns the text."""
-    programs, missing, tasks, layers = build(chosen, work)
+    programs, missing, from_c, layers = build(chosen, work)
     size = chosen.kilobytes << 10
     inputs = {name: Input(work, name, size) for name in chosen.inputs or TITLES}
     cells = {}
@@ -349,7 +394,7 @@ def report(chosen, work):
         many[it, count] = [Cell(programs[it], each, chosen.read, count) for each in given]
     for number in range(chosen.runs):
         progress(f"pass {number + 1} of {chosen.runs}")
-        for cell in [*cells.values(), *sum(many.values(), []), *tasks, *layers]:
+        for cell in [*cells.values(), *sum(many.values(), []), *from_c, *layers]:
             cell.measure()
 
     columns = chosen.only
@@ -364,8 +409,8 @@ def report(chosen, work):
         "## Many parsers",
         table(["Parser", "how many", *costs_of.split(", ")], costs(many)),
     ]
-    for it in tasks:
-        parts += ["## Names and bindings", table(["From C", "ns", "bytes of heap"], it.rows())]
+    for it in from_c:
+        parts += [f"## {it.title}", table(it.heads, it.rows())]
     for it in layers:
         parts += [
             "## Nanoseconds for a character through a layer over a terminal",

@@ -472,8 +472,8 @@ class Completions:
 
 
 class Policy(NamedTuple):
-    """How long each kind of bytes may stay buffered, in seconds; None is forever. The defaults are
-    the usual limits. See `InputParser.policy`.
+    """How long each kind of bytes may stay buffered, in seconds; None is forever, and a millisecond
+    the least. The defaults are the usual limits. See `InputParser.policy`.
 
     escape: ESC or ESC ESC, since bytes last came. Then it is the Escape key.
     alt_key: ESC and one byte that may begin a sequence, such as ESC [, since the ESC came. Then it
@@ -668,6 +668,7 @@ _ENCODED_TOO_LONG = 4
 _ENCODED_BAD_TEXT = 5
 _ENCODED_TOO_FAR = 6
 _ENCODED_NO_TEXT = 7
+_ENCODED_NO_PARSER = 8
 # numbers.txt: end
 # numbers.txt: found private
 _FOUND_NONE = 0
@@ -1025,7 +1026,7 @@ def _wait_of(millis: int) -> Optional[float]:
 def _raw_policy(policy: Policy) -> _RawPolicy:
     if not isinstance(policy, Policy):
         raise TypeError(f"a Policy is required, not {type(policy).__name__}")
-    return _RawPolicy(*map(_limit_millis, policy))
+    return _RawPolicy(*(_limit_millis(limit) or 1 for limit in policy))
 
 
 def _millis_of_now(now: Optional[float]) -> Callable[[], int]:

@@ -1,11 +1,12 @@
 r"""Events to the bytes that a parser reads as them, and what a terminal replies.
 
     >>> from hedrugal import KeyCode, KeyEvent, Modifiers
-    >>> encode_event(KeyEvent(KeyCode.UP_ARROW, Modifiers.CTRL))
+    >>> parser = ExtendedParser()
+    >>> encode_event(KeyEvent(KeyCode.UP_ARROW, Modifiers.CTRL), parser)
     b'\x1b[1;5A'
-    >>> encode_event(Csi(b"?62;22c"))
+    >>> encode_event(Csi(b"?62;22c"), parser)
     b'\x1b[?62;22c'
-    >>> encode_event(FocusGained())
+    >>> encode_event(FocusGained(), parser)
     b'\x1b[I'
 
 A program imports these names from the package hedrugal."""
@@ -55,60 +56,63 @@ from . import (
 )
 from .extended import (
     _EVENT,
-    _READING,
+    _PARSER,
     Apc,
     Csi,
     CursorPosition,
     Dcs,
     ExtendedEvent,
+    ExtendedParser,
     FocusGained,
     FocusLost,
     KeyboardFlags,
     KeyReport,
     Osc,
-    Protocol,
-    Reading,
     Resize,
     SideButton,
     SideButtonKind,
     StringCut,
     StringKind,
     StringPart,
-    _raw_reading,
     _raw_report,
     _RawExtendedEvent,
 )
 from .replies import ColourScheme
 
 
-def encode_event(event: ExtendedEvent, reading: Reading = Reading(Protocol.LEGACY)) -> bytes:
-    """Returns bytes that an ExtendedParser with this reading reads as the event, whatever the
-    terminal sent. A multiplexer passes replies on by it, and a test writes what it feeds to a
-    parser.
+def encode_event(event: ExtendedEvent, parser: ExtendedParser) -> bytes:
+    """Returns bytes that the parser reads as the event, whatever the terminal sent. A multiplexer
+    passes replies on by it, and a test writes what it feeds to a parser. The parser says how they
+    are read, by its reading and its sequence table. What it has buffered doesn't matter, and stays.
 
     With no more to come the bytes are that event alone, and nothing stays buffered. That is so with
     more to come too, but for a KeyEvent, whose text may begin a sequence. A KeyEvent is written as
-    a row of the sequence table or as its character, and a KeyReport in the form of Kitty's
-    protocol, with what happened to the key always told. Keys as a terminal sends them are those of
-    encode and of KeyReport.encode.
+    what a terminal sends for it, as its character, or as a row of the sequence table. A KeyReport
+    is written in the form of Kitty's protocol, with what happened to the key always told. Keys as a
+    terminal sends them are those of encode and of KeyReport.encode.
 
     Raises EncodeError, which is a ValueError, if no bytes are read as the event: a StringPart, a
-    StringCut, a paste that has ESC [201~ in it, and an event that no parser makes. It is also
-    raised for a sequence of more than 256 bytes, and for a string of 65535 before its end. Raises
-    MemoryError if memory is refused."""
+    StringCut, a paste that has ESC [201~ in it, and an event that no parser makes, such as a
+    position with a 0. It is also raised for a sequence of more than 256 bytes, and for a string of
+    65535 before its end. Raises MemoryError if memory is refused."""
+    if not isinstance(parser, ExtendedParser):
+        raise TypeError(f"an ExtendedParser is required, not {type(parser).__name__}")
     raw = _raw_event(event)
     text, text_len = _borrowed(_bytes_of(event))
-    by = _raw_reading(reading)
 
     def call(out: Any, size: int, length: ctypes.c_size_t) -> int:
-        return int(_library.hed_encode_event(raw, text, text_len, by, out, size, length))
+        with parser._lock:
+            parser._check_open()
+            by = parser._raw
+            return int(_library.hed_encode_event(raw, text, text_len, by, out, size, length))
 
     return _bytes_sent(call, type(event).__name__)
 
 
 def encode_cursor_position(row: int, column: int, private: bool = False) -> bytes:
     """Returns what a terminal replies to a question for the position of its cursor. private says
-    that the question was ESC [?6n, and not ESC [6n. The first row and the first column are 1.
+    that the question was ESC [?6n, and not ESC [6n. The first row and the first column are 1: a
+    reply with a 0 is read as a Csi.
 
     Not private, a reply for row 1 and the columns 1 to 16 has the bytes of F3 with modifiers. A
     program reads it as the position if it expects one.
@@ -255,7 +259,7 @@ def _set_place(raw: _RawExtendedEvent, event: Union[MouseEvent, SideButton]) -> 
 _CALLS: Dict[str, Tuple[Any, List[Any]]] = {
     "hed_encode_event": (
         ctypes.c_uint32,
-        [_EVENT, _BYTES, ctypes.c_size_t, _READING, _BYTES, ctypes.c_size_t, _COUNT],
+        [_EVENT, _BYTES, ctypes.c_size_t, _PARSER, _BYTES, ctypes.c_size_t, _COUNT],
     ),
     "hed_encode_cursor_position": (
         ctypes.c_uint32,

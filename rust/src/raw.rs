@@ -56,6 +56,8 @@ pub const ENCODED_BAD_TEXT: u32 = 5;
 pub const ENCODED_TOO_FAR: u32 = 6;
 /// No bytes are read as the event.
 pub const ENCODED_NO_TEXT: u32 = 7;
+/// There is no parser: it wasn't made yet, or it was freed.
+pub const ENCODED_NO_PARSER: u32 = 8;
 // numbers.txt: end
 
 // numbers.txt: found const
@@ -803,7 +805,7 @@ extern "C" {
         event: *const ExtendedEvent,
         text: *const u8,
         text_len: usize,
-        reading: *const Reading,
+        parser: *const Extended,
         out: *mut u8,
         len: usize,
         sent_len: *mut usize,

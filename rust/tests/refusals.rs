@@ -729,7 +729,6 @@ fn sends_pastes_and_mouse_reports_after_a_refusal() {
 
 #[test]
 fn writes_events_after_a_refusal() {
-    let reading = Reading::new(Protocol::Legacy);
     let mut parser = ExtendedParser::new(Protocol::Legacy);
     for written in [
         &b"\x1b[A"[..],
@@ -738,7 +737,7 @@ fn writes_events_after_a_refusal() {
         b"\x1b]52;c;some text that needs memory\x1b\\",
     ] {
         let events = parser.parse_as_vec(written, false);
-        let write = || events[0].try_encode(reading);
+        let write = || events[0].try_encode(&parser);
         sends_after_a_refusal(write, &EncodeEventError::Memory, &written.to_vec());
     }
 }

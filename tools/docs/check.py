@@ -30,6 +30,9 @@ Markers:
 <!-- not run: REASON -->
 <!-- "WORDS": NAME in FILE -->      WORDS stand in the paragraph, list or table at the marker; the
                                     number in them is that of NAME in the file
+<!-- "WORDS": TEXT counted in PATTERN .. -->
+<!-- "WORDS": files PATTERN .. -->  the same; the number in them is how often the text stands in the
+                                    files of these patterns, or how many files there are
 
 TEXT goes to the program's standard input. With `typed` it is a pseudo-terminal's, and each further
 TEXT is typed once the program has printed something for the one before; after a text that prints
@@ -193,17 +196,33 @@ def check_path(code, bases):
         raise Failed(f"no such option: {code}")
 
 
+def files_of(patterns):
+    """The files of patterns that spaces part."""
+    return [file for it in patterns.split() for file in glob.glob(it, recursive=True)]
+
+
+def value_of(source):
+    """The number that a marker quotes, as text. None if there is none."""
+    if named := re.fullmatch(r"(\w+) in (\S+)", source):
+        wanted = re.search(rf"\b{named[1]}\b(?:[^=\n]*=)? *(?:Some )?(\d+)", read(named[2]))
+        return wanted and wanted[1]
+    if counted := re.fullmatch(r"(.+) counted in (.+)", source):
+        return str(sum(read(file).count(counted[1]) for file in files_of(counted[2])))
+    if listed := re.fullmatch(r"files (.+)", source):
+        return str(len(files_of(listed[1])))
+    return None
+
+
 def check_quote(text, marker):
-    """Checks that a phrase stands around its marker, and its number beside the name in the file."""
-    parts = re.fullmatch(r'<!-- "(\D*(\d+).*)": (\w+) in (\S+) -->', marker)
+    """Checks that a phrase stands around its marker, and that its number is what is quoted."""
+    parts = re.fullmatch(r'<!-- "(\D*(\d+).*)": (.+) -->', marker)
     if not parts:
         raise Failed(f"what is {marker}? tools/docs.sh --help lists the markers")
-    phrase, number, name, source = parts.groups()
+    phrase, number, source = parts.groups()
     if phrase not in text:
         raise Failed(f'"{phrase}" isn\'t beside its marker')
-    wanted = re.search(rf"\b{name}\b(?:[^=\n]*=)? *(?:Some )?(\d+)", read(source))
-    if not wanted or wanted[1] != number:
-        raise Failed(f'"{phrase}" isn\'t what {name} is in {source}')
+    if value_of(source) != number:
+        raise Failed(f'"{phrase}" isn\'t what {source} has')
 
 
 def checks_of(file):

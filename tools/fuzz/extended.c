@@ -259,41 +259,41 @@ typedef struct told_event {
   hed_reading by;
 } told_event;
 
+/* `back` has the reading. */
 static uint32_t write_told(const void *key, uint8_t *out, size_t capacity, size_t *len) {
-  static room numbers, bytes, by;
+  static room numbers, bytes;
   const told_event *it = key;
   room_with(&numbers, it->told, sizeof *it->told);
   room_with(&bytes, it->bytes, it->told->text_len);
-  room_with(&by, &it->by, sizeof it->by);
-  uint32_t encoded =
-      hed_encode_event((event *)numbers.at, pointer_to(&bytes), it->told->text_len, (hed_reading *)by.at, out, capacity, len);
-  HOLDS(is_unchanged(&numbers, it->told) && is_unchanged(&bytes, it->bytes) && is_unchanged(&by, &it->by));
+  uint32_t encoded = hed_encode_event((event *)numbers.at, pointer_to(&bytes), it->told->text_len, &back, out, capacity, len);
+  HOLDS(is_unchanged(&numbers, it->told) && is_unchanged(&bytes, it->bytes) && hed_extended_waiting_len(&back) == 0);
   return encoded;
 }
 
 /* What is written is read as the event. With more to come that is so for all but keys. */
 static void read_written(const sent *all, const told_event *it) {
   static uint8_t of_read[WRITTEN_MAX];
-  static const hed_reading kitty = { HED_PROTOCOL_KITTY, false, 0 };
   event read, other;
   bool more = it->told->kind != HED_KIND_KEY;
-  HOLDS(hed_extended_set_reading(&back, &it->by) && hed_extended_feed(&back, all->bytes, all->len));
+  HOLDS(hed_extended_feed(&back, all->bytes, all->len));
   HOLDS(hed_extended_next(&back, more, &read) == HED_NEXT_EVENT && same_extended_event(&read, it->told));
   HOLDS(read.text_len == 0 || hed_extended_text(&back, of_read, sizeof of_read) == it->told->text_len);
   HOLDS(memcmp(of_read, it->bytes, read.text_len) == 0);
   HOLDS(hed_extended_next(&back, more, &other) == HED_NEXT_NONE && hed_extended_waiting_len(&back) == 0);
-  HOLDS(hed_extended_set_reading(&back, &kitty));
 }
 
 /* Each event but a part of a string and a string that was cut off is written. */
 static void write_event(const told_event *it) {
   static sent all, front;
+  static const hed_reading kitty = { HED_PROTOCOL_KITTY, false, 0 };
   bool is_part = it->told->kind == HED_KIND_STRING_PART || it->told->kind == HED_KIND_STRING_CUT;
   size_t some = it->told->text_len % 8;
+  HOLDS(hed_extended_set_reading(&back, &it->by));
   encode(&all, write_told, it, WRITTEN_MAX + AROUND_MAX);
   encode(&front, write_told, it, some);
   HOLDS(all.encoded == (is_part ? HED_ENCODED_NO_TEXT : HED_ENCODED_TEXT) && same_sent(&all, &front, some));
   if (!is_part) read_written(&all, it);
+  HOLDS(hed_extended_set_reading(&back, &kitty));
   note(0xa0000u | it->told->kind, all.encoded);
 }
 

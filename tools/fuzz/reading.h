@@ -151,12 +151,12 @@ static void begin(reading *it) {
   DROP_TEXT(parser);
 }
 
-/* The same by limits of 0, to which a string adds a millisecond for each byte. */
+/* The same by limits of 1, to which a string adds a millisecond for each byte. */
 static void expire(reading *it, size_t len) {
-  static const hed_policy at_once = { 0, 0, 0, 0, 0, 0 };
-  int32_t due = it->rest == 0 ? -1 : CALL(waiting)(parser) == HED_WAITING_STRING ? (int32_t)it->rest : 0;
-  HOLDS(CALL(set_policy)(parser, &at_once) && CALL(timeout)(parser, 0) == due);
-  while (keep_answer(it, CALL(expire)(parser, it->rest, room_of(&taken, sizeof(event))))) continue;
+  static const hed_policy soon = { 1, 1, 1, 1, 1, 1 };
+  int32_t due = it->rest == 0 ? -1 : CALL(waiting)(parser) == HED_WAITING_STRING ? (int32_t)it->rest + 1 : 1;
+  HOLDS(CALL(set_policy)(parser, &soon) && CALL(timeout)(parser, 0) == due);
+  while (keep_answer(it, CALL(expire)(parser, it->rest + 1, room_of(&taken, sizeof(event))))) continue;
   HOLDS(it->count <= len && CALL(waiting_len)(parser) == 0);
 }
 

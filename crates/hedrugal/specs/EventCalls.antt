@@ -1,5 +1,5 @@
 -- Which event the numbers and the bytes of one stand for, and what it is written as; and what a terminal replies.
-use Rattle.std.specs.Prelude.{◌≡◌, ◌<◌, ℕ, List, length}
+use Rattle.std.specs.Prelude.{◌≡◌, ◌<◌, ℕ, List, length, Option}
 use Rattle.termwiz_keys.specs.declared.types.InputEvent.TheVariants as input
 use Rattle.termwiz_extended_events.specs.declared.types.ExtendedEvent.{ExtendedEvent}
 use Rattle.termwiz_extended_events.specs.declared.types.ExtendedEvent.TheVariants.{Input, Key, FocusGained, FocusLost, CursorPosition, Resize, KeyboardFlags, SideButton, Csi, Osc, Dcs, Apc, StringPart, StringCut}
@@ -7,12 +7,12 @@ use Rattle.termwiz_extended_events.specs.declared.types.Reading.{Reading}
 use Rattle.termwiz_bindings.specs.Numbers.{StandFor}
 use Rattle.termwiz_senders.specs.EventTexts.{IsEventText, IsRefused, IsTooLong}
 use Rattle.hedrugal.specs.declared.extended_events.CExtendedEvent.{CExtendedEvent}
-use Rattle.hedrugal.specs.declared.reading_calls.CReading.{CReading}
+use Rattle.hedrugal.specs.declared.extended_and_text.ExtendedAndText.{ExtendedAndText}
 use Rattle.hedrugal.specs.Calls.{copied}
 use Rattle.hedrugal.specs.ExtendedEvents.{kind_number, side_button_number, string_kind_number}
 use Rattle.hedrugal.specs.KittyCalls.{StandForReport}
 use Rattle.hedrugal.specs.Presses.{AreModifiers}
-use Rattle.hedrugal.specs.ReadingCalls as readings
+use Rattle.hedrugal.specs.ReadingCalls.{HasReading}
 
 -- the numbers and the bytes are those of this event, as far as its kind has a use for them
 abbrev pub Tells : CExtendedEvent → List ℕ → ExtendedEvent → Type 0
@@ -41,30 +41,31 @@ Tells n bytes (StringCut kind t) = (string_kind_number kind ≡ n.flags) × (t �
 abbrev pub StandForEvent : CExtendedEvent → List ℕ → ExtendedEvent → Type 0
 StandForEvent n bytes event = (n.kind ≡ kind_number event) × Tells n bytes event
 
--- what is asked for: an event and a reading
-pub record IsAskedFor (n : CExtendedEvent) (bytes : List ℕ) (by : CReading) (event : ExtendedEvent) (reading : Reading) : Type 0 where
+-- what is asked for: an event, and the reading of a parser
+pub record IsAskedFor (n : CExtendedEvent) (bytes : List ℕ) (held : Option ExtendedAndText) (event : ExtendedEvent) (reading : Reading)
+    : Type 0 where
   pub event_is : StandForEvent n bytes event
-  pub reading_is : readings.StandFor by reading
+  pub reading_is : HasReading held reading
 
 -- the event is written so: `out` has as much of the bytes as it has room for, and `len` is how many they are
-abbrev pub WroteEvent : CExtendedEvent → List ℕ → CReading → List ℕ → List ℕ → ℕ → Type 0
-WroteEvent n bytes by before after len =
-    (event : ExtendedEvent) × (reading : Reading) × (sent : List ℕ) × IsAskedFor n bytes by event reading
+abbrev pub WroteEvent : CExtendedEvent → List ℕ → Option ExtendedAndText → List ℕ → List ℕ → ℕ → Type 0
+WroteEvent n bytes held before after len =
+    (event : ExtendedEvent) × (reading : Reading) × (sent : List ℕ) × IsAskedFor n bytes held event reading
     × IsEventText reading event sent × (len ≡ length sent) × (after ≡ copied sent before)
 
 -- no bytes are read as the event
-abbrev pub HasNoText : CExtendedEvent → List ℕ → CReading → Type 0
-HasNoText n bytes by = (event : ExtendedEvent) × (reading : Reading) × IsAskedFor n bytes by event reading
+abbrev pub HasNoText : CExtendedEvent → List ℕ → Option ExtendedAndText → Type 0
+HasNoText n bytes held = (event : ExtendedEvent) × (reading : Reading) × IsAskedFor n bytes held event reading
     × IsRefused reading event
 
 -- the event would be longer than a sequence or a string may be
-abbrev pub HasLongText : CExtendedEvent → List ℕ → CReading → Type 0
-HasLongText n bytes by = (event : ExtendedEvent) × (reading : Reading) × IsAskedFor n bytes by event reading × IsTooLong event
+abbrev pub HasLongText : CExtendedEvent → List ℕ → Option ExtendedAndText → Type 0
+HasLongText n bytes held = (event : ExtendedEvent) × (reading : Reading) × IsAskedFor n bytes held event reading × IsTooLong event
     × IsRefused reading event
 
 -- a number stands for nothing
-abbrev pub IsBadEvent : CExtendedEvent → List ℕ → CReading → Type 0
-IsBadEvent n bytes by = (event : ExtendedEvent) (reading : Reading) → ¬ IsAskedFor n bytes by event reading
+abbrev pub IsBadEvent : CExtendedEvent → List ℕ → Type 0
+IsBadEvent n bytes = (event : ExtendedEvent) → ¬ StandForEvent n bytes event
 
 -- `out` has as much of these bytes as it has room for, and `len` is how many they are
 abbrev pub Wrote : List ℕ → List ℕ → List ℕ → ℕ → Type 0

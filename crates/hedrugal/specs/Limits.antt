@@ -1,4 +1,5 @@
 -- Limits in time as C has them.
+use Rattle.std.specs.Ordering.{int_eq}
 use Rattle.std.specs.Prelude.{ℕ, ℤ, pos, negsuc, min, int_lt, unsigned_abs, not, ◌&&◌, Bool, false, Option, Some, None, if◌then◌else◌}
 use Rattle.termwiz_input.specs.declared.time.Policy.{Policy}
 use Rattle.termwiz_input.specs.Time.{new_timer, usual}
@@ -18,15 +19,19 @@ nothing_since = record { fed = false; taken = false; expiring = false }
 abbrev pub limit_in : ℤ → Option ℕ
 limit_in millis = if int_lt millis (pos 0) then None else Some (unsigned_abs millis)
 
+-- the same of a policy, where 0 stands for the usual limit
+abbrev pub limit_or_usual : ℤ → Option ℕ → Option ℕ
+limit_or_usual millis ordinary = if int_eq millis (pos 0) then ordinary else limit_in millis
+
 -- the limits that numbers of C stand for
 abbrev pub limits_in : CPolicy → Policy
 limits_in numbers = record {
-  escape = limit_in numbers.escape;
-  alt_key = limit_in numbers.alt_key;
-  sequence = limit_in numbers.sequence;
-  string = limit_in numbers.string;
-  character = limit_in numbers.character;
-  paste = limit_in numbers.paste;
+  escape = limit_or_usual numbers.escape usual.escape;
+  alt_key = limit_or_usual numbers.alt_key usual.alt_key;
+  sequence = limit_or_usual numbers.sequence usual.sequence;
+  string = limit_or_usual numbers.string usual.string;
+  character = limit_or_usual numbers.character usual.character;
+  paste = limit_or_usual numbers.paste usual.paste;
 }
 
 -- milliseconds for poll: at most those of 31 bits, and -1 for ever

@@ -1,5 +1,5 @@
 //! The calls that write events, and what a terminal replies.
-ghost use Rattle.std.specs.Prelude.{◌≡◌, ◌≢◌, ◌≤◌, ◌<◌, ◌⊎◌, List, [], IfOk, IfSome, IfNone, Some, Err, length, string_bytes};
+ghost use Rattle.std.specs.Prelude.{◌≡◌, ◌≢◌, ◌≤◌, ◌<◌, ◌⊎◌, List, [], IfOk, IfSome, IfNone, Some, None, Err, length, string_bytes};
 ghost use Rattle.std.specs.Str.{IsUtf8};
 ghost use Rattle.termwiz_keys.specs.declared.types.InputEvent.TheVariants as input;
 ghost use Rattle.termwiz_keys.specs.declared.types.KeyEvent.{KeyEvent as Key};
@@ -12,22 +12,22 @@ ghost use Rattle.termwiz_extended_events.specs.declared.types.StringKind.{String
 ghost use Rattle.termwiz_senders.specs.EventTexts.{attributes_text, position_text, scheme_text};
 ghost use Rattle.hedrugal.specs.EventCalls.{HasLongText, HasNoText, IsBadEvent, StandForEvent, Tells, Wrote, WroteEvent};
 ghost use Rattle.hedrugal.specs.ExtendedEvents.{side_button_number, string_kind_number};
+ghost use Rattle.hedrugal.specs.ExtendedTimings.{KeepsTime};
 ghost use Rattle.hedrugal.specs.declared.event_calls.BadEvent.TheVariants as bad;
 
 use crate::copying::copy_prefix;
 use crate::events::{KIND_KEY, KIND_MOUSE, KIND_PASTE};
-use crate::extended_calls::protocol_at;
 use crate::extended_events::{
     CExtendedEvent, KIND_APC, KIND_CSI, KIND_CURSOR_POSITION, KIND_DCS, KIND_FOCUS_GAINED,
     KIND_FOCUS_LOST, KIND_KEYBOARD_FLAGS, KIND_OSC, KIND_REPORT, KIND_RESIZE, KIND_SIDE_BUTTON,
     KIND_STRING_CUT, KIND_STRING_PART, SIDE_BUTTON_DRAG, SIDE_BUTTON_PRESS, SIDE_BUTTON_RELEASE,
 };
+use crate::handles::ExtendedHandle;
 use crate::key_reports::report_of;
 use crate::modes::modifiers_of;
-use crate::reading_calls::CReading;
 use crate::{
-    ENCODED_BAD_NUMBER, ENCODED_BAD_TEXT, ENCODED_NO_TEXT, ENCODED_REFUSED_MEMORY, ENCODED_TEXT,
-    ENCODED_TOO_LONG,
+    ENCODED_BAD_NUMBER, ENCODED_BAD_TEXT, ENCODED_NO_PARSER, ENCODED_NO_TEXT,
+    ENCODED_REFUSED_MEMORY, ENCODED_TEXT, ENCODED_TOO_LONG,
 };
 use bitflags::Flags;
 use std::alloc::{AllocError, Global};
@@ -35,7 +35,7 @@ use std::str;
 use termwiz_bindings::numbers::key_of;
 use termwiz_input::types::{InputEvent, KeyEvent, MouseButtons, MouseEvent, PastedText};
 use termwiz_input_extended::types::{
-    ExtendedEvent, KeyText, Reading, SequenceBytes, SideButtonEvent, SideButtonKind, StringKind,
+    ExtendedEvent, KeyText, SequenceBytes, SideButtonEvent, SideButtonKind, StringKind,
 };
 use termwiz_senders::event::{
     EncodeEventError, encode_colour_scheme, encode_cursor_position, encode_device_attributes,
@@ -217,43 +217,42 @@ fn event_in(
     })
 }
 
-/// Writes the bytes that an extended parser of a reading reads as an event. The answer is 0 if `out` has as much of the bytes as it has room
-/// for, and `sent_len` is how many they are. It is 2 if memory is refused, 3 if a number stands for nothing, 4 if the event is too long, 5 if
-/// a text isn't UTF-8, and 7 if no bytes are read as the event; then `sent_len` is 0.
+/// Writes the bytes that an extended parser reads as an event, by its reading and its sequence table. The parser is unchanged. The answer is 0
+/// if `out` has as much of the bytes as it has room for, and `sent_len` is how many they are. It is 2 if memory is refused, 3 if a number
+/// stands for nothing, 4 if the event is too long, 5 if a text isn't UTF-8, 7 if no bytes are read as the event, and 8 if there is no parser;
+/// then `sent_len` is 0.
 #[unsafe(no_mangle)]
 pub extern "C" fn hed_encode_event(
     alloc: Global,
     event: &CExtendedEvent,
     text: &[u8],
-    reading: &CReading,
+    parser: &mut ExtendedHandle,
     out: &mut [u8],
     sent_len: &mut usize,
 ) -> u32
-    ensures answers { result ≤ 7 }
-    ensures text { result ≡ ENCODED_TEXT → WroteEvent event.now text.now reading.now out.old out.new sent_len.new }
-    ensures no_text { result ≡ ENCODED_NO_TEXT → HasNoText event.now text.now reading.now }
-    ensures too_long { result ≡ ENCODED_TOO_LONG → HasLongText event.now text.now reading.now }
-    ensures bad_number { result ≡ ENCODED_BAD_NUMBER → IsBadEvent event.now text.now reading.now }
+    ensures answers { result ≤ 8 }
+    ensures text { result ≡ ENCODED_TEXT → WroteEvent event.now text.now parser.old.state.held out.old out.new sent_len.new }
+    ensures no_text { result ≡ ENCODED_NO_TEXT → HasNoText event.now text.now parser.old.state.held }
+    ensures too_long { result ≡ ENCODED_TOO_LONG → HasLongText event.now text.now parser.old.state.held }
+    ensures bad_number { result ≡ ENCODED_BAD_NUMBER → IsBadEvent event.now text.now }
     ensures bad_text { result ≡ ENCODED_BAD_TEXT → ¬ IsUtf8 text.now }
+    ensures no_parser { result ≡ ENCODED_NO_PARSER → parser.old.state.held ≡ None }
     ensures none { result ≢ ENCODED_TEXT → sent_len.new ≡ 0 }
     ensures same { result ≢ ENCODED_TEXT → out.new ≡ out.old }
+    ensures parser_same { parser.new.state ≡ parser.old.state }
+    ensures time { KeepsTime parser.old parser.new }
 {
     *sent_len = 0;
-    let Some(protocol) = protocol_at(reading.protocol) else {
-        return ENCODED_BAD_NUMBER;
-    };
-    let reading = Reading {
-        protocol,
-        x10_mouse: reading.x10_mouse,
-        questions: reading.questions,
-    };
     let event = match event_in(alloc, event, text) {
         Ok(event) => event,
         Err(BadEvent::Number) => return ENCODED_BAD_NUMBER,
         Err(BadEvent::Text) => return ENCODED_BAD_TEXT,
         Err(BadEvent::Memory) => return ENCODED_REFUSED_MEMORY,
     };
-    match encode_event(alloc, &event, reading) {
+    let Some(held) = parser.get_mut() else {
+        return ENCODED_NO_PARSER;
+    };
+    match encode_event(alloc, &event, &held.parser) {
         Ok(sent) => {
             *sent_len = copy_prefix(&sent, out);
             ENCODED_TEXT

@@ -108,6 +108,8 @@ const ENCODED_BAD_TEXT: u32 = 5;
 const ENCODED_TOO_FAR: u32 = 6;
 
 const ENCODED_NO_TEXT: u32 = 7;
+// There is no parser.
+const ENCODED_NO_PARSER: u32 = 8;
 
 /// Makes a parser, and frees the one that was there. If memory is refused, the answer is false and nothing changes.
 #[unsafe(no_mangle)]

@@ -1,7 +1,7 @@
 // How long a parser's bytes may stay buffered, and how old they are.
 ghost use Rattle.std.specs.Prelude.{◌≡◌, true, false};
 ghost use Rattle.termwiz_input.specs.Time.{noted};
-ghost use Rattle.hedrugal.specs.Limits.{c_millis, fresh, limit_in, limits_in, millis_left};
+ghost use Rattle.hedrugal.specs.Limits.{c_millis, fresh, limit_in, limit_or_usual, limits_in, millis_left};
 ghost use Rattle.hedrugal.specs.Timings.{after_bytes, after_event};
 
 use termwiz_input::time::{Policy, Seen, Timer};
@@ -98,7 +98,7 @@ impl Since {
     }
 }
 
-/// `hed_policy`: how long each kind of bytes may stay buffered, in milliseconds. Negative: forever.
+/// `hed_policy`: how long each kind of bytes may stay buffered, in milliseconds. 0: the usual limit. Negative: forever.
 #[repr(C)]
 #[derive(Clone, Copy)]
 pub struct CPolicy {
@@ -121,18 +121,26 @@ pub(crate) fn limit_in(millis: i32) -> Option<u32>
     }
 }
 
+// A limit of a policy; the usual one if it is 0.
+fn limit_or_usual(millis: i32, usual: Option<u32>) -> Option<u32>
+    ensures { result ≡ limit_or_usual millis usual }
+{
+    if millis == 0 { usual } else { limit_in(millis) }
+}
+
 impl CPolicy {
     // The limits that these numbers stand for.
     pub(crate) fn limits(&self) -> Policy
         ensures { result ≡ limits_in self.now }
     {
+        let usual = Policy::usual();
         Policy {
-            escape: limit_in(self.escape),
-            alt_key: limit_in(self.alt_key),
-            sequence: limit_in(self.sequence),
-            string: limit_in(self.string),
-            character: limit_in(self.character),
-            paste: limit_in(self.paste),
+            escape: limit_or_usual(self.escape, usual.escape),
+            alt_key: limit_or_usual(self.alt_key, usual.alt_key),
+            sequence: limit_or_usual(self.sequence, usual.sequence),
+            string: limit_or_usual(self.string, usual.string),
+            character: limit_or_usual(self.character, usual.character),
+            paste: limit_or_usual(self.paste, usual.paste),
         }
     }
 }

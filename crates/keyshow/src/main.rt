@@ -1,5 +1,5 @@
 //! Prints the events of standard input, one per line. It is called as `keyshow [PIECE]`, where PIECE is the most
-//! bytes that are read at a time, or as `keyshow --help`.
+//! bytes that are read at a time.
 #![tactic(auto)]
 
 ghost use Rattle.std.specs.Prelude.{◌≡◌, ◌≢◌, ◌≤◌, ◌↔◌, ℕ, Some, None, map, string_bytes, IfSome, IsErrOf, OnOk};
@@ -12,6 +12,8 @@ ghost use Rattle.keyshow.specs.Words.{IsPiece, PieceOf, fault_text};
 
 mod lines;
 mod pump;
+#[cfg(test)]
+mod tests;
 
 use pump::{RunError, run};
 use std::alloc::Global;
@@ -35,16 +37,6 @@ pub struct Ending {
     pub line: Option<&'static str>,
 }
 
-// What `keyshow --help` prints.
-const HELP: &str = "\
-usage: keyshow [PIECE]
-
-Prints the key, mouse and paste events of standard input, one per line. It reads at most PIECE
-bytes at a time, a number from 1 to 4096: 64 if there is none.
-
-    printf '\\033[1;5Aq' | keyshow
-";
-
 fn main(rt: HostRuntime) -> ExitCode {
     let ending = ending_of(outcome(&rt));
     if let Some(line) = ending.line {
@@ -53,12 +45,9 @@ fn main(rt: HostRuntime) -> ExitCode {
     ExitCode::from(ending.status)
 }
 
-// Shows standard input on standard output, by the words that the program was started with, or prints the help.
+// Shows standard input on standard output, by the words that the program was started with.
 fn outcome(rt: &HostRuntime) -> Result<(), Failure> {
     let words = words_given(rt).map_err(|fault| failure_of(fault.kind()))?;
-    if matches!(words.as_slice(), [word] if word.as_str() == "--help") {
-        return print!(rt; "{HELP}").map_err(|_| Failure::Run(RunError::Write));
-    }
     show(
         rt.alloc(),
         words.as_slice(),

@@ -60,12 +60,15 @@ Whole = (reading : Reading) (event : ExtendedEvent) → Emits reading event → 
 -- The position may be told without a question mark, and isn't read as F3: Kitty's protocol or an open question says that it is a
 -- position, or no row of the table has its bytes.
 abbrev pub IsToldPlainly : Reading → ℕ → ℕ → Type 0
-IsToldPlainly reading row column =
-    (reading.protocol ≡ Kitty) ⊎ ((0 < reading.questions) ⊎ ((row ≢ 1) ⊎ ((column ≡ 0) ⊎ (16 < column))))
+IsToldPlainly reading row column = (reading.protocol ≡ Kitty) ⊎ ((0 < reading.questions) ⊎ ((row ≢ 1) ⊎ (16 < column)))
+
+-- the number of a row or a column
+abbrev pub IsPlace : ℕ → Type 0
+IsPlace n = (0 < n) × IsWord n
 
 -- The reply to a question for the cursor's position is that position, at once: the private one always.
 abbrev pub PositionsReadBack : Type 0
-PositionsReadBack = (reading : Reading) (row column : ℕ) → IsWord row → IsWord column
+PositionsReadBack = (reading : Reading) (row column : ℕ) → IsPlace row → IsPlace column
     → IsReadAtOnce reading (CursorPosition row column) (position_text row column true)
     × (IsToldPlainly reading row column → IsReadAtOnce reading (CursorPosition row column) (position_text row column false))
 

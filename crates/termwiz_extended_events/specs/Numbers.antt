@@ -57,6 +57,10 @@ number least limit digits = number_within most_digits least limit digits
 abbrev pub short_number : List ℕ → Option ℕ
 short_number digits = number_within few_digits 0 largest digits
 
+-- the number of a row or a column of the screen, which count from 1
+abbrev pub place_number : List ℕ → Option ℕ
+place_number digits = number_within few_digits 1 largest digits
+
 -- the number is that of a Unicode scalar value
 abbrev pub is_scalar : ℕ → Bool
 is_scalar n = nat_lt n 0xd800 || (nat_le 0xe000 n && nat_le n 0x10ffff)

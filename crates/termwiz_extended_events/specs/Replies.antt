@@ -8,7 +8,7 @@ use Rattle.termwiz_extended_events.specs.declared.types.SideButtonEvent.{SideBut
 use Rattle.termwiz_extended_events.specs.declared.types.SideButtonKind.{SideButtonKind}
 use Rattle.termwiz_extended_events.specs.declared.types.SideButtonKind.TheVariants.{Press, Release, Drag}
 use Rattle.termwiz_extended_events.specs.declared.types.ExtendedEvent.TheVariants.{FocusGained, FocusLost, CursorPosition, KeyboardFlags, Resize}
-use Rattle.termwiz_extended_events.specs.Numbers.{fields, before_end, after_start, number_within, few_digits, first_some, short_number}
+use Rattle.termwiz_extended_events.specs.Numbers.{fields, before_end, after_start, number_within, few_digits, first_some, place_number, short_number}
 
 -- I or O: the window gained the focus, or lost it
 unfoldable pub focus : List ℕ → Option ExtendedEvent
@@ -27,13 +27,13 @@ position_on row column None = None
 
 -- row ; column
 abbrev pub position_of_fields : List (List ℕ) → Option ExtendedEvent
-position_of_fields (row ∷ column ∷ []) = position_at (short_number row) (short_number column)
+position_of_fields (row ∷ column ∷ []) = position_at (place_number row) (place_number column)
 position_of_fields _ = None
 
 -- row ; column ; page, of which the page may be missing
 abbrev pub marked_position_of_fields : List (List ℕ) → Option ExtendedEvent
 marked_position_of_fields (row ∷ column ∷ page ∷ []) =
-    position_on (short_number row) (short_number column) (short_number page)
+    position_on (place_number row) (place_number column) (short_number page)
 marked_position_of_fields fs = position_of_fields fs
 
 abbrev pub position_of : List ℕ → Option (List ℕ) → Option ExtendedEvent

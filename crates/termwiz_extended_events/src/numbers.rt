@@ -1,6 +1,6 @@
 // The numbers of control sequences.
 ghost use Rattle.std.specs.Prelude.{◌≡◌, ◌≤◌, IfSome};
-ghost use Rattle.termwiz_extended_events.specs.Numbers.{number_within, number, short_number, scalar};
+ghost use Rattle.termwiz_extended_events.specs.Numbers.{number_within, number, place_number, short_number, scalar};
 
 // How many digits a number has at most in the reports of keys.
 const MOST_DIGITS: usize = 7;
@@ -45,6 +45,16 @@ pub(crate) fn short_number(digits: &[u8]) -> Option<u16>
     ensures { result ≡ short_number digits.now }
 {
     match number_within(digits, FEW_DIGITS, 0, 65535) {
+        Some(value) => Some(value as u16),
+        None => None,
+    }
+}
+
+// The number of a row or a column, which count from 1.
+pub(crate) fn place_number(digits: &[u8]) -> Option<u16>
+    ensures { result ≡ place_number digits.now }
+{
+    match number_within(digits, FEW_DIGITS, 1, 65535) {
         Some(value) => Some(value as u16),
         None => None,
     }

@@ -11,7 +11,7 @@ ghost use Rattle.termwiz_extended_events.specs.Replies.{position_of_fields, mark
 
 use crate::fields::{Fields, after_start, before_end};
 use crate::meanings::Meaning;
-use crate::numbers::{FEW_DIGITS, number_within, short_number};
+use crate::numbers::{FEW_DIGITS, number_within, place_number, short_number};
 use crate::types::{SideButtonEvent, SideButtonKind};
 use termwiz_base::{MouseReport, sgr_mouse};
 use termwiz_keys::types::{MouseButtons, MouseEvent};
@@ -31,13 +31,13 @@ pub(crate) fn focus(t: &[u8]) -> Option<Meaning<'static>>
     }
 }
 
-// row ; column.
+// row ; column, which count from 1.
 fn position(body: &[u8]) -> Option<Meaning<'static>>
     ensures { IsMeant result (position_of_fields (fields body.now)) }
 {
     let mut fields = Fields::new(body, b';');
-    let row = short_number(fields.next()?)?;
-    let column = short_number(fields.next()?)?;
+    let row = place_number(fields.next()?)?;
+    let column = place_number(fields.next()?)?;
     match fields.next() {
         Some(_) => None,
         None => Some(Meaning::CursorPosition { row, column }),
@@ -49,8 +49,8 @@ fn marked_position(body: &[u8]) -> Option<Meaning<'static>>
     ensures { IsMeant result (marked_position_of_fields (fields body.now)) }
 {
     let mut fields = Fields::new(body, b';');
-    let row = short_number(fields.next()?)?;
-    let column = short_number(fields.next()?)?;
+    let row = place_number(fields.next()?)?;
+    let column = place_number(fields.next()?)?;
     if let Some(page) = fields.next() {
         short_number(page)?;
         if fields.next().is_some() {

@@ -62,11 +62,16 @@ pub record IsCharacterText (reading : Reading) (k : KeyEvent) (bytes : List ℕ)
   pub bytes_are : bytes ≡ encode_utf8 character
   pub read : IsReadAsKey reading k bytes
 
--- The key without an ESC before it: what a terminal sends, if that is a row of the key; else its first row; else its character.
+-- no row of the key is what a terminal sends
+abbrev pub IsUnsent : Reading → KeyEvent → Type 0
+IsUnsent reading k = (sent : List ℕ) → ¬ IsSentRow reading k sent
+
+-- The key without an ESC before it: what a terminal sends, if that is a row of the key; else its character; else its first row.
 pub data IsPlainKeyText (reading : Reading) (k : KeyEvent) (bytes : List ℕ) : Type 0 where
   by_sending : IsSentRow reading k bytes → IsPlainKeyText reading k bytes
-  by_row : ((sent : List ℕ) → ¬ IsSentRow reading k sent) → IsFirstRowOf reading k bytes → IsPlainKeyText reading k bytes
-  by_character : ¬ HasRow reading k → IsCharacterText reading k bytes → IsPlainKeyText reading k bytes
+  by_character : IsUnsent reading k → IsCharacterText reading k bytes → IsPlainKeyText reading k bytes
+  by_row : IsUnsent reading k → ((own : List ℕ) → ¬ IsCharacterText reading k own) → IsFirstRowOf reading k bytes
+      → IsPlainKeyText reading k bytes
 
 -- the key without ALT
 abbrev pub without_alt : KeyEvent → KeyEvent

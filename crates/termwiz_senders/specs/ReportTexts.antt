@@ -52,9 +52,17 @@ short_manner bits kind = (if bits == 0 then [] else decimal (1 + bits)) ++ kind_
 abbrev pub first_fields : ℕ → KeyEventKind → ℕ → List ℕ
 first_fields bits kind c = codes ";" ++ short_manner bits kind ++ codes ";" ++ decimal c
 
+-- no modifier is held, and the key was pressed
+abbrev pub is_plain_press : ℕ → KeyEventKind → Bool
+is_plain_press bits kind = (bits == 0) && is_press kind
+
+-- the field of the manner at the end of a report, which is left out of such a press
+abbrev pub last_manner : ℕ → KeyEventKind → List ℕ
+last_manner bits kind = if is_plain_press bits kind then [] else codes ";" ++ short_manner bits kind
+
 -- the fields behind the first one, for a key with other characters or a text
 unfoldable pub further_fields : ℕ → KeyEventKind → List ℕ → List ℕ
-further_fields bits kind [] = codes ";" ++ short_manner bits kind
+further_fields bits kind [] = last_manner bits kind
 further_fields bits kind (c ∷ cs) = codes ";" ++ short_manner bits kind ++ codes ";" ++ characters_text (c ∷ cs)
 
 -- the sequence of a key with other characters or a text, by its number

@@ -1,5 +1,5 @@
 //! Events of the extended parser to bytes that are read as them.
-ghost use Rattle.std.specs.Prelude.{◌≡◌, ◌≢◌, ◌++◌, ◌<◌, ◌≤◌, ◌↔◌, ℕ, List, IfOk, IfErr, OnOk, IfSome, IfNone, Some, None, Ok, Err, flat_map, length, string_bytes};
+ghost use Rattle.std.specs.Prelude.{◌≡◌, ◌≢◌, ◌++◌, ◌<◌, ◌≤◌, ◌↔◌, ℕ, List, IfOk, IfErr, OnOk, true, IfSome, IfNone, Some, None, Ok, Err, flat_map, length, string_bytes};
 ghost use Rattle.termwiz_keymap.specs.Bytes.{Occurs};
 ghost use Rattle.termwiz_keys.specs.Introducers.{END};
 ghost use Rattle.termwiz_laws.specs.PasteEvents.{pasted};
@@ -23,9 +23,8 @@ use bitflags::Flags;
 use std::alloc::{AllocError, Global};
 use std::fmt::Write;
 use termwiz_base::{Modifiers, MouseButton, MouseReport};
-use termwiz_extended_events::types::{
-    ExtendedEvent, Reading, SideButtonEvent, SideButtonKind, StringKind,
-};
+use termwiz_extended_events::types::{ExtendedEvent, SideButtonEvent, SideButtonKind, StringKind};
+use termwiz_input_extended::input::ExtendedParser;
 use termwiz_keymap::bytes::find_from;
 use termwiz_keys::encode::CSI;
 use termwiz_keys::types::{InputEvent, MouseEvent};
@@ -53,36 +52,38 @@ impl From<AllocError> for EncodeEventError {
     }
 }
 
-/// The bytes that the parser of a reading reads as an event, whatever a terminal sent for it. With no more to come they are that event alone,
-/// and nothing stays buffered. That is so with more to come too, unless the event is a key of `Input`, whose text may begin a sequence.
+/// The bytes that a parser reads as an event, whatever a terminal sent for it. With no more to come they are that event alone, and nothing
+/// stays buffered. That is so with more to come too, unless the event is a key of `Input`, whose text may begin a sequence.
 ///
-/// A key of `Input` is written as a row of the sequence table, or as its character. A key report is written in the form of Kitty's keyboard
-/// protocol, with what happened to the key always told, so that no row is like it. Keys as a terminal sends them are those of
-/// [`KeyCode::encode`](termwiz_keys::types::KeyCode::encode) and of [`encode_kitty`](termwiz_kitty::encode::encode_kitty).
+/// `parser` says how they are read, by its reading and by its sequence table. Nothing is fed to it, and what it has buffered doesn't matter.
+///
+/// A key of `Input` is written as what a terminal sends for it, as its character, or as a row of the sequence table. A key report is written in
+/// the form of Kitty's keyboard protocol, with what happened to the key always told, so that no row is like it. Keys as a terminal sends them
+/// are those of [`KeyCode::encode`](termwiz_keys::types::KeyCode::encode) and of [`encode_kitty`](termwiz_kitty::encode::encode_kitty).
 ///
 /// A mouse report is written in SGR's encoding (mode 1006), a paste as its text in brackets, and a `Csi`, `Osc`, `Dcs` or `Apc` as its bytes
 /// with their introducer and ESC `\` where a string ends.
 ///
 /// `NoText` comes for an event that no bytes are read as by these rules: an event that no parser makes, a paste that holds ESC `[201~`, or a
 /// part of a string or a string that was cut off. `TooLong` comes for a sequence of more than 256 bytes, or a string of 65535 bytes or more.
-/// The only other error is `Memory`. For a key of `Input` and for a `Csi`, `Osc`, `Dcs` or `Apc` the sequence table is made, as for a parser.
+/// The only other error is `Memory`.
 #[tactic(auto, unfolding(crate::specs::EventTexts::IsEventText))]
 pub fn encode_event(
     alloc: Global,
     event: &ExtendedEvent,
-    reading: Reading,
+    parser: &ExtendedParser,
 ) -> Result<Vec<u8>, EncodeEventError>
-    ensures sent { IfOk result (λ sent. IsEventText reading event.now sent.items) }
-    ensures no_text { result ≡ Err error.NoText → IsRefused reading event.now }
-    ensures too_long { result ≡ Err error.TooLong → IsTooLong event.now × IsRefused reading event.now }
+    ensures sent { IfOk result (λ sent. IsEventText parser.now.reading event.now sent.items) }
+    ensures no_text { result ≡ Err error.NoText → IsRefused parser.now.reading event.now }
+    ensures too_long { result ≡ Err error.TooLong → IsTooLong event.now × IsRefused parser.now.reading event.now }
 {
     match event {
-        ExtendedEvent::Input(event) => input_text(alloc, event, reading),
+        ExtendedEvent::Input(event) => input_text(alloc, event, parser),
         ExtendedEvent::Key(report) => report_text(alloc, report),
         ExtendedEvent::FocusGained => Ok(b"\x1b[I".to_vec(alloc)?),
         ExtendedEvent::FocusLost => Ok(b"\x1b[O".to_vec(alloc)?),
         ExtendedEvent::CursorPosition { row, column } => {
-            Ok(encode_cursor_position(alloc, *row, *column, true)?)
+            found(told_position(alloc, *row, *column)?)
         }
         ExtendedEvent::Resize {
             rows,
@@ -92,15 +93,15 @@ pub fn encode_event(
         } => Ok(size_text(alloc, *rows, *columns, *height, *width)?),
         ExtendedEvent::KeyboardFlags(flags) => Ok(flags_text(alloc, *flags)?),
         ExtendedEvent::SideButton(event) => found(side_button_text(alloc, event)?),
-        ExtendedEvent::Csi(text) => sequence_text(alloc, event, reading, text.as_slice()),
+        ExtendedEvent::Csi(text) => sequence_text(alloc, event, parser, text.as_slice()),
         ExtendedEvent::Osc(text) => {
-            string_text(alloc, event, reading, StringKind::Osc, text.as_slice())
+            string_text(alloc, event, parser, StringKind::Osc, text.as_slice())
         }
         ExtendedEvent::Dcs(text) => {
-            string_text(alloc, event, reading, StringKind::Dcs, text.as_slice())
+            string_text(alloc, event, parser, StringKind::Dcs, text.as_slice())
         }
         ExtendedEvent::Apc(text) => {
-            string_text(alloc, event, reading, StringKind::Apc, text.as_slice())
+            string_text(alloc, event, parser, StringKind::Apc, text.as_slice())
         }
         ExtendedEvent::StringPart { .. } | ExtendedEvent::StringCut { .. } => {
             Err(EncodeEventError::NoText)
@@ -113,14 +114,14 @@ pub fn encode_event(
 fn input_text(
     alloc: Global,
     event: &InputEvent,
-    reading: Reading,
+    parser: &ExtendedParser,
 ) -> Result<Vec<u8>, EncodeEventError>
-    ensures sent { IfOk result (λ sent. IsEventText reading (variants.Input event.now) sent.items) }
-    ensures no_text { result ≡ Err error.NoText → IsRefused reading (variants.Input event.now) }
+    ensures sent { IfOk result (λ sent. IsEventText parser.now.reading (variants.Input event.now) sent.items) }
+    ensures no_text { result ≡ Err error.NoText → IsRefused parser.now.reading (variants.Input event.now) }
     ensures never_long { result ≢ Err error.TooLong }
 {
     match event {
-        InputEvent::Key(key) => found(key_event_text(alloc, reading, key)?),
+        InputEvent::Key(key) => found(key_event_text(alloc, parser, key)?),
         InputEvent::Mouse(event) => found(mouse_text(alloc, event)?),
         InputEvent::Paste(text) => found(paste_text(alloc, text.as_str())?),
         _ => Err(EncodeEventError::NoText),
@@ -260,8 +261,20 @@ fn paste_text(alloc: Global, text: &str) -> Result<Option<Vec<u8>>, AllocError>
     }
 }
 
+// The reply that tells the position of the cursor by every reading, if there is such a place.
+#[tactic(auto, unfolding(crate::specs::EventTexts::position_text))]
+fn told_position(alloc: Global, row: u16, column: u16) -> Result<Option<Vec<u8>>, AllocError>
+    ensures some { IfOk result (λ text. IfSome text (λ sent. (0 < row) × (0 < column) × (sent.items ≡ rules.position_text row column true))) }
+    ensures none { IfOk result (λ text. IfNone text (¬ ((0 < row) × (0 < column)))) }
+{
+    if row == 0 || column == 0 {
+        return Ok(None);
+    }
+    Ok(Some(encode_cursor_position(alloc, row, column, true)?))
+}
+
 /// What a terminal replies to a question for the position of its cursor: ESC `[6n`, or ESC `[?6n` for a private one. The first row and the
-/// first column are 1. Its only error is that memory was refused.
+/// first column are 1: a reply with a 0 is a `Csi` to a parser. Its only error is that memory was refused.
 ///
 /// The reply to a private question is read as the position by every reading. The other one is so under `Protocol::Kitty` and while a reply is
 /// expected. Under `Protocol::Legacy` it is F3 with modifiers otherwise, if the row is 1 and the column is 1 to 16.
@@ -370,16 +383,15 @@ const MOST_STRING: usize = 65534;
 
 // Bytes of an event, if they are read as it.
 fn tried(
-    alloc: Global,
     event: &ExtendedEvent,
-    reading: Reading,
+    parser: &ExtendedParser,
     bytes: Vec<u8>,
 ) -> Result<Option<Vec<u8>>, AllocError>
     requires { IsTried event.now }
-    ensures some { IfOk result (λ sent. IfSome sent (λ sent. IsItself reading event.now bytes.items sent.items)) }
-    ensures none { IfOk result (λ sent. IfNone sent ((other : List ℕ) → ¬ IsItself reading event.now bytes.items other)) }
+    ensures some { IfOk result (λ sent. IfSome sent (λ sent. IsItself parser.now.reading event.now bytes.items sent.items)) }
+    ensures none { IfOk result (λ sent. IfNone sent ((other : List ℕ) → ¬ IsItself parser.now.reading event.now bytes.items other)) }
 {
-    if Reader::new(alloc, reading)?.reads(reading, &bytes, true, event)? {
+    if Reader::beside(parser)?.reads(parser.reading(), &bytes, true, event)? {
         Ok(Some(bytes))
     } else {
         Ok(None)
@@ -390,17 +402,17 @@ fn tried(
 fn sequence_text(
     alloc: Global,
     event: &ExtendedEvent,
-    reading: Reading,
+    parser: &ExtendedParser,
     text: &[u8],
 ) -> Result<Vec<u8>, EncodeEventError>
     requires { event.now ≡ variants.Csi text.now }
-    ensures sent { IfOk result (λ sent. IsEventText reading event.now sent.items) }
-    ensures no_text { result ≡ Err error.NoText → IsRefused reading event.now }
-    ensures too_long { result ≡ Err error.TooLong → IsTooLong event.now × IsRefused reading event.now }
+    ensures sent { IfOk result (λ sent. IsEventText parser.now.reading event.now sent.items) }
+    ensures no_text { result ≡ Err error.NoText → IsRefused parser.now.reading event.now }
+    ensures too_long { result ≡ Err error.TooLong → IsTooLong event.now × IsRefused parser.now.reading event.now }
 {
     let bytes = joined(alloc, CSI.as_bytes(), text, b"")?;
     let is_long = bytes.len() > MOST_CONTROL;
-    match tried(alloc, event, reading, bytes)? {
+    match tried(event, parser, bytes)? {
         Some(sent) => Ok(sent),
         None if is_long => Err(EncodeEventError::TooLong),
         None => Err(EncodeEventError::NoText),
@@ -423,18 +435,18 @@ fn introducer_of(kind: StringKind) -> &'static [u8]
 fn string_text(
     alloc: Global,
     event: &ExtendedEvent,
-    reading: Reading,
+    parser: &ExtendedParser,
     kind: StringKind,
     text: &[u8],
 ) -> Result<Vec<u8>, EncodeEventError>
     requires { event.now ≡ whole_string kind text.now }
-    ensures sent { IfOk result (λ sent. IsEventText reading event.now sent.items) }
-    ensures no_text { result ≡ Err error.NoText → IsRefused reading event.now }
-    ensures too_long { result ≡ Err error.TooLong → IsTooLong event.now × IsRefused reading event.now }
+    ensures sent { IfOk result (λ sent. IsEventText parser.now.reading event.now sent.items) }
+    ensures no_text { result ≡ Err error.NoText → IsRefused parser.now.reading event.now }
+    ensures too_long { result ≡ Err error.TooLong → IsTooLong event.now × IsRefused parser.now.reading event.now }
 {
     let bytes = joined(alloc, introducer_of(kind), text, b"\x1b\\")?;
     let is_long = INTRODUCER_LEN + text.len() > MOST_STRING;
-    match tried(alloc, event, reading, bytes)? {
+    match tried(event, parser, bytes)? {
         Some(sent) => Ok(sent),
         None if is_long => Err(EncodeEventError::TooLong),
         None => Err(EncodeEventError::NoText),

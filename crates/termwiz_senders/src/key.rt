@@ -9,6 +9,7 @@ use bitflags::Flags;
 use std::alloc::{AllocError, Global};
 use termwiz_base::Modifiers;
 use termwiz_extended_events::types::Reading;
+use termwiz_input_extended::input::ExtendedParser;
 use termwiz_keys::encode::{EncodeError, KeyCodeEncodeModes, KeyboardEncoding};
 use termwiz_keys::types::{KeyCode, KeyEvent};
 
@@ -79,10 +80,13 @@ fn plain_text(
     if let Some(text) = sent_row(alloc, reader, reading, key)? {
         return Ok(Some(text));
     }
-    if let Some(row) = reader.first_row(reading, key)? {
-        return Ok(Some(row.to_vec(alloc)?));
+    if let Some(character) = character_text(alloc, reader, reading, key)? {
+        return Ok(Some(character));
     }
-    character_text(alloc, reader, reading, key)
+    match reader.first_row(reading, key)? {
+        Some(row) => Ok(Some(row.to_vec(alloc)?)),
+        None => Ok(None),
+    }
 }
 
 // The key without ALT.
@@ -144,15 +148,16 @@ fn key_text(
     escaped_text(alloc, reader, reading, key)
 }
 
-// The text of a key, if it has one, by a parser of its own.
+// The text of a key, if it has one, as a parser reads.
 pub(crate) fn key_event_text(
     alloc: Global,
-    reading: Reading,
+    parser: &ExtendedParser,
     key: &KeyEvent,
 ) -> Result<Option<Vec<u8>>, AllocError>
-    ensures some { IfOk result (λ text. IfSome text (λ text. IsKeyText reading key.now text.items)) }
-    ensures none { IfOk result (λ text. IfNone text ((bytes : List ℕ) → ¬ IsKeyText reading key.now bytes)) }
+    ensures some { IfOk result (λ text. IfSome text (λ text. IsKeyText parser.now.reading key.now text.items)) }
+    ensures none { IfOk result (λ text. IfNone text ((bytes : List ℕ) → ¬ IsKeyText parser.now.reading key.now bytes)) }
 {
-    let mut reader = Reader::new(alloc, reading)?;
+    let reading = parser.reading();
+    let mut reader = Reader::beside(parser)?;
     key_text(alloc, &mut reader, reading, key)
 }

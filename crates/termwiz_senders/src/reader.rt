@@ -6,7 +6,7 @@ ghost use Rattle.termwiz_extended_events.specs.declared.types.ExtendedEvent.TheV
 ghost use Rattle.termwiz_extended_grammar.specs.ExtendedGrammar.{Means};
 ghost use Rattle.termwiz_senders.specs.KeyTexts.{HasRow, IsFirstRowOf, IsReadAsKey, IsTried};
 
-use std::alloc::{AllocError, Global};
+use std::alloc::AllocError;
 use termwiz_extended_events::types::{ExtendedEvent, Reading};
 use termwiz_input::input::{InputParser, copied};
 use termwiz_input::keymap::Found;
@@ -23,10 +23,12 @@ pub(crate) struct Reader {
 }
 
 impl Reader {
-    pub(crate) fn new(alloc: Global, reading: Reading) -> Result<Reader, AllocError> {
-        let rows = InputParser::new(alloc)?;
-        let parser = ExtendedParser::sharing_table_of(alloc, &rows, reading.protocol)?;
-        Ok(Reader { rows, parser })
+    // Reads by the sequence table of a parser, whose own bytes stay buffered.
+    pub(crate) fn beside(parser: &ExtendedParser) -> Result<Reader, AllocError> {
+        Ok(Reader {
+            rows: parser.input_sharing()?,
+            parser: parser.sharing(parser.reading().protocol)?,
+        })
     }
 
     // Whether bytes are this event alone, and nothing stays buffered.

@@ -6,7 +6,7 @@ ghost use Rattle.termwiz_extended_events.specs.declared.types.ExtendedEvent.TheV
 ghost use Rattle.termwiz_kitty.specs.KeyForms.{is_character};
 ghost use Rattle.termwiz_senders.specs.EventTexts.{IsTooLong};
 ghost use Rattle.termwiz_senders.specs.ReportTexts as rules;
-ghost use Rattle.termwiz_senders.specs.ReportTexts.{first_fields, full_report_text, further_fields, plain_report_text, private_report_text, short_manner, told_manner};
+ghost use Rattle.termwiz_senders.specs.ReportTexts.{first_fields, full_report_text, further_fields, last_manner, plain_report_text, private_report_text, short_manner, told_manner};
 ghost use Rattle.termwiz_senders.specs.declared.event.EncodeEventError.TheVariants as error;
 
 use crate::event::EncodeEventError;
@@ -86,6 +86,16 @@ fn push_short_manner(text: &mut String, modifiers: u8, kind: KeyEventKind) -> Re
     }
 }
 
+// Appends the field of the manner at the end of a report, unless the key was pressed and no modifier is held.
+fn push_last_manner(text: &mut String, modifiers: u8, kind: KeyEventKind) -> Result<(), AllocError>
+    ensures { OnOk result (string_bytes text.new ≡ string_bytes text.old ++ last_manner modifiers kind) }
+{
+    if modifiers == 0 && kind == KeyEventKind::Press {
+        return Ok(());
+    }
+    push_manner_field(text, modifiers, kind)
+}
+
 // Appends the field of the manner, which may be empty.
 fn push_manner_field(text: &mut String, modifiers: u8, kind: KeyEventKind) -> Result<(), AllocError>
     ensures { OnOk result (string_bytes text.new ≡ string_bytes text.old ++ codes ";" ++ short_manner modifiers kind) }
@@ -119,7 +129,7 @@ fn push_further_fields(
 {
     let mut rest = typed.chars();
     let Some(first) = rest.next() else {
-        return push_manner_field(text, modifiers, kind);
+        return push_last_manner(text, modifiers, kind);
     };
     push_first(text, modifiers, kind, first)?;
     push_further(text, rest.as_str())

@@ -37,7 +37,6 @@ from hedrugal import (
     Osc,
     Paste,
     Protocol,
-    Reading,
     ReportedKey,
     Resize,
     SideButton,
@@ -210,7 +209,8 @@ def written(event: ExtendedEvent, reading: str) -> Json:
     """What an event is written as, to be read as it in this reading: the first of its bytes and
     their number, or why there are none."""
     try:
-        data = encode_event(event, Reading(PROTOCOLS[reading]))
+        with ExtendedParser(PROTOCOLS[reading]) as parser:
+            data = encode_event(event, parser)
     except EncodeError as error:
         return {"why": str(error)}
     return {"bytes": data[:SHOWN].hex(), "length": len(data)}

@@ -4,6 +4,7 @@ use crate::input::{AllocError, ParseError, ParseVecError, Policy, FAULT};
 use crate::library_parser::{Calls, LibraryParser, RawParser};
 use crate::{raw, table};
 use std::fmt;
+use std::sync::MutexGuard;
 use std::time::{Duration, Instant};
 
 /// The keyboard protocol that the program turned on. It tells which entries of the sequence table
@@ -275,13 +276,18 @@ impl ExtendedParser {
         // SAFETY: the pointer leads to a parser, which this thread alone has, and `reading` is
         // another value.
         let is_read =
-            unsafe { raw::hed_extended_reading(&mut *self.parser.locked(), &mut reading) };
+            unsafe { raw::hed_extended_reading(&mut *self.locked(), &mut reading) };
         assert!(is_read, "{FAULT}");
         Reading {
             protocol: Protocol::of(reading.protocol),
             x10_mouse: reading.x10_mouse,
             questions: reading.questions,
         }
+    }
+
+    // The library's parser, for calls that leave it as it is.
+    pub(super) fn locked(&self) -> MutexGuard<'_, raw::Extended> {
+        self.parser.locked()
     }
 
     /// Has the parser read so from now on, also what is buffered. The next call that parses emits

@@ -1,5 +1,5 @@
 // Events to the bytes that a parser reads as them, and what a terminal replies.
-use super::{ExtendedEvent, Reading, SideButtonEvent, SideButtonKind, StringKind};
+use super::{ExtendedEvent, ExtendedParser, SideButtonEvent, SideButtonKind, StringKind};
 use crate::input::sending::sent;
 use crate::input::{AllocError, InputEvent, FAULT};
 use crate::raw;
@@ -44,42 +44,43 @@ impl From<AllocError> for EncodeEventError {
 }
 
 impl ExtendedEvent {
-    /// Returns bytes that an [`ExtendedParser`](super::ExtendedParser) with this reading reads as
-    /// the event, whatever the terminal sent. A multiplexer passes replies on by it, and a test
-    /// writes what it feeds to a parser.
+    /// Returns bytes that the parser reads as the event, whatever the terminal sent. A multiplexer
+    /// passes replies on by it, and a test writes what it feeds to a parser. The parser says how
+    /// they are read, by its reading and its sequence table. What it has buffered doesn't matter,
+    /// and stays.
     ///
     /// With no more to come the bytes are that event alone, and nothing stays buffered. That is so
     /// with more to come too, but for a key of `Input`, whose text may begin a sequence. Such a key
-    /// is written as a row of the sequence table or as its character, and a key report in the form
-    /// of Kitty's protocol, with what happened to the key always told. Keys as a terminal sends
-    /// them are those of [`KeyCode::encode`](crate::input::KeyCode::encode) and of
+    /// is written as what a terminal sends for it, as its character, or as a row of the sequence
+    /// table. A key report is written in the form of Kitty's protocol, with what happened to the
+    /// key always told. Keys as a terminal sends them are those of
+    /// [`KeyCode::encode`](crate::input::KeyCode::encode) and of
     /// [`KeyReport::encode`](super::KeyReport::encode).
     ///
     /// ```
-    /// use hedrugal::extended::{ExtendedEvent, ExtendedParser, Protocol, Reading};
+    /// use hedrugal::extended::{ExtendedEvent, ExtendedParser, Protocol};
     ///
-    /// let reading = Reading::new(Protocol::Kitty);
     /// let mut parser = ExtendedParser::new(Protocol::Kitty);
     /// for bytes in [&b"\x1b[A"[..], b"\x1b[?62;22c", b"\x1b]11;#fff\x07", b"\x1b[200~a\x1b[201~"] {
     ///     let events = parser.parse_as_vec(bytes, true);
-    ///     let written = events[0].encode(reading).unwrap();
+    ///     let written = events[0].encode(&parser).unwrap();
     ///     assert_eq!(parser.parse_as_vec(&written, true), events);
     /// }
-    /// assert_eq!(ExtendedEvent::FocusGained.encode(reading).as_deref(), Ok(&b"\x1b[I"[..]));
+    /// assert_eq!(ExtendedEvent::FocusGained.encode(&parser).as_deref(), Ok(&b"\x1b[I"[..]));
     /// ```
     ///
     /// # Errors
     ///
     /// `NoText` if no bytes are read as the event: of `StringPart`, of `StringCut`, of a paste that
-    /// has ESC `[201~` in it, and of an event that no parser makes. `TooLong` for a sequence of more
-    /// than 256 bytes, or a string of 65535 before its end. `UnnamedBits` for modifiers with a bit
-    /// that no flag has.
+    /// has ESC `[201~` in it, and of an event that no parser makes, such as a position with a 0.
+    /// `TooLong` for a sequence of more than 256 bytes, or a string of 65535 before its end.
+    /// `UnnamedBits` for modifiers with a bit that no flag has.
     ///
     /// # Panics
     ///
     /// If memory is refused.
-    pub fn encode(&self, reading: Reading) -> Result<Vec<u8>, EncodeEventError> {
-        let written = self.try_encode(reading);
+    pub fn encode(&self, parser: &ExtendedParser) -> Result<Vec<u8>, EncodeEventError> {
+        let written = self.try_encode(parser);
         assert!(written != Err(EncodeEventError::Memory), "out of memory");
         written
     }
@@ -87,31 +88,31 @@ impl ExtendedEvent {
     /// Returns what [`ExtendedEvent::encode`] returns.
     ///
     /// ```
-    /// use hedrugal::extended::{EncodeEventError, ExtendedEvent, Protocol, Reading};
+    /// use hedrugal::extended::{EncodeEventError, ExtendedEvent, ExtendedParser, Protocol};
     ///
     /// let focus = ExtendedEvent::Csi(b"I".to_vec());
-    /// let written = focus.try_encode(Reading::new(Protocol::Legacy));
+    /// let written = focus.try_encode(&ExtendedParser::new(Protocol::Legacy));
     /// assert_eq!(written, Err(EncodeEventError::NoText));
     /// ```
     ///
     /// # Errors
     ///
     /// The same, and `Memory` if memory is refused.
-    pub fn try_encode(&self, reading: Reading) -> Result<Vec<u8>, EncodeEventError> {
+    pub fn try_encode(&self, parser: &ExtendedParser) -> Result<Vec<u8>, EncodeEventError> {
         let Some(event) = self.raw() else {
             return Err(EncodeEventError::NoText);
         };
         let text = self.bytes();
-        let reading = reading.raw();
+        let parser = parser.locked();
         let call = |out: &mut [u8], len: &mut usize| {
             // SAFETY: the pointers lead to values of their types that live through the call, with as
-            // many bytes as the lengths say.
+            // many bytes as the lengths say. The parser is one that this thread alone has.
             unsafe {
                 raw::hed_encode_event(
                     &event,
                     text.as_ptr(),
                     text.len(),
-                    &reading,
+                    &*parser,
                     out.as_mut_ptr(),
                     out.len(),
                     len,

@@ -6,7 +6,7 @@ use std::time::Duration;
 /// How long each kind of bytes may stay buffered, as [`InputParser::timeout`] and
 /// [`ExtendedParser::timeout`] count it. `None` is forever.
 ///
-/// Of a limit whole milliseconds count, and at most `i32::MAX` of them.
+/// Of a limit whole milliseconds count: at least one, and at most `i32::MAX` of them.
 ///
 /// [`InputParser::timeout`]: super::InputParser::timeout
 /// [`ExtendedParser::timeout`]: crate::extended::ExtendedParser::timeout
@@ -67,13 +67,22 @@ impl Policy {
     // The policy, as the library has it.
     pub(crate) fn raw(&self) -> raw::Policy {
         raw::Policy {
-            escape: limit_millis(self.escape),
-            alt_key: limit_millis(self.alt_key),
-            sequence: limit_millis(self.sequence),
-            string: limit_millis(self.string),
-            character: limit_millis(self.character),
-            paste: limit_millis(self.paste),
+            escape: raw_limit(self.escape),
+            alt_key: raw_limit(self.alt_key),
+            sequence: raw_limit(self.sequence),
+            string: raw_limit(self.string),
+            character: raw_limit(self.character),
+            paste: raw_limit(self.paste),
         }
+    }
+}
+
+// A limit in the library's numbers, in which 0 is the usual one: so less than a millisecond counts as
+// one.
+fn raw_limit(limit: Option<Duration>) -> i32 {
+    match limit_millis(limit) {
+        0 => 1,
+        millis => millis,
     }
 }
 

@@ -31,8 +31,9 @@ fn read(bytes: &[u8], reading: Reading, more: bool) -> ExtendedEvent {
 // comes.
 fn is_written(event: &ExtendedEvent, reading: Reading, bytes: &[u8]) {
     let more = !matches!(event, ExtendedEvent::Input(InputEvent::Key(_)));
-    assert_eq!(event.encode(reading).as_deref(), Ok(bytes), "{event:?}");
-    assert_eq!(event.try_encode(reading).as_deref(), Ok(bytes));
+    let by = parser(reading);
+    assert_eq!(event.encode(&by).as_deref(), Ok(bytes), "{event:?}");
+    assert_eq!(event.try_encode(&by).as_deref(), Ok(bytes));
     assert_eq!(read(bytes, reading, more), *event);
     if more {
         let mut parser = parser(reading);
@@ -45,15 +46,20 @@ fn is_written(event: &ExtendedEvent, reading: Reading, bytes: &[u8]) {
 }
 
 // What a terminal sent, how it is read, and what its event is written as.
-const WRITTEN: [(Reading, &[u8], &[u8]); 34] = [
+const WRITTEN: [(Reading, &[u8], &[u8]); 40] = [
     (LEGACY, b"\x1b[A", b"\x1b[A"),
     (LEGACY, b"\x1b[1;5A", b"\x1b[1;5A"),
     (KITTY, b"\x1bOa", b"\x1bOa"),
     (LEGACY, b"\x1b[27;1;9~", b"\t"),
     (LEGACY, b"\x1b[9u", b"\x1b[9;1u"),
-    (LEGACY, b"a", b"\x1b[27;1;97~"),
+    (LEGACY, b"a", b"a"),
+    (LEGACY, b"\x1b[27;1;97~", b"a"),
+    (LEGACY, b" ", b" "),
     (KITTY, b"a", b"a"),
+    (LEGACY, b"\xc3\xa9", b"\xc3\xa9"),
     (KITTY, b"\xc3\xa9", b"\xc3\xa9"),
+    (LEGACY, b"\x1ba", b"\x1b[27;3;97~"),
+    (KITTY, b"\x1ba", b"\x1ba"),
     (LEGACY, b"\x1b\xc3\xa9", b"\x1b\xc3\xa9"),
     (LEGACY, b"\x1b", b"\x1b"),
     (LEGACY, b"\x1b[", b"\x1b["),
@@ -72,6 +78,7 @@ const WRITTEN: [(Reading, &[u8], &[u8]); 34] = [
     (KITTY, b"\x1b[97;5u", b"\x1b[97;5:1u"),
     (KITTY, b"\x1b[97:65:99;2:3u", b"\x1b[97:65:99;2:3u"),
     (KITTY, b"\x1b[97;;97u", b"\x1b[97;;97u"),
+    (KITTY, b"\x1b[97:65;1u", b"\x1b[97:65u"),
     (KITTY, b"\x1b[57414u", b"\x1b[57414;1:1u"),
     (LEGACY, b"\x1b[27;9;57344~", b"\x1b[27;9;57344~"),
     (LEGACY, b"\x1b[I", b"\x1b[I"),
@@ -110,7 +117,7 @@ fn long_texts_are_written() {
     assert!(long.len() >= 100_000);
     let wanted = format!("\x1b[200~{long}\x1b[201~");
     let event = paste(&long);
-    assert_eq!(event.encode(KITTY).as_deref(), Ok(wanted.as_bytes()));
+    assert_eq!(event.encode(&parser(KITTY)).as_deref(), Ok(wanted.as_bytes()));
     assert_eq!(read(wanted.as_bytes(), KITTY, true), event);
     for (introducer, opening, event) in [
         ("\x1b]", "52;c;", ExtendedEvent::Osc as fn(Vec<u8>) -> _),
@@ -124,7 +131,7 @@ fn long_texts_are_written() {
             is_written(&event(text), LEGACY, &wanted);
         }
         let long = event(text(opening, 65_533));
-        assert_eq!(long.try_encode(LEGACY), Err(EncodeEventError::TooLong));
+        refuses(&long, LEGACY, EncodeEventError::TooLong);
     }
 }
 
@@ -163,8 +170,9 @@ fn report(key: ReportedKey, kind: KeyEventKind, text: &str) -> ExtendedEvent {
 }
 
 fn refuses(event: &ExtendedEvent, reading: Reading, error: EncodeEventError) {
-    assert_eq!(event.try_encode(reading), Err(error), "{event:?}");
-    assert_eq!(event.encode(reading), Err(error));
+    let by = parser(reading);
+    assert_eq!(event.try_encode(&by), Err(error), "{event:?}");
+    assert_eq!(event.encode(&by), Err(error));
 }
 
 #[test]
@@ -188,6 +196,8 @@ fn what_no_bytes_are_read_as() {
         report(private, Press, "a"),
         report(ReportedKey::Functional(57358), Press, ""),
         report(ReportedKey::Functional(u32::MAX), Press, ""),
+        ExtendedEvent::CursorPosition { row: 0, column: 5 },
+        ExtendedEvent::CursorPosition { row: 5, column: 0 },
         ExtendedEvent::Csi(b"I".to_vec()),
         ExtendedEvent::Csi(Vec::new()),
         ExtendedEvent::Osc(b"ab".to_vec()),
@@ -237,6 +247,20 @@ fn what_has_bits_without_a_name() {
 }
 
 #[test]
+fn what_is_buffered_stays() {
+    let mut buffered = parser(LEGACY);
+    buffered.parse(b"\x1b[1;", |_| {}, true);
+    for _ in 0..2 {
+        let character = key(KeyCode::Char('a'), Modifiers::NONE);
+        assert_eq!(character.encode(&buffered).as_deref(), Ok(&b"a"[..]));
+    }
+    assert_eq!(
+        buffered.parse_as_vec(b"5A", true),
+        [key(KeyCode::UpArrow, Modifiers::CTRL)]
+    );
+}
+
+#[test]
 fn a_position_that_is_expected_is_no_key() {
     let asked = Reading {
         questions: 1,
@@ -244,7 +268,7 @@ fn a_position_that_is_expected_is_no_key() {
     };
     let f3 = key(KeyCode::Function(3), Modifiers::CTRL);
     is_written(&f3, LEGACY, b"\x1b[1;5R");
-    let written = f3.encode(asked).unwrap();
+    let written = f3.encode(&parser(asked)).unwrap();
     assert_ne!(written, b"\x1b[1;5R");
     assert_eq!(read(&written, asked, false), f3);
 }
@@ -256,7 +280,7 @@ fn replies_are_read_back() {
         questions: 1,
         ..LEGACY
     };
-    for (row, column) in [(1, 1), (1, 16), (1, 17), (24, 80), (0, 65535)] {
+    for (row, column) in [(1, 1), (1, 16), (1, 17), (24, 80), (2, 65535)] {
         let private = encode_cursor_position(row, column, true);
         let plain = encode_cursor_position(row, column, false);
         assert_eq!(private, format!("\x1b[?{row};{column}R").as_bytes());
@@ -271,6 +295,14 @@ fn replies_are_read_back() {
         }
         let is_key = row == 1 && column <= 16;
         assert_eq!(read(&plain, LEGACY, true) != at(row, column), is_key);
+    }
+    // Rows and columns count from 1.
+    for bytes in [
+        encode_cursor_position(0, 5, true),
+        encode_cursor_position(5, 0, false),
+    ] {
+        let event = read(&bytes, KITTY, true);
+        assert_eq!(event, ExtendedEvent::Csi(bytes[2..].to_vec()));
     }
     for (scheme, text) in [
         (ColourScheme::Dark, &b"?997;1n"[..]),

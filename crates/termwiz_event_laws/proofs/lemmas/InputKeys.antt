@@ -1,8 +1,10 @@
 -- Keys of the port's events: what is written for one is read as it, and none that a reading emits is refused.
-use Rattle.std.proofs.Common.{◌≡◌, ◌≢◌, ℕ, Bool, true, false, List, ◌++◌, refl, sym, ap, ◌∙◌, subst, arith, Contains}
+use Rattle.std.proofs.Common.{◌≡◌, ◌≢◌, ◌⊎◌, inl, inr, ⊎_elim, ℕ, Bool, true, false, max, List, [], ◌++◌, refl, sym, ap, ◌∙◌, subst, arith, append-nil, Contains}
 use Rattle.std.specs.Prelude.{◌==◌}
 use Rattle.std.specs.Char.{encode_utf8}
 use Rattle.std.specs.Int.RustNames.{bit_or}
+use Rattle.std.specs.Int.{bit_at}
+use Rattle.std.proofs.lemmas.Nat.Bits.{bit_at_or}
 use Rattle.std.proofs.lemmas.Bool.{and_parts}
 use Rattle.std.proofs.lemmas.Bool.Decides.{nat_tests}
 use Rattle.bitflags.specs.Sets.{without}
@@ -10,7 +12,7 @@ use Rattle.termwiz_keys.specs.Introducers.{ESC, START}
 use Rattle.termwiz_keys.specs.KeyCodes.{holds}
 use Rattle.termwiz_keys.specs.Keys.{ALT, NONE, key_with, plain, escape, with_alt}
 use Rattle.termwiz_keys.specs.declared.types.KeyCode.{KeyCode}
-use Rattle.termwiz_keys.specs.declared.types.KeyCode.TheVariants.{Char, InternalPasteStart}
+use Rattle.termwiz_keys.specs.declared.types.KeyCode.TheVariants.{Char, Escape, InternalPasteStart}
 use Rattle.termwiz_keys.specs.declared.types.KeyEvent.{KeyEvent}
 use Rattle.termwiz_keys.specs.declared.types.InputEvent.{InputEvent}
 use Rattle.termwiz_keys.specs.declared.types.InputEvent.TheVariants.{Key}
@@ -32,7 +34,7 @@ use Rattle.termwiz_extended_grammar.specs.ExtendedGrammar.Stands.{usual, extra, 
 use Rattle.termwiz_extended_grammar.proofs.lemmas.items.ExtendedItems.{starts_shape}
 use Rattle.termwiz_kitty.proofs.lemmas.legacy.ReadAsOne.{row_is}
 use Rattle.termwiz_event_laws.proofs.lemmas.Origins.{FromForm, extra_event, no_input_key, alt_report, IsOfString, comes_of_string}
-use Rattle.termwiz_senders.specs.KeyTexts.{IsReadAsKey, HasRow, IsPlainKeyText, IsKeyText, without_alt}
+use Rattle.termwiz_senders.specs.KeyTexts.{IsCharacterText, IsReadAsKey, HasRow, IsPlainKeyText, IsKeyText, without_alt}
 use Rattle.termwiz_senders.specs.KeyTexts.IsPlainKeyText.{by_sending, by_row, by_character}
 use Rattle.termwiz_senders.specs.KeyTexts.IsKeyText.{alone, after_escape}
 use Rattle.termwiz_event_laws.proofs.lemmas.KeysAlone.{usual_from, usual_alone, row_of, row_read, row_is_of, character_alone, character_read, replacement_is, row_usual, no_row, no_character}
@@ -41,8 +43,8 @@ use Rattle.termwiz_event_laws.proofs.lemmas.KeysAfterEscape.{alt_told, told, is_
 -- What is written is read as the key.
 plain_read : (reading : Reading) (k : KeyEvent) (bytes : List ℕ) → IsPlainKeyText reading k bytes → IsReadAsKey reading k bytes
 plain_read reading k bytes (by_sending is) = is.1.read
-plain_read reading k bytes (by_row none is) = is.read
 plain_read reading k bytes (by_character none is) = is.read
+plain_read reading k bytes (by_row none never is) = is.read
 
 pub input_key_read_back : (reading : Reading) (k : KeyEvent) (bytes : List ℕ) → IsKeyText reading k bytes → IsReadAsKey reading k bytes
 input_key_read_back reading k bytes (alone is) = plain_read reading k bytes is
@@ -52,6 +54,59 @@ input_key_read_back reading k bytes (after_escape none is) = is.read
 abbrev character_of : KeyCode → ℕ
 character_of (Char c) = c
 character_of other = 0
+
+-- A key that got ALT isn't a character alone.
+alt_held : (j : KeyEvent) (c : ℕ) → with_alt j ≡ plain c → ⊥
+alt_held j c e =
+    let none : bit_or j.modifiers.0 ALT ≡ 0 = ap (λ k. k.modifiers.0) e in
+    let some : 0 ≡ max (bit_at j.modifiers.0 2) 1 = ap (λ n. bit_at n 2) (sym none) ∙ bit_at_or j.modifiers.0 ALT 2 in omega (arith, some)
+
+-- Nor is the Escape key.
+not_escape : (c : ℕ) → escape ≡ plain c → ⊥
+not_escape c e = let keys : Escape ≡ Char c = ap (λ k. k.key) e in cc (keys)
+
+-- What is read as a character alone is its encoding, unless that is a row.
+abbrev IsCharacterOrRow : List ℕ → ℕ → Type 0
+IsCharacterOrRow u c = IsCharacter u c ⊎ Contains rows (u, plain c)
+
+module _ (reading : Reading) (c : ℕ) (u : List ℕ) (encoded : u ≡ encode_utf8 c) where
+  character_item : (bytes : List ℕ) (f : Bool) (event : InputEvent) → port.Item u f bytes event → event ≡ Key (plain c) → u ≡ bytes
+      → IsCharacterOrRow u c
+  character_item bytes f event (key text i is other single) e whole =
+      let same : i ≡ plain c = cc (e) in
+      inr (subst (λ t. Contains rows (t, plain c)) (sym whole) (subst (λ k. Contains rows (text, k)) same (row_of text i is.is_sequence)))
+  character_item bytes f event (char d is) e whole =
+      let keys : plain d ≡ plain c = cc (e) in
+      let same : d ≡ c = ap (λ k. character_of k.key) keys in inl (subst (IsCharacter u) same is)
+  character_item bytes f event (broken byte is) e whole =
+      let keys : plain replacement ≡ plain c = cc (e) in
+      let same : replacement ≡ c = ap (λ k. character_of k.key) keys in
+      inl (subst (λ t. IsCharacter t c) (sym encoded) (subst (λ d. IsCharacter (encode_utf8 d) d) same replacement_is))
+  character_item bytes f event (mouse text report is) e whole = cc (e)
+  character_item bytes f event (paste body begins ends) e whole = cc (e)
+  character_item bytes f event (lone_escape v h is head apart) e whole = absurd (not_escape c (cc (e)))
+  character_item bytes f event (alt v h j is head near) e whole =
+      let keys : with_alt j ≡ plain c = cc (e) in absurd (alt_held j c keys)
+
+  character_stands : (left : List ℕ) (f : Bool) (event : ExtendedEvent) → Stands reading u f left event → event ≡ Input (Key (plain c))
+      → left ≡ [] → IsCharacterOrRow u c
+  character_stands left f event (extra text rest d is split) e all =
+      absurd (no_input_key text (plain c) (subst (FromForm text) e (extra_event reading text d is)))
+  character_stands left f event (alt_key text rest d is bare split) e all =
+      absurd (let r = alt_report text d is.means bare.is_key in let other : Report r.0 ≡ Input (Key (plain c)) = sym r.1 ∙ e in cc (other))
+  character_stands left f event (lone rest split starts) e all = absurd (not_escape c (cc (e)))
+  character_stands left f event (string kind head bytes after rest d is comes) e all =
+      absurd (subst IsOfString e (comes_of_string kind head bytes after rest f d comes))
+  character_stands left f event (usual bytes rest d stands split here after) e all =
+      character_item bytes f d stands.item (cc (e)) (split ∙ ap (λ z. bytes ++ z) all ∙ append-nil bytes)
+
+character_or_row : (reading : Reading) (k : KeyEvent) (text : List ℕ) (is : IsCharacterText reading k text)
+    → IsCharacter (encode_utf8 is.character) is.character ⊎ Contains rows (text, k)
+character_or_row reading k text is = ⊎_elim
+    (λ (character : IsCharacter text is.character). inl (subst (λ t. IsCharacter t is.character) is.bytes_are character))
+    (λ (row : Contains rows (text, plain is.character)). inr (subst (λ j. Contains rows (text, j)) (sym is.key_is) row))
+    (character_stands reading is.character text is.bytes_are is.read.steps.0 false (Input (Key k)) is.read.steps.1
+    (ap (λ j. Input (Key j)) is.key_is) is.read.steps.2)
 
 -- A key with ALT that has no text isn't a key that got ALT after an ESC.
 module _ (reading : Reading) (j : KeyEvent) (bare : holds j.modifiers.0 ALT ≡ false) (back : without_alt (with_alt j) ≡ j)
@@ -81,9 +136,14 @@ module _ (reading : Reading) (j : KeyEvent) (bare : holds j.modifiers.0 ALT ≡ 
     where
       go : (text : List ℕ) → IsPlainKeyText reading j text → IsReadAsKey reading (with_alt j) (ESC ++ text)
       go text (by_sending is) = row_behind text is.1.row (not_start r text j row other is.1.row) is.1.read
-      go text (by_row none is) =
+      go text (by_row none never is) =
           let at = (rows_in_order.exactly text j).1 (is.place, is.here) in row_behind text at (not_start r text j row other at) is.read
-      go text (by_character none is) = absurd (none (r, record { row = row; read = read }))
+      go text (by_character none is) = ⊎_elim
+          (λ (character : IsCharacter (encode_utf8 is.character) is.character).
+          subst (λ t. IsReadAsKey reading (with_alt j) (ESC ++ t)) (sym is.bytes_are)
+          (escaped_character reading j bare no_plain is.character is.key_is character))
+          (λ (at : Contains rows (text, j)). row_behind text at (not_start r text j row other at) is.read)
+          (character_or_row reading j text is)
 
   -- or it is a character
   by_some_character : (c : ℕ) → j ≡ plain c → IsCharacter (encode_utf8 c) c → ⊥
@@ -100,7 +160,7 @@ module _ (reading : Reading) (j : KeyEvent) (bare : holds j.modifiers.0 ALT ≡ 
 
       go : (text : List ℕ) → IsPlainKeyText reading j text → IsReadAsKey reading (with_alt j) (ESC ++ text)
       go text (by_sending s) = row_behind text s.1.row (no_start text s.1.row) s.1.read
-      go text (by_row none s) =
+      go text (by_row none never s) =
           let at = (rows_in_order.exactly text j).1 (s.place, s.here) in row_behind text at (no_start text at) s.read
       go text (by_character none sent) =
           let equal : sent.character ≡ c = ap (λ k. character_of k.key) (sym sent.key_is ∙ e) in

@@ -1,7 +1,8 @@
 -- What the fields of a written key report say.
-use Rattle.std.proofs.Common.{◌≡◌, ℕ, ◌+◌, ◌-◌, ◌<◌, Bool, true, false, List, [], ◌∷◌, ◌++◌, length, refl, sym, ap, ◌∙◌, subst, arith, decimal, Option, Some, append_assoc}
+use Rattle.std.proofs.Common.{◌≡◌, ℕ, ◌+◌, ◌-◌, ◌<◌, Bool, true, false, List, [], ◌∷◌, ◌++◌, length, refl, sym, ap, ◌∙◌, subst, arith, decimal, Option, Some, append_assoc, append-nil}
 use Rattle.std.specs.Prelude.{◌==◌, option_map, encode_utf8_all}
 use Rattle.std.specs.List.{AllByRecursion}
+use Rattle.std.proofs.lemmas.Bool.{and_parts}
 use Rattle.std.proofs.lemmas.Bool.Decides.{nat_tests}
 use Rattle.termwiz_keymap.proofs.lemmas.lists.CommonPrefixes.{true_from}
 use Rattle.termwiz_grammar.specs.MouseReports.{IsDigit}
@@ -15,7 +16,8 @@ use Rattle.termwiz_kitty.proofs.lemmas.read_back.Decimals.{number_decimal}
 use Rattle.termwiz_kitty.proofs.lemmas.read_back.FieldSplits.{IsFieldByte, digit_in_field, one_part, more_parts, one_field, more_fields, before_end_here}
 use Rattle.termwiz_kitty.proofs.lemmas.read_back.WrittenFields.{decimal_small, manner_back, manner_bytes, IsCharacterOrMissing, codes_back, codes_bytes, AreCharacters, text_back, characters_bytes}
 use Rattle.termwiz_kitty.proofs.lemmas.read_back.WrittenReports.{carried}
-use Rattle.termwiz_senders.specs.ReportTexts.{kind_number, told_manner, short_manner, further_fields}
+use Rattle.termwiz_kitty.specs.Telling.{is_press}
+use Rattle.termwiz_senders.specs.ReportTexts.{kind_number, told_manner, is_plain_press, short_manner, further_fields}
 use Rattle.termwiz_event_laws.proofs.lemmas.KeyReportsNumbers.{kind_small}
 
 pub digit_bytes : (n : ℕ) → n < 2000000 → AllByRecursion IsFieldByte (decimal n)
@@ -105,13 +107,24 @@ short_bytes bits kind h = go (bits == 0) refl
 
 -- a report with other characters or a text
 
+press_is : (kind : KeyEventKind) → is_press kind ≡ true → kind ≡ Press
+press_is Press e = refl
+press_is Repeat e = absurd (cc (e))
+press_is Release e = absurd (cc (e))
+
 pub by_fields : (body : List ℕ) → character_key (body ++ 117 ∷ []) ≡ character_of_fields (fields body)
 unfolding character_key
 by_fields body = rw (before_end_here body 117) refl
 
-pub further_none : (bits : ℕ) (kind : KeyEventKind) → further_fields bits kind [] ≡ 59 ∷ short_manner bits kind
+-- at the end of a report nothing is written of a plain press
+pub further_left_out : (bits : ℕ) (kind : KeyEventKind) → is_plain_press bits kind ≡ true → further_fields bits kind [] ≡ []
 unfolding further_fields
-further_none bits kind = refl
+further_left_out bits kind plain = rw plain refl
+
+pub further_none : (bits : ℕ) (kind : KeyEventKind) → is_plain_press bits kind ≡ false
+    → further_fields bits kind [] ≡ 59 ∷ short_manner bits kind
+unfolding further_fields
+further_none bits kind told = rw told refl
 
 pub further_some : (bits : ℕ) (kind : KeyEventKind) (c : ℕ) (cs : List ℕ)
     → further_fields bits kind (c ∷ cs) ≡ 59 ∷ (short_manner bits kind ++ 59 ∷ characters_text (c ∷ cs))
@@ -138,11 +151,25 @@ module _ (own : ℕ) (shifted base : Option ℕ) (bits : ℕ) (kind : KeyEventKi
   pub character_back : (cs : List ℕ) → AreCharacters cs
       → character_key (codes_text own shifted base ++ further_fields bits kind cs ++ 117 ∷ [])
       ≡ Some (carried own shifted base bits kind (encode_utf8_all cs))
-  character_back [] a =
-      by_fields (codes_text own shifted base ++ further_fields bits kind [])
-      ∙ ap (λ z. character_of_fields (fields (codes_text own shifted base ++ z))) (further_none bits kind)
-      ∙ ap character_of_fields fields_of_two
-      ∙ rw (codes_back own shifted base o s b, short_back bits kind h) refl
+  character_back [] a = go (is_plain_press bits kind) refl
+    where
+      go : (v : Bool) → is_plain_press bits kind ≡ v
+          → character_key (codes_text own shifted base ++ further_fields bits kind [] ++ 117 ∷ [])
+          ≡ Some (carried own shifted base bits kind (encode_utf8_all []))
+      go true plain =
+          let both = and_parts (bits == 0) (is_press kind) plain in
+          let none : bits ≡ 0 = let first : (bits == 0) ≡ true = both.0 in grind (arith, nat_tests) in
+          let pressed : kind ≡ Press = press_is kind both.1 in
+          by_fields (codes_text own shifted base ++ further_fields bits kind [])
+          ∙ ap (λ z. character_of_fields (fields (codes_text own shifted base ++ z))) (further_left_out bits kind plain)
+          ∙ ap (λ z. character_of_fields (fields z)) (append-nil (codes_text own shifted base))
+          ∙ ap character_of_fields (one_field (codes_text own shifted base) (codes_bytes own shifted base o s b))
+          ∙ rw (codes_back own shifted base o s b, none, pressed) refl
+      go false told =
+          by_fields (codes_text own shifted base ++ further_fields bits kind [])
+          ∙ ap (λ z. character_of_fields (fields (codes_text own shifted base ++ z))) (further_none bits kind told)
+          ∙ ap character_of_fields fields_of_two
+          ∙ rw (codes_back own shifted base o s b, short_back bits kind h) refl
   character_back (c ∷ cs) a =
       by_fields (codes_text own shifted base ++ further_fields bits kind (c ∷ cs))
       ∙ ap (λ z. character_of_fields (fields (codes_text own shifted base ++ z))) (further_some bits kind c cs)

@@ -26,19 +26,23 @@ use Rattle.termwiz_kitty.proofs.lemmas.read_back.FieldSplits.{one_field, more_fi
 use Rattle.termwiz_kitty.proofs.lemmas.read_back.WrittenFields.{decimal_small, IsCharacterOrMissing, codes_bytes, AreCharacters, characters_bytes}
 use Rattle.termwiz_kitty.proofs.lemmas.read_back.WrittenReports.{carried, report_by_character}
 use Rattle.termwiz_kitty.proofs.lemmas.read_back.SequenceForms.{IsParameter, written}
-use Rattle.termwiz_senders.specs.ReportTexts.{is_missing, short_manner, further_fields, private_report_text}
+use Rattle.termwiz_senders.specs.ReportTexts.{is_missing, is_plain_press, short_manner, further_fields, private_report_text}
 use Rattle.termwiz_event_laws.proofs.lemmas.KeyReportsNumbers.{below_power}
 use Rattle.termwiz_event_laws.proofs.lemmas.KeyReportsFree.{has_colon, is_odd, colon_within, colon_before, colon_is_odd, fields_are_odd, long_is_odd, odd_means}
-use Rattle.termwiz_event_laws.proofs.lemmas.KeyReportsBack.{digit_bytes, short_bytes, further_none, further_some, character_back}
+use Rattle.termwiz_event_laws.proofs.lemmas.KeyReportsBack.{digit_bytes, short_bytes, further_left_out, further_none, further_some, character_back}
 use Rattle.termwiz_event_laws.proofs.lemmas.KeyReportsPlainBack.{field_parameters, semicolon_parameter}
 
 -- other characters, or a text
 
 further_parameters : (bits : ℕ) (kind : KeyEventKind) (cs : List ℕ) → bits < 256 → AreCharacters cs
     → AllByRecursion IsParameter (further_fields bits kind cs)
-further_parameters bits kind [] h a =
-    subst (AllByRecursion IsParameter) (sym (further_none bits kind))
-    ((omega arith, omega arith), field_parameters (short_manner bits kind) (short_bytes bits kind h))
+further_parameters bits kind [] h a = go (is_plain_press bits kind) refl
+  where
+    go : (v : Bool) → is_plain_press bits kind ≡ v → AllByRecursion IsParameter (further_fields bits kind [])
+    go true plain = subst (AllByRecursion IsParameter) (sym (further_left_out bits kind plain)) tt
+    go false told =
+        subst (AllByRecursion IsParameter) (sym (further_none bits kind told))
+        ((omega arith, omega arith), field_parameters (short_manner bits kind) (short_bytes bits kind h))
 further_parameters bits kind (c ∷ cs) h a =
     subst (AllByRecursion IsParameter) (sym (further_some bits kind c cs)) (
       (omega arith, omega arith),

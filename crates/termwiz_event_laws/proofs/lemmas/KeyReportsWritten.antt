@@ -1,6 +1,6 @@
 -- What a key report is written as, and how long that is.
 use Rattle.std.proofs.Common.{◌≡◌, ◌⊎◌, inl, inr, ℕ, ◌+◌, ◌<◌, ◌≤◌, Bool, true, false, ◌&&◌, List, [], ◌∷◌, ◌++◌, length, refl, arith, decimal, Option, Some, None, length-append}
-use Rattle.std.specs.Prelude.{encode_utf8}
+use Rattle.std.specs.Prelude.{encode_utf8, if◌then◌else◌}
 use Rattle.std.specs.Str.{chars}
 use Rattle.std.proofs.lemmas.Bool.{and_parts}
 use Rattle.std.proofs.lemmas.Bool.Decides.{nat_tests}
@@ -14,7 +14,7 @@ use Rattle.termwiz_kitty.specs.declared.key_forms.KeyForm.{KeyForm}
 use Rattle.termwiz_kitty.specs.declared.key_forms.KeyForm.TheVariants.{Letter, Number, Code}
 use Rattle.termwiz_kitty.specs.KeyForms.{form_of}
 use Rattle.termwiz_kitty.specs.KittyTexts.{codes_text, characters_text, most_bytes}
-use Rattle.termwiz_senders.specs.ReportTexts.{kind_number, told_manner, is_missing, says_no_more, plain_report_text, short_manner, further_fields, full_report_text, own_number, is_own_key, private_character, report_text}
+use Rattle.termwiz_senders.specs.ReportTexts.{kind_number, told_manner, is_missing, is_plain_press, says_no_more, plain_report_text, short_manner, further_fields, full_report_text, own_number, is_own_key, private_character, report_text}
 use Rattle.termwiz_event_laws.proofs.lemmas.KeyReportsNumbers.{at_most_seven, kind_small}
 use Rattle.termwiz_event_laws.proofs.lemmas.KeyReportsKeys.{is_small, is_plain_key, key_is}
 use Rattle.termwiz_event_laws.proofs.lemmas.KeyReportsParts.{short_few}
@@ -109,7 +109,11 @@ full_long own r = omega (
 further_long : (bits : ℕ) (kind : KeyEventKind) (cs : List ℕ)
     → length (further_fields bits kind cs) ≤ 2 + length (short_manner bits kind) + length (characters_text cs)
 unfolding further_fields
-further_long bits kind [] = omega arith
+further_long bits kind [] = go (is_plain_press bits kind)
+  where
+    go : (v : Bool) → length (if v then [] else 59 ∷ short_manner bits kind) ≤ 2 + length (short_manner bits kind) + length (characters_text [])
+    go true = omega arith
+    go false = omega arith
 further_long bits kind (c ∷ cs) = omega (
   arith,
   length-append (short_manner bits kind ++ 59 ∷ []) (characters_text (c ∷ cs)),

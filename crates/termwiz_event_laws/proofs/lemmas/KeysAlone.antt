@@ -203,7 +203,7 @@ module _ (reading : Reading) (k : KeyEvent) (refused : (bytes : List ℕ) → ¬
 
   none_below : (n place : ℕ) (bytes : List ℕ) → place < n → IsRowAt place bytes k → ¬ IsReadAsKey reading k bytes
   none_below zero place bytes below here read = omega (arith, below)
-  none_below (suc n) place bytes below here read = refused bytes (by_row not_sent (record {
+  none_below (suc n) place bytes below here read = refused bytes (by_row not_sent (λ own is. refused own (by_character not_sent is)) (record {
     place = place;
     here = here;
     read = read;
@@ -216,4 +216,4 @@ module _ (reading : Reading) (k : KeyEvent) (refused : (bytes : List ℕ) → ¬
 
   pub no_character : (c : ℕ) → k ≡ plain c → ¬ IsReadAsKey reading k (encode_utf8 c)
   no_character c e read = refused (encode_utf8 c)
-      (by_character no_row (record { character = c; key_is = e; bytes_are = refl; read = read }))
+      (by_character not_sent (record { character = c; key_is = e; bytes_are = refl; read = read }))

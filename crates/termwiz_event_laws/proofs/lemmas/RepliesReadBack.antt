@@ -18,11 +18,11 @@ use Rattle.termwiz_extended_grammar.specs.ExtraSequences.{Overrides, IsFree}
 use Rattle.termwiz_kitty.proofs.lemmas.read_back.FieldSplits.{before_end_here, one_field, one_part}
 use Rattle.termwiz_senders.specs.EventTexts.{position_text, size_text, flags_text, IsReadAtOnce}
 use Rattle.termwiz_senders.proofs.lemmas.WrittenNumbers.{digits_of, field_of, number_back}
-use Rattle.termwiz_event_laws.specs.EventLaws.{IsToldPlainly, PositionsReadBack}
+use Rattle.termwiz_event_laws.specs.EventLaws.{IsPlace, IsToldPlainly, PositionsReadBack}
 use Rattle.termwiz_event_laws.proofs.lemmas.ControlTexts.{written, IsParameter, IsEnd, IsClear, IsUnknown, free_means, control_means, no_mark}
 use Rattle.termwiz_event_laws.proofs.lemmas.ReportRows.{IsUnsigned, no_report_end, low_position}
 use Rattle.termwiz_event_laws.proofs.lemmas.UnreadEnds.{no_number, no_focus, no_character, no_key, no_cursor, no_flags, event_by_reply}
-use Rattle.termwiz_event_laws.proofs.lemmas.WrittenWords.{word_parameters, word_short, word_back, followed, followed_parameters, followed_short, unsigned, unmarked, two_fields, four_fields}
+use Rattle.termwiz_event_laws.proofs.lemmas.WrittenWords.{word_parameters, word_short, word_back, place_back, followed, followed_parameters, followed_short, unsigned, unmarked, two_fields, four_fields}
 
 -- the focus
 
@@ -51,7 +51,13 @@ length_written : (body : List ℕ) (last : ℕ) → length (written body last) �
 length_written body last = omega (arith, length-append body (last ∷ []))
 
 -- positions
-module _ (row column : ℕ) (f : row < 2 ^ 16) (g : column < 2 ^ 16) where
+module _ (row column : ℕ) (above : IsPlace row) (beside : IsPlace column) where
+  f : row < 2 ^ 16
+  f = above.1
+
+  g : column < 2 ^ 16
+  g = beside.1
+
   parameters : AllByRecursion IsParameter (followed (decimal row) column)
   parameters = followed_parameters (decimal row) column g (word_parameters row f)
 
@@ -59,11 +65,11 @@ module _ (row column : ℕ) (f : row < 2 ^ 16) (g : column < 2 ^ 16) where
   short = followed_short (decimal row) column 5 g (word_short row f)
 
   position_back : position_of_fields (fields (followed (decimal row) column)) ≡ Some (CursorPosition row column)
-  position_back = rw (two_fields row column f g, word_back row f, word_back column g) refl
+  position_back = rw (two_fields row column f g, place_back row above.0 f, place_back column beside.0 g) refl
 
   -- a question mark before the numbers
   marked_back : marked_position_of_fields (fields (followed (decimal row) column)) ≡ Some (CursorPosition row column)
-  marked_back = rw (two_fields row column f g, word_back row f, word_back column g) refl
+  marked_back = rw (two_fields row column f g, place_back row above.0 f, place_back column beside.0 g) refl
 
   private_back : cursor_position (63 ∷ followed (decimal row) column ++ 82 ∷ []) ≡ Some (CursorPosition row column)
   unfolding cursor_position after_start
@@ -120,8 +126,7 @@ module _ (row column : ℕ) (f : row < 2 ^ 16) (g : column < 2 ^ 16) where
       go (inl kitty) = free (inl kitty)
       go (inr (inl asked)) = free (inr asked)
       go (inr (inr (inl other))) = absurd (other found.2)
-      go (inr (inr (inr (inl none)))) = absurd (omega (arith, none, found.3))
-      go (inr (inr (inr (inr far)))) = absurd (omega (arith, far, found.4))
+      go (inr (inr (inr far))) = absurd (omega (arith, far, found.4))
 
   pub plain_position : (reading : Reading) → IsToldPlainly reading row column
       → IsReadAtOnce reading (CursorPosition row column) (position_text row column false)
@@ -133,7 +138,7 @@ module _ (row column : ℕ) (f : row < 2 ^ 16) (g : column < 2 ^ 16) where
       (position_is body plain_back)
 
 pub positions_read_back : PositionsReadBack
-positions_read_back reading row column f g = (private_position row column f g reading, plain_position row column f g reading)
+positions_read_back reading row column above beside = (private_position row column above beside reading, plain_position row column above beside reading)
 
 -- sizes
 module _ (rows columns height width : ℕ) (a : rows < 2 ^ 16) (b : columns < 2 ^ 16) (c : height < 2 ^ 16) (d : width < 2 ^ 16) where

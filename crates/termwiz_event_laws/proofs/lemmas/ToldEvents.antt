@@ -1,5 +1,5 @@
 -- Which events follow ESC [, by the rule that gives each.
-use Rattle.std.proofs.Common.{◌≡◌, ◌⊎◌, inl, inr, ℕ, ◌==◌, Bool, true, false, List, [], ◌∷◌, refl, sym, ap, subst, Option, Some, None}
+use Rattle.std.proofs.Common.{◌≡◌, ◌⊎◌, inl, inr, ℕ, ◌<◌, ◌==◌, Bool, true, false, List, [], ◌∷◌, refl, sym, ap, subst, Option, Some, None}
 use Rattle.std.specs.Prelude.{⊤, option_map, unwrap_or, if◌then◌else◌, bytes_eq}
 use Rattle.std.proofs.lemmas.Option.{option_and_then_some}
 use Rattle.termwiz_keys.specs.declared.types.MouseEvent.{MouseEvent}
@@ -8,17 +8,18 @@ use Rattle.termwiz_extended_events.specs.declared.types.KeyReport.{KeyReport}
 use Rattle.termwiz_extended_events.specs.declared.types.ExtendedEvent.{ExtendedEvent}
 use Rattle.termwiz_extended_events.specs.declared.types.ExtendedEvent.TheVariants.{Input, Key, FocusGained, FocusLost, CursorPosition, Resize, KeyboardFlags, SideButton, Csi}
 use Rattle.termwiz_extended_events.specs.declared.types.SideButtonEvent.{SideButtonEvent}
-use Rattle.termwiz_extended_events.specs.Numbers.{fields, before_end, after_start, short_number}
+use Rattle.termwiz_extended_events.specs.Numbers.{fields, before_end, after_start, place_number, short_number}
 use Rattle.termwiz_extended_events.specs.KeyReports.{key_report, third_function_key, rxvt_key, console_key}
 use Rattle.termwiz_extended_events.specs.Replies.{focus, position_at, position_on, position_of_fields, marked_position_of_fields, position_of, cursor_position, keyboard_flags, size_at, size_of_fields, numbered_size, resize, reply, mouse_report, side_button}
 use Rattle.termwiz_extended_events.specs.Meanings.{mouse, reported, event_after, event_of}
+use Rattle.termwiz_event_laws.proofs.lemmas.KeyReportsNumbers.{number_parts}
 use Rattle.termwiz_event_laws.proofs.lemmas.SomeOptions.{map_some, IsAmong, among}
 
 -- an event that tells the focus, a position, flags or a size
 abbrev pub IsReply : ExtendedEvent → Type 0
 IsReply FocusGained = ⊤
 IsReply FocusLost = ⊤
-IsReply (CursorPosition row column) = ⊤
+IsReply (CursorPosition row column) = (0 < row) × (0 < column)
 IsReply (KeyboardFlags flags) = ⊤
 IsReply (Resize rows columns height width) = ⊤
 IsReply event = ⊥
@@ -50,26 +51,36 @@ focus_told (b ∷ []) e is = go (b == 73) (b == 79) is
     go false false h = absurd (cc (h))
 focus_told (b ∷ c ∷ s) e is = absurd (cc (is))
 
-at_told : (row column : Option ℕ) (e : ExtendedEvent) → position_at row column ≡ Some e → IsReply e
-at_told (Some row) (Some column) e is = subst IsReply (let same : CursorPosition row column ≡ e = cc (is) in same) tt
-at_told (Some row) None e is = absurd (cc (is))
-at_told None column e is = absurd (cc (is))
+-- a number that is there counts from 1
+abbrev IsPlaceIfTold : Option ℕ → Type 0
+IsPlaceIfTold place = (n : ℕ) → place ≡ Some n → 0 < n
 
-on_told : (row column page : Option ℕ) (e : ExtendedEvent) → position_on row column page ≡ Some e → IsReply e
-on_told row column (Some page) e is = at_told row column e is
-on_told row column None e is = absurd (cc (is))
+place_told : (digits : List ℕ) → IsPlaceIfTold (place_number digits)
+place_told digits n e = (number_parts 5 1 65535 digits n e).low
+
+at_told : (row column : Option ℕ) (e : ExtendedEvent) → IsPlaceIfTold row → IsPlaceIfTold column → position_at row column ≡ Some e → IsReply e
+at_told (Some row) (Some column) e first second is =
+    subst IsReply (let same : CursorPosition row column ≡ e = cc (is) in same) (first row refl, second column refl)
+at_told (Some row) None e first second is = absurd (cc (is))
+at_told None column e first second is = absurd (cc (is))
+
+on_told : (row column page : Option ℕ) (e : ExtendedEvent) → IsPlaceIfTold row → IsPlaceIfTold column → position_on row column page ≡ Some e
+    → IsReply e
+on_told row column (Some page) e first second is = at_told row column e first second is
+on_told row column None e first second is = absurd (cc (is))
 
 fields_told : (fs : List (List ℕ)) (e : ExtendedEvent) → position_of_fields fs ≡ Some e → IsReply e
 fields_told [] e is = absurd (cc (is))
 fields_told (row ∷ []) e is = absurd (cc (is))
-fields_told (row ∷ column ∷ []) e is = at_told (short_number row) (short_number column) e is
+fields_told (row ∷ column ∷ []) e is = at_told (place_number row) (place_number column) e (place_told row) (place_told column) is
 fields_told (row ∷ column ∷ page ∷ fs) e is = absurd (cc (is))
 
 marked_told : (fs : List (List ℕ)) (e : ExtendedEvent) → marked_position_of_fields fs ≡ Some e → IsReply e
 marked_told [] e is = fields_told [] e is
 marked_told (row ∷ []) e is = fields_told (row ∷ []) e is
 marked_told (row ∷ column ∷ []) e is = fields_told (row ∷ column ∷ []) e is
-marked_told (row ∷ column ∷ page ∷ []) e is = on_told (short_number row) (short_number column) (short_number page) e is
+marked_told (row ∷ column ∷ page ∷ []) e is =
+    on_told (place_number row) (place_number column) (short_number page) e (place_told row) (place_told column) is
 marked_told (row ∷ column ∷ page ∷ f ∷ fs) e is = fields_told (row ∷ column ∷ page ∷ f ∷ fs) e is
 
 position_told : (body : List ℕ) (marked : Option (List ℕ)) (e : ExtendedEvent) → position_of body marked ≡ Some e → IsReply e

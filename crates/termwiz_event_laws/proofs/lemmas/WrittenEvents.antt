@@ -63,7 +63,7 @@ read_back reading (Key r) bytes more typed is closed = key_read_back reading r b
 read_back reading FocusGained bytes more typed is closed = at_same reading FocusGained _ bytes more is (focus_gained reading)
 read_back reading FocusLost bytes more typed is closed = at_same reading FocusLost _ bytes more is (focus_lost reading)
 read_back reading (CursorPosition row column) bytes more typed is closed =
-    at_same reading (CursorPosition row column) _ bytes more is (private_position row column typed.0 typed.1 reading)
+    at_same reading (CursorPosition row column) _ bytes more is.2 (private_position row column (is.0, typed.0) (is.1, typed.1) reading)
 read_back reading (Resize rows columns height width) bytes more typed is closed =
     at_same reading (Resize rows columns height width) _ bytes more is (size_read_back rows columns height width typed.0 typed.1 typed.2 typed.3 reading)
 read_back reading (KeyboardFlags flags) bytes more typed is closed =
@@ -102,7 +102,7 @@ module _ (reading : Reading) where
   unfolding IsEventText
   reply_written FocusGained h = (CSI ++ codes "I", refl)
   reply_written FocusLost h = (CSI ++ codes "O", refl)
-  reply_written (CursorPosition row column) h = (position_text row column true, refl)
+  reply_written (CursorPosition row column) h = (position_text row column true, (h.0, h.1, refl))
   reply_written (KeyboardFlags flags) h = (flags_text flags, refl)
   reply_written (Resize rows columns height width) h = (size_text rows columns height width, refl)
   reply_written e h = absurd h

@@ -6,7 +6,7 @@ use Rattle.std.proofs.lemmas.Fmt.{length-decimal-le}
 use Rattle.std.specs.Prelude.{◌==◌}
 use Rattle.termwiz_keymap.proofs.lemmas.lists.CommonPrefixes.{true_from}
 use Rattle.termwiz_grammar.specs.MouseReports.{IsDigit}
-use Rattle.termwiz_extended_events.specs.Numbers.{fields, after_start, short_number}
+use Rattle.termwiz_extended_events.specs.Numbers.{fields, after_start, place_number, short_number}
 use Rattle.termwiz_extended_grammar.proofs.lemmas.forms.FormBytes.{all_append}
 use Rattle.termwiz_kitty.proofs.lemmas.read_back.FieldSplits.{more_fields, one_field}
 use Rattle.termwiz_senders.proofs.lemmas.WrittenNumbers.{begins_with_digit, digits_of, field_of, number_back}
@@ -21,6 +21,9 @@ word_short n h = length-decimal-le 5 n (lit< tt) (lt_trans h (lit< tt)) (lt_tran
 
 pub word_back : (n : ℕ) → n < 2 ^ 16 → short_number (decimal n) ≡ Some n
 word_back n h = number_back 0 65535 n h (omega arith) (omega arith)
+
+pub place_back : (n : ℕ) → 0 < n → n < 2 ^ 16 → place_number (decimal n) ≡ Some n
+place_back n some h = number_back 1 65535 n h some (omega arith)
 
 -- text ; n
 abbrev pub followed : List ℕ → ℕ → List ℕ

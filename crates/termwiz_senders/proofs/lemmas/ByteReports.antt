@@ -97,7 +97,7 @@ no_other f (a ∷ b ∷ c ∷ more) = refl
 
 no_position : (f : List ℕ) (fs : List (List ℕ)) → position_of_fields ((77 ∷ f) ∷ fs) ≡ None
 no_position f [] = refl
-no_position f (a ∷ []) = rw (no_number 5 0 65535 f) refl
+no_position f (a ∷ []) = rw (no_number 5 1 65535 f) refl
 no_position f (a ∷ b ∷ more) = refl
 
 no_size : (f : List ℕ) (fs : List (List ℕ)) → numbered_size ((77 ∷ f) ∷ fs) ≡ None

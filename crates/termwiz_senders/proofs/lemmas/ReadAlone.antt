@@ -165,13 +165,16 @@ place_fits place inside = let few : place < row_count = subst (λ n. place < n) 
 pub next_inside : (n place : ℕ) → place < n → place + 1 ≤ n
 next_inside n place inside = omega (arith, inside)
 
+row_of_first : (reading : Reading) (key : KeyEvent) (bytes : List ℕ) → IsFirstRowOf reading key bytes → HasRow reading key
+row_of_first reading key bytes is =
+    (bytes, record { row = (rows_in_order.exactly bytes key).1 (is.place, is.here); read = is.read })
+
 -- What a key without an ESC before it is written as, by the three ways.
 pub no_plain_text : (reading : Reading) (key : KeyEvent) → ((bytes : List ℕ) → ¬ IsSentRow reading key bytes) → ¬ HasRow reading key
     → ((bytes : List ℕ) → ¬ IsCharacterText reading key bytes) → (bytes : List ℕ) → ¬ IsPlainKeyText reading key bytes
 no_plain_text reading key sent row character bytes (by_sending is) = sent bytes is
-no_plain_text reading key sent row character bytes (by_row none is) =
-    row (bytes, record { row = (rows_in_order.exactly bytes key).1 (is.place, is.here); read = is.read })
 no_plain_text reading key sent row character bytes (by_character none is) = character bytes is
+no_plain_text reading key sent row character bytes (by_row none never is) = row (row_of_first reading key bytes is)
 
 pub no_key_text : (reading : Reading) (key : KeyEvent) → ((bytes : List ℕ) → ¬ IsPlainKeyText reading key bytes)
     → ((bytes : List ℕ) → ¬ IsEscapedText reading key bytes) → (bytes : List ℕ) → ¬ IsKeyText reading key bytes
@@ -203,23 +206,19 @@ first_once reading key a b x y = by_order (x.place == y.place) (nat_lt x.place y
     by_order false false e f =
         let below : y.place < x.place = grind (arith, nat_tests) in absurd (x.first y.place b below y.here y.read)
 
-row_of_first : (reading : Reading) (key : KeyEvent) (bytes : List ℕ) → IsFirstRowOf reading key bytes → HasRow reading key
-row_of_first reading key bytes is =
-    (bytes, record { row = (rows_in_order.exactly bytes key).1 (is.place, is.here); read = is.read })
-
 pub plain_once : (reading : Reading) (key : KeyEvent) (a b : List ℕ) → IsPlainKeyText reading key a → IsPlainKeyText reading key b → a ≡ b
 plain_once reading key a b (by_sending x) (by_sending y) = let same : Some a ≡ Some b = sym x.0 ∙ y.0 in cc (same)
-plain_once reading key a b (by_sending x) (by_row none y) = absurd (none a x)
-plain_once reading key a b (by_sending x) (by_character none y) = absurd (none (a, x.1))
-plain_once reading key a b (by_row none x) (by_sending y) = absurd (none b y)
-plain_once reading key a b (by_row none x) (by_row other y) = first_once reading key a b x y
-plain_once reading key a b (by_row first x) (by_character none y) = absurd (none (row_of_first reading key a x))
-plain_once reading key a b (by_character none x) (by_sending y) = absurd (none (b, y.1))
-plain_once reading key a b (by_character none x) (by_row first y) = absurd (none (row_of_first reading key b y))
+plain_once reading key a b (by_sending x) (by_character none y) = absurd (none a x)
+plain_once reading key a b (by_sending x) (by_row none never y) = absurd (none a x)
+plain_once reading key a b (by_character none x) (by_sending y) = absurd (none b y)
 plain_once reading key a b (by_character none x) (by_character other y) =
     let both : plain x.character ≡ plain y.character = sym x.key_is ∙ y.key_is in
     let codes : Char x.character ≡ Char y.character = ap (λ k. k.key) both in
     let same : x.character ≡ y.character = cc (codes) in x.bytes_are ∙ ap encode_utf8 same ∙ sym y.bytes_are
+plain_once reading key a b (by_character none x) (by_row other never y) = absurd (never a x)
+plain_once reading key a b (by_row none never x) (by_sending y) = absurd (none b y)
+plain_once reading key a b (by_row none never x) (by_character other y) = absurd (never b y)
+plain_once reading key a b (by_row none never x) (by_row other either y) = first_once reading key a b x y
 
 pub escaped_not : (reading : Reading) (key : KeyEvent) (text bytes : List ℕ) → IsPlainKeyText reading (without_alt key) text
     → bytes ≡ ESC ++ text → ¬ IsReadAsKey reading key bytes → (other : List ℕ) → ¬ IsEscapedText reading key other
