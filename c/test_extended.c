@@ -1855,7 +1855,7 @@ static void has_usual_limits_besides(const hed_extended *other) {
     feed(&parser, TEXT("\033[1"), true);
     EXPECT(hed_extended_timeout(&parser, now + 9999) == 1000 && hed_extended_reset(&parser) == 3);
   }
-  EXPECT(strcmp(told, "Escape; Paste(rm -r ~\r); Escape; Paste(rm -r ~\r); ") == 0);
+  EXPECT(strcmp(told, "Escape; Paste(rm -r ~\\x0d); Escape; Paste(rm -r ~\\x0d); ") == 0);
   hed_extended_free(&parser);
 }
 

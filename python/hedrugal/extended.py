@@ -945,8 +945,8 @@ _NO_CODE = 0xFFFFFFFF
 _CHORD_MOST = 32
 _NAME_ROOM = 64
 
-_PARSER = ctypes.POINTER(_RawExtended)
-_READING: Any = ctypes.POINTER(_RawReading)
+_PARSER: Any = ctypes.POINTER(_RawExtended)
+_READING = ctypes.POINTER(_RawReading)
 _REPORT = ctypes.POINTER(_RawReport)
 _PRESS = ctypes.POINTER(_RawPress)
 _EVENT: Any = ctypes.POINTER(_RawExtendedEvent)

@@ -495,14 +495,14 @@ fn expires_by_each_limit() {
     }
 }
 
-// Of a limit whole milliseconds count, and at most `i32::MAX` of them.
+// Of a limit whole milliseconds count: at least one, and at most `i32::MAX` of them.
 #[test]
 fn rounds_limits() {
     let mut parser = InputParser::new();
     assert_eq!(parser.parse_as_vec(b"\x1b", true), []);
     for (limit, wanted) in [
-        (Duration::ZERO, 0),
-        (Duration::from_micros(999), 0),
+        (Duration::ZERO, 1),
+        (Duration::from_micros(999), 1),
         (Duration::from_micros(1999), 1),
         (Duration::from_millis(i32::MAX as u64), i32::MAX as u64),
         (Duration::MAX, i32::MAX as u64),
