@@ -293,6 +293,7 @@ static bool read_bindings(keys *it) {
   if (!it->options.bindings) return true;
   switch (bindings_read(&it->bindings, it->options.bindings)) {
     case BINDINGS_WRONG: it->is_refused = true; return false;
+    case BINDINGS_TOO_LONG: it->is_refused = true; return fail(it, "a file of bindings has at most 1048576 bytes", 0);
     case BINDINGS_NO_FILE: return fail(it, it->options.bindings, errno);
     case BINDINGS_NO_MEMORY: return fail(it, no_memory, 0);
     default: return true;
@@ -332,10 +333,8 @@ static void print_error(const char *words, int error) {
 
 static int status_of(const keys *it) {
   hed_terminal_end();
-  if (it->is_refused) return 2;
-  if (!it->failure) return 0;
-  print_error(it->failure, it->error);
-  return 1;
+  if (it->failure) print_error(it->failure, it->error);
+  return it->is_refused ? 2 : it->failure != NULL;
 }
 
 int main(int count, char **words) {

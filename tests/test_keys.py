@@ -732,6 +732,19 @@ def test_chord_before_a_stop(start, bound):
     keys.end()
 
 
+LONGEST = b"# " + b"x" * ((1 << 20) - 12) + b"\ncopy x\n\n\n"
+TOO_LONG = "hedrugal-keys: a file of bindings has at most 1048576 bytes\n"
+
+
+def test_long_bindings(bound):
+    """A file that never ends is refused, and what is a byte too long."""
+    done = f"   1  x -> key U+0078 NONE = x\n{rows('x -> copy')}"
+    assert len(LONGEST) == 1 << 20
+    assert run("--bindings", bound(LONGEST), typed=b"x") == (0, done, "")
+    for name in (bound(LONGEST + b"\n"), "/dev/zero"):
+        assert run(f"--bindings={name}", typed=b"x") == (2, "", TOO_LONG)
+
+
 PASTE, COMMAND = ("paste", START, END), ("osc", b"\033]52;", b"\007")
 
 
