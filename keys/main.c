@@ -8,11 +8,13 @@
 #include "json.h"
 #include "names.h"
 #include "options.h"
+#include "output.h"
 #include "reader.h"
 #include "screen.h"
 #include "waiting.h"
 #include <errno.h>
 #include <fcntl.h>
+#include <poll.h>
 #include <signal.h>
 #include <stdio.h>
 #include <string.h>
@@ -47,8 +49,7 @@ static bool fail(keys *it, const char *failure, int error) {
 }
 
 static bool flush_output(keys *it) {
-  if (fflush(stdout) == 0 && !ferror(stdout)) return true;
-  return fail(it, "the output can't be written", errno);
+  return output_flush() || fail(it, "the output can't be written", errno);
 }
 
 /* A key of any kind. The report of a key of the sequence table says that it was pressed. */
@@ -177,11 +178,18 @@ static bool handle_bytes(keys *it, const uint8_t *bytes, size_t length) {
   return goes_on && !it->is_over;
 }
 
+/* Another program may have set the descriptor so that it doesn't block. */
+static bool wait_for_input(const keys *it) {
+  struct pollfd input = { .fd = it->input, .events = POLLIN };
+  return it->is_live || poll(&input, 1, -1) >= 0 || errno == EINTR;
+}
+
 /* Returns false at the end of the input too. */
 static bool handle_input(keys *it) {
   uint8_t bytes[READ_SIZE];
   ssize_t count = read(it->input, bytes, sizeof bytes);
-  if (count < 0) return errno == EINTR || (it->is_live && errno == EAGAIN) || fail(it, "the input can't be read", errno);
+  bool is_empty = count < 0 && (errno == EAGAIN || errno == EWOULDBLOCK);
+  if (count < 0) return errno == EINTR || (is_empty && wait_for_input(it)) || fail(it, "the input can't be read", errno);
   return count > 0 && handle_bytes(it, bytes, (size_t)count);
 }
 
@@ -321,7 +329,7 @@ static void show_input(keys *it) {
 }
 
 static void print_words(keys *it) {
-  fputs(it->options.wants_help ? options_help : "hedrugal-keys " HED_VERSION "\n", stdout);
+  fputs(it->options.wants_help ? options_help : "hedrugal-keys " HED_VERSION "\n", output);
   flush_output(it);
 }
 
@@ -346,7 +354,9 @@ int main(int count, char **words) {
     return 2;
   }
   it.is_live = has_terminal && !it.options.file;
-  if (it.options.wants_help || it.options.wants_version) print_words(&it);
+  if (!output_open()) fail(&it, no_memory, 0);
+  else if (it.options.wants_help || it.options.wants_version) print_words(&it);
   else show_input(&it);
+  output_close();
   return status_of(&it);
 }

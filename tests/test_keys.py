@@ -8,6 +8,8 @@ import random
 import re
 import signal
 import subprocess
+import termios
+import time
 
 import pytest
 from conftest import HEDRUGAL_KEYS, TOP, entries_after
@@ -782,6 +784,26 @@ def test_random_bytes():
         assert (status, errors, b"".join(groups)) == (0, "", typed)
         status, out, errors = run(typed=typed)
         assert (status, errors, re.findall(r"[^ -~\n]", out)) == (0, "", [])
+
+
+@pytest.mark.parametrize("word", ["", "--json"])
+def test_descriptors_that_do_not_block(word):
+    """It waits where they have or take nothing more."""
+    ends = [os.pipe() for _ in range(2)]
+    (typed, keyboard), (shown, out) = ends
+    for end in (typed, out):
+        os.set_blocking(end, False)
+    keys = subprocess.Popen([HEDRUGAL_KEYS, *word.split()], stdin=typed, stdout=out)
+    os.close(typed)
+    os.close(out)
+    for _ in range(2):
+        time.sleep(PAUSE)
+        os.write(keyboard, b"a" * 4096)
+    os.close(keyboard)
+    time.sleep(PAUSE)
+    with open(shown, encoding="ascii") as lines:
+        text = lines.read()
+    assert (keys.wait(SECONDS), text.count("U+0061")) == (0, 8192)
 
 
 def test_closed_pipe():
