@@ -1,4 +1,4 @@
-#define _POSIX_C_SOURCE 200809L
+#define _XOPEN_SOURCE 700
 #include "hedrugal_terminal.h"
 #include <errno.h>
 #include <fcntl.h>
@@ -112,8 +112,13 @@ static bool enter(hed_terminal *it) {
 
 /* Signals. */
 
-static void note_signal(int number) {
-  int saved = errno;
+/* The signal does what it does to a program that doesn't handle it. If its handler calls this, that is once the handler has returned. */
+static void raise_default(int number) {
+  signal(number, SIG_DFL);
+  raise(number);
+}
+
+static void note(int number) {
   if (number == SIGTSTP) stopping = 1;
   else if (number == SIGCONT) continued = 1;
   else if (number == SIGWINCH) resized = 1;
@@ -123,21 +128,28 @@ static void note_signal(int number) {
   }
   ssize_t written = write(wake[1], "", 1);
   (void)written; /* a full pipe ends the poll as well */
+}
+
+/* A forked child has the handlers too. It is as if it had none. */
+static void note_signal(int number) {
+  int saved = errno;
+  if (guard.owner == getpid()) note(number);
+  else raise_default(number);
   errno = saved;
 }
 
 /* The program still runs a second after a signal that ends it: a write blocks, and goes on after signals. */
 static void end_late(int number) {
-  (void)number;
-  if (!ending) return;
+  bool is_child = guard.owner != getpid();
+  if (is_child) raise_default(number);
+  if (is_child || !ending) return;
   leave_at_once();
   hed_terminal_end();
 }
 
 static void end_at_once(int number) {
   leave_at_once();
-  signal(number, SIG_DFL);
-  raise(number);
+  raise_default(number);
 }
 
 /* What is handled, and how it was before. */
@@ -160,11 +172,19 @@ static struct handled {
 
 enum { HANDLED = sizeof handled / sizeof *handled };
 
+/* A stack for handlers, as of SIGSEGV where the program's own stack has overflowed. One that the program has set stays. */
+static bool set_stack(void) {
+  static char memory[1 << 16];
+  stack_t stack = { .ss_sp = memory, .ss_size = sizeof memory }, before;
+  if (sigaltstack(NULL, &before) != 0) return false;
+  return !(before.ss_flags & SS_DISABLE) || sigaltstack(&stack, NULL) == 0;
+}
+
 static bool set_handler(int number, void (*handler)(int)) {
   struct sigaction action;
   memset(&action, 0, sizeof action);
   action.sa_handler = handler;
-  action.sa_flags = SA_RESTART;
+  action.sa_flags = SA_RESTART | SA_ONSTACK;
   return sigaction(number, &action, NULL) == 0;
 }
 
@@ -176,6 +196,7 @@ static bool is_to_be_handled(const struct handled *it) {
 }
 
 static bool handle_signals(void) {
+  if (!set_stack()) return false;
   for (struct handled *it = handled; it < handled + HANDLED; it++) {
     if (it->is_handled) continue;
     if (sigaction(it->number, NULL, &it->before) != 0) return false;
@@ -196,9 +217,7 @@ static void release_signals(void) {
 }
 
 void hed_terminal_end(void) {
-  if (!ending) return;
-  signal(ending, SIG_DFL);
-  raise(ending);
+  if (ending) raise_default(ending);
 }
 
 /* It stays open, for the next terminal. */

@@ -34,7 +34,8 @@
  * signals, SIGCONT, SIGWINCH and SIGALRM are handled here. Those that the program ignores stay ignored, and of those of the third case the ones
  * that it handles itself stay its own. It calls no alarm. Its calls of the system go on after these signals (SA_RESTART), but for a poll of its
  * own. The texts that switch modes are written whole, also if the descriptor doesn't block (O_NONBLOCK); the program's stdout then loses what
- * the terminal doesn't take at once. Whether a descriptor blocks is restored with the settings. In a forked child these calls do nothing. */
+ * the terminal doesn't take at once. Whether a descriptor blocks is restored with the settings. In a forked child these calls do nothing, and
+ * signals do what they do by default. Handlers have a stack of their own, unless the program has set one (sigaltstack). */
 #ifndef HEDRUGAL_TERMINAL_H
 #define HEDRUGAL_TERMINAL_H
 

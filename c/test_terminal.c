@@ -16,6 +16,7 @@
 #include <stdlib.h>
 #include <string.h>
 #include <sys/wait.h>
+#include <time.h>
 #include <unistd.h>
 
 static const char off[] = HED_TERMINAL_PASTE_OFF HED_TERMINAL_SCREEN_OFF;
@@ -62,6 +63,42 @@ static void fork_child(void) {
   printf("child: %d\n", status);
 }
 
+static void pause_ms(long milliseconds) {
+  struct timespec left = { 0, milliseconds * 1000000 };
+  while (nanosleep(&left, &left) != 0) continue;
+}
+
+/* What a signal does to a child within a fifth of a second. */
+static void print_status(pid_t child, int number) {
+  int status = 0;
+  kill(child, number);
+  pause_ms(200);
+  pid_t changed = waitpid(child, &status, WNOHANG | WUNTRACED);
+  if (changed == child && WIFSTOPPED(status)) printf("child: stopped by %d\n", WSTOPSIG(status));
+  else if (changed == child) printf("child: ended by %d\n", WTERMSIG(status));
+  else puts("child: runs");
+}
+
+/* A child is stopped and ended by the system's signals, and one that crashes leaves the terminal alone. */
+static void signal_children(void) {
+  static const int numbers[] = { SIGTSTP, SIGCONT, SIGTERM };
+  fflush(stdout);
+  pid_t child = fork();
+  while (child == 0) pause();
+  for (size_t i = 0; i < sizeof numbers / sizeof *numbers; i++) print_status(child, numbers[i]);
+  fflush(stdout);
+  child = fork();
+  if (child == 0) abort();
+  print_status(child, SIGCONT);
+}
+
+/* Needs so many pages of the stack. */
+static unsigned deepen(unsigned pages) {
+  volatile char page[4096];
+  page[0] = (char)pages;
+  return pages == 0 ? 0 : deepen(pages - 1) + (unsigned)page[0];
+}
+
 /* Runs a command, with the terminal or without it. */
 static bool run_child(const char *command, bool is_lent) {
   if (is_lent) hed_terminal_lend(&terminal);
@@ -87,8 +124,10 @@ static bool obey(uint32_t key) {
     case 'c': return run_child("stty sane", false);
     case 'd': fcntl(0, F_SETFL, fcntl(0, F_GETFL) | O_NONBLOCK); return true;
     case 'f': fork_child(); return true;
+    case 'g': signal_children(); return true;
     case 'm': refuse(1); return true;
     case 'l': return run_child("stty -a | grep -o -e '-icanon' -e icanon; read -r line; echo \"line $line\"", true);
+    case 'o': printf("deep: %u\n", deepen(1 << 20)); return true;
     case 'p': write_to_nobody(); return true;
     case 's': raise(SIGSEGV); return true;
     case 'x': exit(3);

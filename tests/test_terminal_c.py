@@ -222,3 +222,18 @@ def test_output_that_is_no_terminal(program):
     assert done.returncode == 1 and termios.tcgetattr(terminal) == before
     os.close(ours)
     os.close(terminal)
+
+
+def test_signals_of_a_forked_child(start):
+    """They do to it what they do to any program, and its end leaves the terminal alone."""
+    it = start()
+    it.play([b"g", "child: stopped by 20\r\n", "child: runs\r\n", "child: ended by 15\r\n"])
+    it.play(["child: ended by 6\r\n"])
+    assert it.is_raw() and it.modes() == MODES
+    it.quit()
+
+
+def test_stack_that_overflows(start):
+    it = start()
+    it.send(b"o")
+    it.check_end(-signal.SIGSEGV)
