@@ -12,10 +12,13 @@
 #include <time.h>
 #include <unistd.h>
 
+/* How many milliseconds an open paste or string waits for more once another program had the terminal. */
+enum { CUT_MS = 1000 };
+
 /* The terminal that is open. It stands here, since exit and signals restore it too. */
 static struct guard {
   int input, output, input_flags, output_flags;
-  struct termios saved, raw;
+  struct termios saved, raw; /* raw is as the system made it */
   char enter[HED_TERMINAL_TEXT_MOST + 1], leave[HED_TERMINAL_TEXT_MOST + 1];
   pid_t owner;
   bool is_open;
@@ -39,6 +42,11 @@ static enum hed_terminal_event failed(hed_terminal *it, const char *failure) {
 
 static bool is_own(void) {
   return guard.is_open && guard.owner == getpid();
+}
+
+/* How much is left of a time in milliseconds. */
+static int left_ms(uint64_t since, uint64_t milliseconds, uint64_t now) {
+  return now - since < milliseconds ? (int)(milliseconds - (now - since)) : 0;
 }
 
 /* Writing to the terminal. */
@@ -103,7 +111,7 @@ static void leave(void) {
 
 /* If it was never left, as around SIGSTOP, modes that nest are left first. */
 static bool enter(hed_terminal *it) {
-  if (!set(TCSADRAIN, &guard.raw)) return fail(it, "raw mode can't be set");
+  if (!set(TCSADRAIN, &guard.raw) || tcgetattr(guard.input, &guard.raw) != 0) return fail(it, "raw mode can't be set");
   guard.is_raw = true;
   write_leave(true);
   guard.is_switched = true; /* from the first byte on, since a handler may interrupt the write */
@@ -269,12 +277,19 @@ static bool keep_texts(hed_terminal *it, const char *enter, const char *leave) {
 }
 
 /* If this fails, the terminal is as it was. */
+static bool take_terminal(hed_terminal *it) {
+  if (!handle_signals()) fail(it, "a signal can't be handled");
+  else if (enter(it)) return true;
+  hed_terminal_lend(it);
+  return false;
+}
+
 static bool begin(hed_terminal *it) {
   if (!open_wake() || !note_exit()) return fail(it, "a pipe can't be opened");
   it->wake = wake[0];
   guard.owner = getpid();
   guard.is_open = true;
-  if (hed_terminal_take_back(it)) return true;
+  if (take_terminal(it)) return true;
   guard.is_open = false;
   return false;
 }
@@ -303,10 +318,8 @@ void hed_terminal_lend(hed_terminal *terminal) {
 bool hed_terminal_take_back(hed_terminal *terminal) {
   if (!is_own()) return fail(terminal, "no terminal is open");
   terminal->unfed = 0;
-  if (!handle_signals()) fail(terminal, "a signal can't be handled");
-  else if (enter(terminal)) return true;
-  hed_terminal_lend(terminal);
-  return false;
+  terminal->was_away = true;
+  return take_terminal(terminal);
 }
 
 /* Waiting. */
@@ -322,8 +335,21 @@ static void stop(void) {
 }
 
 static enum hed_terminal_event resume(hed_terminal *it) {
-  continued = resized = 0;
+  resized = 0;
   return enter(it) ? HED_TERMINAL_RESUMED : HED_TERMINAL_FAILED;
+}
+
+static bool is_same(const struct termios *one, const struct termios *other) {
+  bool has_flags = one->c_iflag == other->c_iflag && one->c_oflag == other->c_oflag && one->c_lflag == other->c_lflag;
+  return has_flags && one->c_cflag == other->c_cflag && memcmp(one->c_cc, other->c_cc, sizeof one->c_cc) == 0;
+}
+
+/* Whether the program was continued, and the terminal isn't as the program had set it. */
+static bool was_away(void) {
+  struct termios now;
+  if (!continued) return false;
+  continued = 0;
+  return !guard.is_raw || tcgetattr(guard.input, &now) != 0 || !is_same(&now, &guard.raw);
 }
 
 /* A signal that ends the program comes before raw mode: a program that set it in the background would be stopped once more. */
@@ -331,19 +357,26 @@ enum hed_terminal_event hed_terminal_heed(hed_terminal *terminal) {
   drain_wake();
   if (stopping && !ending) stop();
   if (ending) return HED_TERMINAL_ENDING;
-  if (continued) return resume(terminal);
+  if (was_away()) return resume(terminal);
   if (!resized) return HED_TERMINAL_NOTHING;
   resized = 0;
   return HED_TERMINAL_RESIZED;
 }
 
+/* Polls again if a signal interrupts it: only then it is known what can be read. */
+static bool poll_both(struct pollfd ready[2], int milliseconds) {
+  int count = poll(ready, 2, milliseconds);
+  while (count < 0 && errno == EINTR) count = poll(ready, 2, 0);
+  return count >= 0;
+}
+
 enum hed_terminal_event hed_terminal_wait(hed_terminal *terminal, int milliseconds) {
   struct pollfd ready[2] = { { .fd = terminal->input, .events = POLLIN }, { .fd = terminal->wake, .events = POLLIN } };
+  enum hed_terminal_event came = HED_TERMINAL_NOTHING;
   if (ending) return HED_TERMINAL_ENDING;
-  int count = poll(ready, 2, milliseconds);
-  if (count == 0) return HED_TERMINAL_NOTHING;
-  if (count < 0 && errno != EINTR) return failed(terminal, "the terminal can't be polled");
-  return count > 0 && !ready[1].revents ? HED_TERMINAL_INPUT : hed_terminal_heed(terminal);
+  if (!poll_both(ready, milliseconds)) return failed(terminal, "the terminal can't be polled");
+  if (ready[1].revents) came = hed_terminal_heed(terminal);
+  return came == HED_TERMINAL_NOTHING && ready[0].revents ? HED_TERMINAL_INPUT : came;
 }
 
 bool hed_terminal_read(hed_terminal *terminal, uint8_t *bytes, size_t room, size_t *count) {
@@ -371,33 +404,71 @@ static enum hed_terminal_event told(hed_terminal *it, uint32_t answer) {
 
 /* Reads bytes, which are fed next. Returns false if that fails. */
 static bool read_more(hed_terminal *it) {
-  if (hed_terminal_read(it, it->bytes, sizeof it->bytes, &it->unfed)) return true;
-  it->has_ended = !it->failure;
-  return it->has_ended;
+  bool is_read = hed_terminal_read(it, it->bytes, sizeof it->bytes, &it->unfed);
+  if (it->is_cut && it->unfed > 0) it->cut_since = hed_terminal_now();
+  it->has_ended = !is_read && !it->failure;
+  return is_read || it->has_ended;
 }
 
-/* How long to wait: no longer than the parser's limits say, nor than what is left of these milliseconds. */
-static int wait_ms(hed_extended *parser, uint64_t start, int milliseconds) {
+/* Another program had the terminal. The beginning of a sequence is forgotten, and so are events. The rest of what is open still belongs to it. */
+static void forget(hed_terminal *it, hed_extended *parser) {
+  hed_extended_event event;
+  while (hed_extended_next(parser, true, &event) == HED_NEXT_EVENT) continue;
+  uint32_t waiting = hed_extended_waiting(parser);
+  it->was_away = false;
+  it->is_cut = waiting == HED_WAITING_PASTE || waiting == HED_WAITING_STRING;
+  it->cut_since = hed_terminal_now();
+  if (!it->is_cut) hed_extended_reset(parser);
+  hed_extended_forget_positions(parser);
+}
+
+/* What is open ends with the first event that is no part of it. */
+static void note_event(hed_terminal *it, const hed_extended_event *event) {
+  if (event->kind != HED_KIND_PASTE_PART && event->kind != HED_KIND_STRING_PART) it->is_cut = false;
+}
+
+/* Looks at the input after the clock: bytes that are there may complete what is due. */
+static uint32_t expire(hed_terminal *it, hed_extended *parser, hed_extended_event *event) {
   uint64_t now = hed_terminal_now();
-  int parser_ms = hed_extended_timeout(parser, now);
-  if (milliseconds < 0) return parser_ms;
-  int left = now - start < (uint64_t)milliseconds ? milliseconds - (int)(now - start) : 0;
-  return parser_ms < 0 || left < parser_ms ? left : parser_ms;
+  struct pollfd ready = { .fd = it->input, .events = POLLIN };
+  if (poll(&ready, 1, 0) != 0) return HED_NEXT_NONE;
+  if (!it->is_cut || left_ms(it->cut_since, CUT_MS, now) > 0) return hed_extended_expire(parser, now, event);
+  return hed_extended_is_paste_open(parser) ? hed_extended_end_paste(parser, event) : hed_extended_next(parser, false, event);
+}
+
+/* The shorter of two times, of which a negative one is for ever. */
+static int sooner(int one, int other) {
+  return one < 0 || (other >= 0 && other < one) ? other : one;
+}
+
+int hed_terminal_timeout(hed_terminal *terminal, hed_extended *parser) {
+  uint64_t now = hed_terminal_now();
+  int left = hed_extended_timeout(parser, now);
+  if (terminal->is_cut) left = sooner(left, left_ms(terminal->cut_since, CUT_MS, now));
+  return left;
+}
+
+/* How long to wait, if no longer than these milliseconds from the start on. */
+static int wait_ms(hed_terminal *it, hed_extended *parser, uint64_t start, int milliseconds) {
+  int left = hed_terminal_timeout(it, parser);
+  return milliseconds < 0 ? left : sooner(left, left_ms(start, (uint64_t)milliseconds, hed_terminal_now()));
 }
 
 enum hed_terminal_event hed_terminal_next(hed_terminal *terminal, hed_extended *parser, int milliseconds, hed_extended_event *event) {
   uint64_t start = hed_terminal_now();
   enum hed_terminal_event came = HED_TERMINAL_INPUT;
+  if (terminal->was_away) forget(terminal, parser);
   uint32_t answer = take(terminal, parser, event);
   while (answer == HED_NEXT_NONE && came == HED_TERMINAL_INPUT) {
     if (terminal->has_ended) return HED_TERMINAL_ENDED;
     if (fflush(stdout) != 0) return failed(terminal, "the output can't be written");
-    came = hed_terminal_wait(terminal, wait_ms(parser, start, milliseconds));
+    came = hed_terminal_wait(terminal, wait_ms(terminal, parser, start, milliseconds));
     if (came == HED_TERMINAL_INPUT && !read_more(terminal)) return HED_TERMINAL_FAILED;
     if (came == HED_TERMINAL_INPUT) answer = take(terminal, parser, event);
-    if (came == HED_TERMINAL_NOTHING) answer = hed_extended_expire(parser, hed_terminal_now(), event);
-    if (came == HED_TERMINAL_RESUMED) hed_extended_reset(parser);
+    if (came == HED_TERMINAL_NOTHING) answer = expire(terminal, parser, event);
+    if (came == HED_TERMINAL_RESUMED) forget(terminal, parser);
   }
+  if (answer == HED_NEXT_EVENT) note_event(terminal, event);
   return answer == HED_NEXT_NONE ? came : told(terminal, answer);
 }
 

@@ -65,18 +65,19 @@ typedef struct hed_terminal {
   const char *failure; /* why the last call failed, in words; errno is the system's number for it */
   int wake; /* readable once a signal came: for a loop of the program's own */
   int input, output; /* the rest is for these calls */
-  bool has_ended;
+  bool has_ended, was_away, is_cut;
+  uint64_t cut_since;
   size_t unfed;
   uint8_t bytes[4096];
 } hed_terminal;
 
 /* What hed_terminal_next, hed_terminal_wait and hed_terminal_heed return. With the last three the program ends. */
 enum hed_terminal_event {
-  HED_TERMINAL_NOTHING, /* Nothing came in time. Another signal may end the wait earlier, so the program asks what is due. */
+  HED_TERMINAL_NOTHING, /* Nothing came in time. A signal may end the wait earlier, so the program asks what is due. */
   HED_TERMINAL_INPUT, /* Bytes can be read, or the input has ended. hed_terminal_next reads them itself. */
   HED_TERMINAL_EVENT, /* An event was written. */
   HED_TERMINAL_RESIZED, /* The terminal has a new size. */
-  HED_TERMINAL_RESUMED, /* Another program had the terminal: what was buffered before no longer counts, and the size may be new. */
+  HED_TERMINAL_RESUMED, /* Another program had the terminal: it may have drawn on it, and the size may be new. */
   HED_TERMINAL_ENDED, /* The input has ended, as when the terminal was closed, and all of its events were told. */
   HED_TERMINAL_ENDING, /* A signal ends the program: it closes the terminal, and calls hed_terminal_end. */
   HED_TERMINAL_FAILED /* The program can't go on, and terminal->failure says why. */
@@ -100,11 +101,19 @@ void hed_terminal_end(void);
 
 /* Waits for the next event, and writes it to *event. Reads the terminal, keeps the limits in time of the parser, takes a paste of more than
  * HED_TERMINAL_PASTE_MOST bytes in parts, and flushes the parser at the end of the input. What stdout holds is written first. The parser is one
- * that nothing else feeds. With HED_TERMINAL_RESUMED it was reset.
+ * that nothing else feeds.
+ *
+ * If another program had the terminal, the beginning of a sequence that was buffered before is forgotten, since its rest went there. A paste or
+ * a string that was open stays open, as the rest of it would be typed otherwise. It ends where it is if nothing comes for a second: the paste as a
+ * HED_KIND_PASTE, the string as a HED_KIND_STRING_CUT. After a stop by SIGSTOP alone, if the settings are as they were, nothing happened.
  *
  * Returns HED_TERMINAL_EVENT, or what came before an event did: HED_TERMINAL_NOTHING after so many milliseconds, negative: never. With
  * HED_TERMINAL_FAILED no byte is lost, so that the call may be made again if memory was refused. */
 enum hed_terminal_event hed_terminal_next(hed_terminal *terminal, hed_extended *parser, int milliseconds, hed_extended_event *event);
+
+/* Returns how many milliseconds a loop of the program's own may wait before it calls hed_terminal_next again, negative: for ever. It is what
+ * hed_extended_timeout says, or less. */
+int hed_terminal_timeout(hed_terminal *terminal, hed_extended *parser);
 
 /* Waits until bytes can be read, a signal comes, or so many milliseconds have passed; negative: for ever. For a program that reads by itself.
  * SIGTSTP stops the program in this call. Signals go first. What stdout holds isn't written: the caller does that before. */
@@ -124,8 +133,8 @@ enum hed_terminal_event hed_terminal_heed(hed_terminal *terminal);
  * modes. Does nothing if it is lent. */
 void hed_terminal_lend(hed_terminal *terminal);
 
-/* Sets raw mode and the modes again, whatever that program left, also if it wasn't lent to it. What was buffered before no longer counts: the
- * program calls hed_extended_reset. Returns false if that fails, as when the terminal is gone. */
+/* Sets raw mode and the modes again, whatever that program left, also if it wasn't lent to it. hed_terminal_next forgets what was buffered before,
+ * as after HED_TERMINAL_RESUMED. Returns false if that fails, as when the terminal is gone. */
 bool hed_terminal_take_back(hed_terminal *terminal);
 
 /* Writes the size in characters of the terminal that this descriptor is of, such as 1. Returns false if it isn't known: then nothing is

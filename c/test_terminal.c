@@ -92,6 +92,20 @@ static void signal_children(void) {
   print_status(child, SIGCONT);
 }
 
+/* Wakes the loop without a signal, a while after a look that found nothing. */
+static void wake_late(void) {
+  char name[32];
+  hed_extended_event event;
+  enum hed_terminal_event came = hed_terminal_next(&terminal, &parser, 0, &event);
+  printf("waits: %d\n", came);
+  fflush(stdout);
+  pause_ms(300);
+  snprintf(name, sizeof name, "/proc/self/fd/%d", terminal.wake);
+  int wake = open(name, O_WRONLY);
+  if (write(wake, "", 1) != 1) puts("no pipe");
+  close(wake);
+}
+
 /* Needs so many pages of the stack. */
 static unsigned deepen(unsigned pages) {
   volatile char page[4096];
@@ -105,9 +119,7 @@ static bool run_child(const char *command, bool is_lent) {
   fflush(stdout);
   int status = system(command);
   printf("command: %d\n", status);
-  if (!hed_terminal_take_back(&terminal)) return false;
-  hed_extended_reset(&parser);
-  return true;
+  return hed_terminal_take_back(&terminal);
 }
 
 static void print_size(const char *what) {
@@ -125,6 +137,7 @@ static bool obey(uint32_t key) {
     case 'd': fcntl(0, F_SETFL, fcntl(0, F_GETFL) | O_NONBLOCK); return true;
     case 'f': fork_child(); return true;
     case 'g': signal_children(); return true;
+    case 'k': wake_late(); return true;
     case 'm': refuse(1); return true;
     case 'l': return run_child("stty -a | grep -o -e '-icanon' -e icanon; read -r line; echo \"line $line\"", true);
     case 'o': printf("deep: %u\n", deepen(1 << 20)); return true;

@@ -222,12 +222,19 @@ static void take_size(keys *it) {
   screen_resize(&it->screen, columns, rows);
 }
 
+/* Forgets what is undecided, but for what is open: its rest may still come. */
 static void forget_waiting(keys *it) {
-  text reason = { .length = 0 };
-  text_add(&reason, "forgotten, since another program had the terminal");
-  if (line_waiting(&it->line) > 0 || bindings_is_pending(&it->bindings)) draw_undecided(it, &reason);
-  reader_reset(&it->reader);
-  line_forget(&it->line);
+  reasons why = { .lists_keys = false };
+  bool was_undecided = is_undecided(it), stays = reader_interrupt(&it->reader);
+  text_add(&why.presses, "forgotten, since another program had the terminal");
+  if (stays) {
+    add_waiting(&why.bytes, &it->reader, &it->line);
+    add_waiting_for(&why.bytes, &it->reader, hed_terminal_now());
+  } else {
+    why.bytes = why.presses;
+  }
+  if (was_undecided) draw(it, &why);
+  if (!stays) line_forget(&it->line);
   bindings_forget(&it->bindings);
 }
 
