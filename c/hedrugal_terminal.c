@@ -12,8 +12,9 @@
 #include <time.h>
 #include <unistd.h>
 
-/* How many milliseconds an open paste or string waits for more once another program had the terminal. */
-enum { CUT_MS = 1000 };
+/* In milliseconds: for how long the reply to DA1 is owed; how long it is waited for at the end, at least and at most; and how long an open paste
+ * or string waits for more once another program had the terminal. */
+enum { OWED_MS = 2000, LEAVE_MS = 200, LEAVE_MOST_MS = 1000, CUT_MS = 1000 };
 
 /* The terminal that is open. It stands here, since exit and signals restore it too. */
 static struct guard {
@@ -22,9 +23,19 @@ static struct guard {
   char enter[HED_TERMINAL_TEXT_MOST + 1], leave[HED_TERMINAL_TEXT_MOST + 1];
   pid_t owner;
   bool is_open;
+  bool has_mouse; /* whether enter switches mouse reports on */
   volatile sig_atomic_t is_raw;
   volatile sig_atomic_t is_switched; /* whether leave is still to be written */
 } guard;
+
+/* Replies to DA1 that are still to come, the oldest question first. */
+static struct asked {
+  uint64_t since[HED_TERMINAL_ASKS_MOST]; /* when it was asked */
+  unsigned positions[HED_TERMINAL_ASKS_MOST]; /* how many questions for the cursor's position went with it */
+  volatile sig_atomic_t owed; /* how many there are */
+  bool is_answered; /* whether one has come */
+  uint64_t round_trip; /* the longest time that one took */
+} asked;
 
 /* The signals that arrived. The handler also writes to a pipe, which is polled: so no signal is missed between a look at these and poll. */
 static volatile sig_atomic_t ending, stopping, continued, resized;
@@ -96,17 +107,72 @@ static void leave_at_once(void) {
   fcntl(guard.output, F_SETFL, guard.output_flags | O_NONBLOCK);
   write_leave(false);
   restore_flags();
-  tcflush(guard.input, TCIFLUSH);
+  if (guard.has_mouse || asked.owed > 0) tcflush(guard.input, TCIFLUSH);
   tcsetattr(guard.input, TCSANOW, &guard.saved);
+}
+
+/* Asks what the terminal is, which nearly every terminal answers. It is owed before it is written, since a handler may interrupt that. */
+static bool ask_attributes(const char *questions, unsigned positions) {
+  asked.since[asked.owed] = hed_terminal_now();
+  asked.positions[asked.owed] = positions;
+  asked.owed++;
+  return write_text(questions, true) && write_text("\033[c", true);
+}
+
+/* The oldest question is over. */
+static void remove_oldest(void) {
+  asked.owed--;
+  memmove(asked.since, asked.since + 1, (size_t)asked.owed * sizeof *asked.since);
+  memmove(asked.positions, asked.positions + 1, (size_t)asked.owed * sizeof *asked.positions);
+}
+
+/* Whether a byte ends a reply to DA1, as ESC [?62;22c: *begun is how many bytes of its beginning came before. */
+static bool ends_reply(size_t *begun, char byte) {
+  static const char beginning[] = "\033[?";
+  bool is_within = *begun == strlen(beginning);
+  if (is_within && ((byte >= '0' && byte <= '9') || byte == ';')) return false;
+  if (!is_within && byte == beginning[*begun]) ++*begun;
+  else *begun = byte == *beginning;
+  return is_within && byte == 'c';
+}
+
+/* Returns false at the end of the input. */
+static bool skip_byte(int milliseconds, size_t *begun) {
+  struct pollfd ready = { .fd = guard.input, .events = POLLIN };
+  char byte;
+  if (poll(&ready, 1, milliseconds) <= 0) return true;
+  ssize_t len = read(guard.input, &byte, 1);
+  if (len > 0 && ends_reply(begun, byte)) remove_oldest();
+  return len > 0 || (len < 0 && (errno == EINTR || errno == EAGAIN || errno == EWOULDBLOCK));
+}
+
+/* Reads up to the last reply that is owed, byte by byte: what comes after it is the next program's. Returns whether it came. */
+static bool skip_replies(void) {
+  uint64_t start = hed_terminal_now(), limit = 2 * asked.round_trip;
+  size_t begun = 0;
+  int left;
+  if (limit < LEAVE_MS) limit = LEAVE_MS;
+  if (limit > LEAVE_MOST_MS) limit = LEAVE_MOST_MS;
+  while (asked.owed > 0 && (left = left_ms(start, limit, hed_terminal_now())) > 0)
+    if (!skip_byte(left, &begun)) return false;
+  return asked.owed == 0;
+}
+
+/* Mouse reports that are under way come before the reply to a question that is asked now. Returns whether nothing is left to be discarded. */
+static bool skip_what_was_sent(void) {
+  if (asked.owed == 0 && !guard.has_mouse) return true;
+  if (asked.owed == 0 && !(asked.is_answered && ask_attributes("", 0))) return false;
+  return skip_replies();
 }
 
 static void leave(void) {
   if (!guard.is_raw) return;
   fflush(stdout);
   write_leave(true);
-  set(TCSAFLUSH, &guard.saved);
+  set(skip_what_was_sent() ? TCSADRAIN : TCSAFLUSH, &guard.saved);
   restore_flags();
   guard.is_raw = false;
+  asked.owed = 0;
 }
 
 /* If it was never left, as around SIGSTOP, modes that nest are left first. */
@@ -269,10 +335,31 @@ static bool find_terminal(hed_terminal *it) {
   return true;
 }
 
+static bool is_mouse(unsigned long mode) {
+  return mode == 9 || mode == 1000 || mode == 1002 || mode == 1003;
+}
+
+/* Whether a sequence switches mouse reports on, as 1000;1006h behind ESC [?. */
+static bool sets_mouse(const char *modes) {
+  bool is_found = false;
+  char *end;
+  for (;; modes = end + 1) {
+    is_found |= is_mouse(strtoul(modes, &end, 10));
+    if (*end != ';') return is_found && *end == 'h';
+  }
+}
+
+static bool switches_mouse_on(const char *text) {
+  bool is_found = false;
+  while (!is_found && (text = strstr(text, "\033[?"))) is_found = sets_mouse(text += 3);
+  return is_found;
+}
+
 static bool keep_texts(hed_terminal *it, const char *enter, const char *leave) {
   if (strlen(enter) > HED_TERMINAL_TEXT_MOST || strlen(leave) > HED_TERMINAL_TEXT_MOST) return fail(it, "a text is too long");
   strcpy(guard.enter, enter);
   strcpy(guard.leave, leave);
+  guard.has_mouse = switches_mouse_on(enter);
   return true;
 }
 
@@ -300,6 +387,7 @@ bool hed_terminal_open(hed_terminal *terminal, int input, int output, const char
   terminal->output = output;
   if (guard.is_open) return fail(terminal, "a terminal is open already");
   stopping = continued = resized = 0;
+  memset(&asked, 0, sizeof asked);
   return find_terminal(terminal) && keep_texts(terminal, enter, leave) && begin(terminal);
 }
 
@@ -336,6 +424,7 @@ static void stop(void) {
 
 static enum hed_terminal_event resume(hed_terminal *it) {
   resized = 0;
+  asked.owed = 0;
   return enter(it) ? HED_TERMINAL_RESUMED : HED_TERMINAL_FAILED;
 }
 
@@ -422,9 +511,59 @@ static void forget(hed_terminal *it, hed_extended *parser) {
   hed_extended_forget_positions(parser);
 }
 
+/* Questions. */
+
+/* What the oldest question asked of the cursor isn't expected any more, and what the others did is. */
+static void close_oldest(hed_extended *parser) {
+  hed_reading reading;
+  unsigned positions = 0;
+  remove_oldest();
+  for (int i = 0; i < asked.owed; i++) positions += asked.positions[i];
+  if (!hed_extended_reading(parser, &reading)) return;
+  reading.questions = (uint8_t)(positions < UINT8_MAX ? positions : UINT8_MAX);
+  hed_extended_set_reading(parser, &reading);
+}
+
+bool hed_terminal_ask(hed_terminal *terminal, hed_extended *parser, const char *questions) {
+  unsigned positions = 0;
+  if (!is_own() || !guard.is_raw) return fail(terminal, "no terminal is open");
+  if (asked.owed == HED_TERMINAL_ASKS_MOST) return fail(terminal, "too many questions are open");
+  if (fflush(stdout) != 0) return fail(terminal, "the output can't be written");
+  for (const char *at = questions; (at = strstr(at, "\033[6n")); at++) {
+    hed_extended_expect_position(parser);
+    positions++;
+  }
+  return ask_attributes(questions, positions) || fail(terminal, "the terminal can't be written");
+}
+
+size_t hed_terminal_owed(const hed_terminal *terminal) {
+  (void)terminal;
+  return (size_t)asked.owed;
+}
+
+/* Whether an event is the reply to DA1. */
+static bool is_attributes(const hed_extended *parser, const hed_extended_event *event) {
+  uint8_t text[256];
+  hed_reply reply;
+  if (event->kind != HED_KIND_CSI || event->text_len > sizeof text) return false;
+  hed_extended_text(parser, text, sizeof text);
+  uint32_t answer = hed_read_reply(HED_KIND_CSI, text, event->text_len, &reply, NULL, 0, NULL, 0);
+  return answer == HED_REPLIED_VALUES && reply.kind == HED_REPLY_DEVICE_ATTRIBUTES && reply.report == HED_DEVICE_ATTRIBUTES_PRIMARY;
+}
+
+static void note_reply(hed_extended *parser) {
+  uint64_t round_trip = hed_terminal_now() - asked.since[0];
+  if (round_trip > asked.round_trip) asked.round_trip = round_trip;
+  asked.is_answered = true;
+  close_oldest(parser);
+}
+
+/* Waiting for events. */
+
 /* What is open ends with the first event that is no part of it. */
-static void note_event(hed_terminal *it, const hed_extended_event *event) {
+static void note_event(hed_terminal *it, hed_extended *parser, const hed_extended_event *event) {
   if (event->kind != HED_KIND_PASTE_PART && event->kind != HED_KIND_STRING_PART) it->is_cut = false;
+  if (asked.owed > 0 && is_attributes(parser, event)) note_reply(parser);
 }
 
 /* Looks at the input after the clock: bytes that are there may complete what is due. */
@@ -432,6 +571,7 @@ static uint32_t expire(hed_terminal *it, hed_extended *parser, hed_extended_even
   uint64_t now = hed_terminal_now();
   struct pollfd ready = { .fd = it->input, .events = POLLIN };
   if (poll(&ready, 1, 0) != 0) return HED_NEXT_NONE;
+  while (asked.owed > 0 && left_ms(asked.since[0], OWED_MS, now) == 0) close_oldest(parser);
   if (!it->is_cut || left_ms(it->cut_since, CUT_MS, now) > 0) return hed_extended_expire(parser, now, event);
   return hed_extended_is_paste_open(parser) ? hed_extended_end_paste(parser, event) : hed_extended_next(parser, false, event);
 }
@@ -445,7 +585,7 @@ int hed_terminal_timeout(hed_terminal *terminal, hed_extended *parser) {
   uint64_t now = hed_terminal_now();
   int left = hed_extended_timeout(parser, now);
   if (terminal->is_cut) left = sooner(left, left_ms(terminal->cut_since, CUT_MS, now));
-  return left;
+  return asked.owed > 0 ? sooner(left, left_ms(asked.since[0], OWED_MS, now)) : left;
 }
 
 /* How long to wait, if no longer than these milliseconds from the start on. */
@@ -468,7 +608,7 @@ enum hed_terminal_event hed_terminal_next(hed_terminal *terminal, hed_extended *
     if (came == HED_TERMINAL_NOTHING) answer = expire(terminal, parser, event);
     if (came == HED_TERMINAL_RESUMED) forget(terminal, parser);
   }
-  if (answer == HED_NEXT_EVENT) note_event(terminal, event);
+  if (answer == HED_NEXT_EVENT) note_event(terminal, parser, event);
   return answer == HED_NEXT_NONE ? came : told(terminal, answer);
 }
 

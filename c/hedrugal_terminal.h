@@ -35,7 +35,13 @@
  * that it handles itself stay its own. It calls no alarm. Its calls of the system go on after these signals (SA_RESTART), but for a poll of its
  * own. The texts that switch modes are written whole, also if the descriptor doesn't block (O_NONBLOCK); the program's stdout then loses what
  * the terminal doesn't take at once. Whether a descriptor blocks is restored with the settings. In a forked child these calls do nothing, and
- * signals do what they do by default. Handlers have a stack of their own, unless the program has set one (sigaltstack). */
+ * signals do what they do by default. Handlers have a stack of their own, unless the program has set one (sigaltstack).
+ *
+ * What was typed ahead is kept for the program, and in the end for the next one, which must not get replies or mouse reports. If replies to
+ * hed_terminal_ask are still to come when the terminal is left, what comes is read and thrown away up to the last of them. If none are, but mouse
+ * reports are on and DA1 was answered before, DA1 is asked once more, and the same is done up to its reply. That is waited for twice as long as the
+ * slowest reply to DA1 took, but at least 200 ms and at most a second. If it doesn't come, or mouse reports are on and DA1 was never answered, all
+ * that came is discarded. Mouse reports are on if what hed_terminal_open writes switches them on. */
 #ifndef HEDRUGAL_TERMINAL_H
 #define HEDRUGAL_TERMINAL_H
 
@@ -58,8 +64,8 @@ extern "C" {
   "\033[>" #flags "u" /* Kitty's keyboard protocol, as HED_TERMINAL_KITTY_ON(5): a sum of HED_KITTY_FLAG_.. */
 #define HED_TERMINAL_KITTY_OFF "\033[<u"
 
-/* The most bytes of a text that switches modes, and of the text of a paste that is buffered before its end. */
-enum { HED_TERMINAL_TEXT_MOST = 511, HED_TERMINAL_PASTE_MOST = 1 << 20 };
+/* The most bytes of a text that switches modes, and of the text of a paste that is buffered before its end; the most asks that are open. */
+enum { HED_TERMINAL_TEXT_MOST = 511, HED_TERMINAL_PASTE_MOST = 1 << 20, HED_TERMINAL_ASKS_MOST = 16 };
 
 typedef struct hed_terminal {
   const char *failure; /* why the last call failed, in words; errno is the system's number for it */
@@ -73,7 +79,7 @@ typedef struct hed_terminal {
 
 /* What hed_terminal_next, hed_terminal_wait and hed_terminal_heed return. With the last three the program ends. */
 enum hed_terminal_event {
-  HED_TERMINAL_NOTHING, /* Nothing came in time. A signal may end the wait earlier, so the program asks what is due. */
+  HED_TERMINAL_NOTHING, /* Nothing came in time. A signal or an overdue reply may end the wait earlier, so the program asks what is due. */
   HED_TERMINAL_INPUT, /* Bytes can be read, or the input has ended. hed_terminal_next reads them itself. */
   HED_TERMINAL_EVENT, /* An event was written. */
   HED_TERMINAL_RESIZED, /* The terminal has a new size. */
@@ -92,8 +98,8 @@ enum hed_terminal_event {
  * system fails. Then the terminal is unchanged. */
 bool hed_terminal_open(hed_terminal *terminal, int input, int output, const char *enter, const char *leave);
 
-/* Writes what stdout holds, and leave, and restores the settings, unless another program has the terminal. What the terminal sent meanwhile is
- * discarded, so that no mouse report reaches the shell. Signals are handled as before. If no terminal is open, does nothing. */
+/* Writes what stdout holds, and leave, and restores the settings, unless another program has the terminal. Waits for replies that are still to
+ * come, as is said above, for a second at most. Signals are handled as before. If no terminal is open, does nothing. */
 void hed_terminal_close(hed_terminal *terminal);
 
 /* Ends the program by the signal that ends it, as a program that handles none, so that its parent sees why. Returns if none came. */
@@ -110,6 +116,19 @@ void hed_terminal_end(void);
  * Returns HED_TERMINAL_EVENT, or what came before an event did: HED_TERMINAL_NOTHING after so many milliseconds, negative: never. With
  * HED_TERMINAL_FAILED no byte is lost, so that the call may be made again if memory was refused. */
 enum hed_terminal_event hed_terminal_next(hed_terminal *terminal, hed_extended *parser, int milliseconds, hed_extended_event *event);
+
+/* Asks the terminal: writes what stdout holds, the questions, and DA1 (ESC [c), which nearly every terminal answers. Replies come in the order of
+ * the questions. So a reply that hasn't come before that to DA1 won't come. Replies are events of hed_terminal_next, that to DA1 too. It counts the
+ * latter. For each ESC [6n of the questions the parser expects a position of the cursor until then.
+ *
+ * A reply to DA1 answers the oldest ask that is open. One that hasn't come after two seconds isn't waited for any longer: if it comes later, it
+ * answers the next one, if there is one. When another program had the terminal, no ask is open any more.
+ *
+ * Returns false if no terminal is open, HED_TERMINAL_ASKS_MOST asks are open, or the terminal can't be written. */
+bool hed_terminal_ask(hed_terminal *terminal, hed_extended *parser, const char *questions);
+
+/* Returns how many asks are open. At 0 the last one is over. At 1 the replies that come next are its own, and at more those of an earlier one. */
+size_t hed_terminal_owed(const hed_terminal *terminal);
 
 /* Returns how many milliseconds a loop of the program's own may wait before it calls hed_terminal_next again, negative: for ever. It is what
  * hed_extended_timeout says, or less. */

@@ -1,10 +1,11 @@
 /* A program that tests/test_terminal_c.py runs on a pseudo-terminal: it does with its terminal what the keys say, and prints what came.
  *
- *     cc -Wl,--wrap=malloc -Wl,--wrap=realloc -Wl,--wrap=free test_terminal.c hedrugal_terminal.c libhedrugal.a && ./a.out [--poll | --tty | --ignore | --handle | --long]
+ *     calls="-Wl,--wrap=malloc -Wl,--wrap=realloc -Wl,--wrap=free -Wl,--wrap=poll"
+ *     cc $calls test_terminal.c hedrugal_terminal.c libhedrugal.a && ./a.out [--poll | --tty | --ignore | --handle | --long | --mouse]
  *
  * With --poll it polls the terminal and the signals by itself. With --tty both of its descriptors are of /dev/tty. With --ignore it ignores
  * SIGTERM and SIGHUP, and with --handle it has handlers of its own for SIGUSR1 and SIGUSR2: they interrupt what waits. With --long
- * the text that switches modes on is too long. */
+ * the text that switches modes on is too long, and with --mouse it switches mouse reports on. */
 #define _POSIX_C_SOURCE 200809L
 #include "hedrugal_terminal.h"
 #include "refuse.h"
@@ -20,6 +21,7 @@
 #include <unistd.h>
 
 static const char off[] = HED_TERMINAL_PASTE_OFF HED_TERMINAL_SCREEN_OFF;
+static const char mouse_off[] = HED_TERMINAL_MOUSE_OFF HED_TERMINAL_PASTE_OFF HED_TERMINAL_SCREEN_OFF;
 
 static hed_extended parser = HED_EXTENDED_NONE;
 static hed_terminal terminal;
@@ -92,6 +94,21 @@ static void signal_children(void) {
   print_status(child, SIGCONT);
 }
 
+static bool stands_still;
+
+int __real_poll(struct pollfd *ready, nfds_t count, int milliseconds);
+
+/* Where nothing came the program may stand still, as if it were stopped, before it sees that. */
+int __wrap_poll(struct pollfd *ready, nfds_t count, int milliseconds) {
+  int found = __real_poll(ready, count, milliseconds);
+  if (found != 0 || !stands_still) return found;
+  stands_still = false;
+  puts("stands still");
+  fflush(stdout);
+  pause_ms(300);
+  return found;
+}
+
 /* Wakes the loop without a signal, a while after a look that found nothing. */
 static void wake_late(void) {
   char name[32];
@@ -122,6 +139,13 @@ static bool run_child(const char *command, bool is_lent) {
   return hed_terminal_take_back(&terminal);
 }
 
+/* Asks, and tells how many asks are open. */
+static bool ask(const char *questions) {
+  bool is_asked = hed_terminal_ask(&terminal, &parser, questions);
+  printf("asked: %s, %zu open\n", is_asked ? "yes" : terminal.failure, hed_terminal_owed(&terminal));
+  return true;
+}
+
 static void print_size(const char *what) {
   unsigned columns = 0, rows = 0;
   hed_terminal_size(1, &columns, &rows);
@@ -132,11 +156,14 @@ static void print_size(const char *what) {
 static bool obey(uint32_t key) {
   switch (key) {
     case '2': open_again(); return true;
+    case '6': return ask("\033[6n");
+    case '9': return ask("\033[6n\033[6n\033]11;?\033\\");
     case 'a': abort();
     case 'c': return run_child("stty sane", false);
     case 'd': fcntl(0, F_SETFL, fcntl(0, F_GETFL) | O_NONBLOCK); return true;
     case 'f': fork_child(); return true;
     case 'g': signal_children(); return true;
+    case 'j': stands_still = true; return true;
     case 'k': wake_late(); return true;
     case 'm': refuse(1); return true;
     case 'l': return run_child("stty -a | grep -o -e '-icanon' -e icanon; read -r line; echo \"line $line\"", true);
@@ -148,10 +175,20 @@ static bool obey(uint32_t key) {
   }
 }
 
+/* Prints what a reply says, or what was cut off of it, and how many asks are open. */
+static void print_reply(const hed_extended_event *event) {
+  char text[64] = "";
+  if (event->kind == HED_KIND_CURSOR_POSITION) snprintf(text, sizeof text, "%u, %u", event->row, event->column);
+  else hed_extended_text(&parser, (uint8_t *)text, sizeof text - 1);
+  printf("%s %s, %zu open\n", event->kind == HED_KIND_STRING_CUT ? "cut" : "reply", text, hed_terminal_owed(&terminal));
+}
+
 static bool handle_event(const hed_extended_event *event) {
   bool is_paste = event->kind == HED_KIND_PASTE || event->kind == HED_KIND_PASTE_PART;
+  bool is_reply = event->kind == HED_KIND_CURSOR_POSITION || event->kind == HED_KIND_CSI || event->kind == HED_KIND_OSC;
   if (event->kind == HED_KIND_KEY) printf("key %u, %u\n", event->input.key, (unsigned)event->input.detail);
   if (is_paste) printf("%s of %zu bytes\n", event->kind == HED_KIND_PASTE ? "paste" : "part", event->text_len);
+  if (is_reply || event->kind == HED_KIND_STRING_CUT) print_reply(event);
   return event->kind != HED_KIND_KEY || event->input.key != HED_KEY_CHAR || obey(event->input.detail);
 }
 
@@ -197,7 +234,9 @@ int main(int argc, char **argv) {
   if (strcmp(word, "--handle") == 0) handle(SIGUSR1), handle(SIGUSR2);
   if (strcmp(word, "--long") == 0) memset(text, ' ', sizeof text - 1);
   if (!hed_extended_init(&parser, HED_PROTOCOL_LEGACY)) return 1;
-  if (!hed_terminal_open(&terminal, input, input == 0 ? 1 : input, text, off)) {
+  bool has_mouse = strcmp(word, "--mouse") == 0;
+  if (has_mouse) strcat(text, HED_TERMINAL_MOUSE_ON);
+  if (!hed_terminal_open(&terminal, input, input == 0 ? 1 : input, text, has_mouse ? mouse_off : off)) {
     fprintf(stderr, "test_terminal: %s\n", terminal.failure);
     return 1;
   }
