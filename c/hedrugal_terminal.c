@@ -529,6 +529,7 @@ bool hed_terminal_ask(hed_terminal *terminal, hed_extended *parser, const char *
   if (!is_own() || !guard.is_raw) return fail(terminal, "no terminal is open");
   if (asked.owed == HED_TERMINAL_ASKS_MOST) return fail(terminal, "too many questions are open");
   if (fflush(stdout) != 0) return fail(terminal, "the output can't be written");
+  if (terminal->was_away) forget(terminal, parser);
   for (const char *at = questions; (at = strstr(at, "\033[6n")); at++) {
     hed_extended_expect_position(parser);
     positions++;

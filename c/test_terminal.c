@@ -146,6 +146,12 @@ static bool ask(const char *questions) {
   return true;
 }
 
+/* Asks at once when it has the terminal again. */
+static bool ask_again(void) {
+  hed_terminal_lend(&terminal);
+  return hed_terminal_take_back(&terminal) && ask("\033[6n");
+}
+
 static void print_size(const char *what) {
   unsigned columns = 0, rows = 0;
   hed_terminal_size(1, &columns, &rows);
@@ -169,6 +175,7 @@ static bool obey(uint32_t key) {
     case 'l': return run_child("stty -a | grep -o -e '-icanon' -e icanon; read -r line; echo \"line $line\"", true);
     case 'o': printf("deep: %u\n", deepen(1 << 20)); return true;
     case 'p': write_to_nobody(); return true;
+    case 'r': return ask_again();
     case 's': raise(SIGSEGV); return true;
     case 'x': exit(3);
     default: return key != 'q';

@@ -476,6 +476,15 @@ def test_question_before_it_is_lent(start):
     it.quit()
 
 
+def test_question_at_once_when_it_is_back(start):
+    """It isn't forgotten with those of before."""
+    it = start()
+    for _ in range(2):
+        it.play([b"r", "asked: yes, 1 open\r\n", POSITION + ATTRIBUTES])
+        it.play(["reply 1, 5, 1 open\r\n", "reply ?62;22c, 0 open\r\n"])
+    it.quit()
+
+
 def test_too_many_questions(start):
     it = start()
     it.play([b"6" * 17, "yes, 16 open\r\n", "asked: too many questions are open, 16 open\r\n"])
