@@ -499,7 +499,7 @@ static bool read_more(hed_terminal *it) {
   return is_read || it->has_ended;
 }
 
-/* Another program had the terminal. The beginning of a sequence is forgotten, and so are events. The rest of what is open still belongs to it. */
+/* Another program had the terminal. Events that weren't taken are forgotten, and so is the beginning of a sequence. What is open stays so. */
 static void forget(hed_terminal *it, hed_extended *parser) {
   hed_extended_event event;
   while (hed_extended_next(parser, true, &event) == HED_NEXT_EVENT) continue;

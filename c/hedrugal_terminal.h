@@ -135,7 +135,8 @@ size_t hed_terminal_owed(const hed_terminal *terminal);
 int hed_terminal_timeout(hed_terminal *terminal, hed_extended *parser);
 
 /* Waits until bytes can be read, a signal comes, or so many milliseconds have passed; negative: for ever. For a program that reads by itself.
- * SIGTSTP stops the program in this call. Signals go first. What stdout holds isn't written: the caller does that before. */
+ * SIGTSTP stops the program in this call. Signals go first. What stdout holds isn't written: the caller does that before. After
+ * HED_TERMINAL_RESUMED the caller forgets what it has buffered, unless a paste or a string is open. */
 enum hed_terminal_event hed_terminal_wait(hed_terminal *terminal, int milliseconds);
 
 /* Reads what the terminal sent, at most room bytes, and writes their number to *count: 0 if there is nothing after all.
