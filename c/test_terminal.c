@@ -167,6 +167,7 @@ static bool obey(uint32_t key) {
     case 'a': abort();
     case 'c': return run_child("stty sane", false);
     case 'd': fcntl(0, F_SETFL, fcntl(0, F_GETFL) | O_NONBLOCK); return true;
+    case 'e': return run_child("ls /proc/self/fd | wc -l", false);
     case 'f': fork_child(); return true;
     case 'g': signal_children(); return true;
     case 'j': stands_still = true; return true;
@@ -245,7 +246,7 @@ int main(int argc, char **argv) {
   if (has_mouse) strcat(text, HED_TERMINAL_MOUSE_ON);
   if (!hed_terminal_open(&terminal, input, input == 0 ? 1 : input, text, has_mouse ? mouse_off : off)) {
     fprintf(stderr, "test_terminal: %s\n", terminal.failure);
-    return 1;
+    if (!hed_terminal_open(&terminal, 0, 1, "", "")) return 1;
   }
   puts("begun");
   while (strcmp(word, "--poll") == 0 ? poll_once() : next_once()) continue;

@@ -374,6 +374,7 @@ def test_flags_of_kitty_nest(start):
     keys = start("--kitty-keyboard", "--focus")
     keys.kill(signal.SIGCONT)
     keys.play([b"a", "   1  a"])
+    assert keys.output.count(b"\033[?1004h") == 1
     keys.kill(signal.SIGSTOP)
     keys.wait_for_stop()
     termios.tcsetattr(keys.child_fd, termios.TCSANOW, keys.settings_before)

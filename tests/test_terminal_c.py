@@ -14,6 +14,7 @@ from pathlib import Path
 
 import pytest
 from conftest import TOP, run_without_terminal
+from pexpect import EOF
 from terminal import END, LONG_PAUSE, PAUSE, START, TIOCGPTPEER, Terminal
 
 MODES, MOUSE_MODES = {1049, 2004}, {1003, 1006}
@@ -146,9 +147,8 @@ def test_other_signals(start, number):
 def test_signals_of_the_program(start):
     """They interrupt what waits, and nothing is lost."""
     it = start("--handle")
-    for number in (signal.SIGUSR1, signal.SIGUSR2):
-        it.kill(number)
-        it.play(["nothing\r\n"])
+    for count, number in enumerate((signal.SIGUSR1, signal.SIGUSR2)):
+        it.wait_for(lambda: it.kill(number) or it.output.count(b"nothing") > count, "wake")
     it.press("w")
     it.quit()
 
@@ -199,6 +199,13 @@ def test_child_that_changes_the_settings(start):
     it = start()
     it.play([b"c", "command: 0\r\n"])
     it.wait_for(it.is_raw, "raw mode")
+    it.quit()
+
+
+def test_descriptors_of_a_child(start):
+    """Those of a listing are four: none is inherited."""
+    it = start()
+    it.play([b"e", "4\r\n", "command: 0\r\n"])
     it.quit()
 
 
@@ -263,10 +270,10 @@ def test_without_terminal(program):
 
 
 def test_text_that_is_too_long(program):
-    """Nothing is changed then."""
+    """Nothing is changed then, and the terminal can be opened after it."""
     with Terminal([program, "--long"]) as it:
-        it.play(["test_terminal: a text is too long\r\n"])
-        it.check_end(1)
+        it.play(["test_terminal: a text is too long\r\nbegun\r\n", b"q"])
+        it.check_end(0)
 
 
 def test_output_that_is_no_terminal(program):
@@ -310,6 +317,7 @@ def test_rest_that_never_comes(start):
     it.play([START + b"ab", LONG_PAUSE, b"cd" + END, "paste of 4 bytes\r\n"])
     it.press("w")
     it.quit()
+    assert it.output.count(b"nothing") < 9  # it waits
 
 
 @pytest.mark.timed
@@ -507,6 +515,8 @@ def test_typed_ahead_for_the_next_program(start, number, word, asks):
     it.keep_busy(b"ls\r")
     it.kill(number)
     assert it.what_is_left(terminal, -number) == (b"" if word or asks else b"ls\r")
+    it.expect(EOF)
+    assert it.output.endswith(b"\033[?2004l\033[?1049l")
 
 
 @pytest.mark.timed
@@ -585,9 +595,10 @@ def test_stack_that_overflows(start):
 
 
 @pytest.mark.timed
-def test_stop_and_end_at_once(start):
+@pytest.mark.parametrize("word", ["", "--poll"])
+def test_stop_and_end_at_once(start, word):
     """The end goes before."""
-    it = start()
+    it = start(*word.split())
     it.keep_busy()
     it.kill(signal.SIGTSTP)
     it.end_by(signal.SIGTERM)
