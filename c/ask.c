@@ -2,17 +2,17 @@
  *
  *     cc ask.c $(pkg-config --variable=terminal hedrugal) $(pkg-config --cflags --libs hedrugal) -o ask && ./ask
  *
- * The last question is what the terminal is (DA1), which nearly every terminal answers. Replies come in the order of the questions, so a reply
- * that hasn't come before that one won't come. Without any the program gives up after a second. Keys that are typed meanwhile are read as
- * keys, and no byte of a reply is taken for one. The terminal's settings are restored, also by a signal that ends the program: if nobody
- * reads its output, a second after it. */
+ * Behind these questions hed_terminal_ask asks what the terminal is (DA1), which nearly every terminal answers. So a reply that hasn't come
+ * before that one won't come. Without any the program gives up after a second. Keys that are typed meanwhile are read as keys, and no byte of a
+ * reply is taken for one. The terminal's settings are restored, also by a signal that ends the program: if nobody reads its output, a second
+ * after it. */
 #include "hedrugal_terminal.h"
 #include <stdio.h>
 
 enum { TIMEOUT_MS = 1000, LONGEST_REPLY = 256 };
 
-/* The cursor's position (CPR), the colours of text and background (OSC 10, 11), Kitty's flags, and DA1. */
-static const char questions[] = "\033[6n\033]10;?\033\\\033]11;?\033\\\033[?u\033[c";
+/* The cursor's position (CPR), the colours of text and background (OSC 10, 11), and Kitty's flags. */
+static const char questions[] = "\033[6n\033]10;?\033\\\033]11;?\033\\\033[?u";
 
 /* Prints the bytes that an event brought, those that aren't printable ASCII as in \x1b. */
 static void print_text(const hed_extended *parser, const char *name, size_t len) {
@@ -23,17 +23,7 @@ static void print_text(const hed_extended *parser, const char *name, size_t len)
   putchar('\n');
 }
 
-/* Whether a control sequence is the reply to DA1. */
-static bool is_last_reply(const hed_extended *parser, size_t len) {
-  uint8_t text[LONGEST_REPLY];
-  hed_reply reply;
-  if (hed_extended_text(parser, text, sizeof text) > sizeof text) return false;
-  uint32_t answer = hed_read_reply(HED_KIND_CSI, text, len, &reply, NULL, 0, NULL, 0);
-  return answer == HED_REPLIED_VALUES && reply.kind == HED_REPLY_DEVICE_ATTRIBUTES && reply.report == HED_DEVICE_ATTRIBUTES_PRIMARY;
-}
-
-/* Prints an event. Returns whether it is the last reply. */
-static bool print_event(const hed_extended *parser, const hed_extended_event *event) {
+static void print_event(const hed_extended *parser, const hed_extended_event *event) {
   switch (event->kind) {
     case HED_KIND_CURSOR_POSITION: printf("cursor at row %u, column %u\n", event->row, event->column); break;
     case HED_KIND_OSC: print_text(parser, "colour", event->text_len); break;
@@ -43,24 +33,22 @@ static bool print_event(const hed_extended *parser, const hed_extended_event *ev
     case HED_KIND_KEY: puts("a key was typed"); break;
     default: break;
   }
-  return event->kind == HED_KIND_CSI && is_last_reply(parser, event->text_len);
 }
 
-/* Reads replies up to the last one. Returns false after the timeout, at the end of the input, or if a signal or want of memory ends it. */
+/* Reads replies up to the last one. Returns false after the timeout, at the end of the input, if another program had the terminal, or if a
+ * signal or want of memory ends it. */
 static bool read_replies(hed_terminal *terminal, hed_extended *parser) {
   hed_extended_event event;
   uint64_t now = hed_terminal_now(), end = now + TIMEOUT_MS;
-  bool is_over = false, goes_on = true;
-  for (; goes_on && !is_over && now < end; now = hed_terminal_now()) {
+  for (; hed_terminal_owed(terminal) > 0 && now < end; now = hed_terminal_now()) {
     switch (hed_terminal_next(terminal, parser, (int)(end - now), &event)) {
-      case HED_TERMINAL_EVENT: is_over = print_event(parser, &event); break;
-      case HED_TERMINAL_ENDED:
-      case HED_TERMINAL_ENDING:
-      case HED_TERMINAL_FAILED: goes_on = false; break;
-      default: break;
+      case HED_TERMINAL_EVENT: print_event(parser, &event); break;
+      case HED_TERMINAL_NOTHING:
+      case HED_TERMINAL_RESIZED: break;
+      default: return false;
     }
   }
-  return is_over;
+  return hed_terminal_owed(terminal) == 0;
 }
 
 /* Prints what is buffered: an Escape key, or a reply that was cut off. */
@@ -69,11 +57,8 @@ static void print_rest(hed_extended *parser) {
   while (hed_extended_next(parser, false, &event) == HED_NEXT_EVENT) print_event(parser, &event);
 }
 
-/* A reply for the position in the first row looks like F3 with modifiers, so the parser is told that one is to come. */
 static bool ask(hed_terminal *terminal, hed_extended *parser) {
-  hed_extended_expect_position(parser);
-  fputs(questions, stdout);
-  if (read_replies(terminal, parser)) return true;
+  if (hed_terminal_ask(terminal, parser, questions) && read_replies(terminal, parser)) return true;
   print_rest(parser);
   puts("no reply to the last question");
   return false;
@@ -92,7 +77,7 @@ int main(void) {
     return 2;
   }
   bool is_answered = ask(&terminal, &parser);
-  hed_terminal_close(&terminal); /* a late reply isn't left for the shell */
+  hed_terminal_close(&terminal); /* it waits for a late reply, which isn't left for the shell */
   hed_extended_free(&parser);
   hed_terminal_end();
   return is_answered ? 0 : 1;

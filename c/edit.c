@@ -21,7 +21,7 @@ enum { CHORD_MS = 1000 };
 /* No name of a chord is longer, and no text of a key report, since its sequence isn't. */
 enum { NAME_ROOM = 64 * HED_CHORD_MOST, REPORT_ROOM = 256 };
 
-static const char enter[] = HED_TERMINAL_PASTE_ON "\033[>4;2m" HED_TERMINAL_KITTY_ON(5) "\033[?u";
+static const char enter[] = HED_TERMINAL_PASTE_ON "\033[>4;2m" HED_TERMINAL_KITTY_ON(5);
 static const char leave[] = HED_TERMINAL_KITTY_OFF "\033[>4m" HED_TERMINAL_PASTE_OFF;
 
 enum command { SAVE, QUIT, TOP, BOTTOM, ERASE, NEWLINE, COMMAND_COUNT };
@@ -308,6 +308,11 @@ static bool handle_key(edit *it, const hed_extended_event *event) {
   return true;
 }
 
+/* Asks for the flags of Kitty's protocol, anew where another program had the terminal. */
+static bool ask_flags(edit *it) {
+  return hed_terminal_ask(&it->terminal, &it->parser, "\033[?u") || fail(it, it->terminal.failure);
+}
+
 /* The terminal has Kitty's protocol. */
 static bool read_by_kitty(edit *it) {
   hed_reading reading = { .protocol = HED_PROTOCOL_KITTY };
@@ -335,7 +340,7 @@ static bool step(edit *it) {
   switch (hed_terminal_next(&it->terminal, &it->parser, hed_timer_timeout(&it->timer, hed_terminal_now()), &event)) {
     case HED_TERMINAL_EVENT: return handle_event(it, &event);
     case HED_TERMINAL_NOTHING: return handle_pause(it);
-    case HED_TERMINAL_RESUMED:
+    case HED_TERMINAL_RESUMED: return ask_flags(it);
     case HED_TERMINAL_RESIZED: return true;
     case HED_TERMINAL_ENDED: take_outcomes(it, false, false); return false;
     case HED_TERMINAL_FAILED: return fail(it, it->terminal.failure);
@@ -360,8 +365,9 @@ static void run(edit *it) {
     fail(it, it->terminal.failure);
     return;
   }
+  bool goes_on = ask_flags(it);
   print_end(it);
-  while (step(it)) continue;
+  while (goes_on) goes_on = step(it);
   hed_terminal_close(&it->terminal);
 }
 

@@ -248,7 +248,7 @@ bool hed_parser_skip_paste(hed_parser *parser, size_t *count);
 uint32_t hed_parser_end_paste(hed_parser *parser, hed_event *event);
 
 /* Forgets all that is buffered, an open paste too: the next byte that is fed comes first. The caller calls it where earlier bytes no
- * longer count, as after another program had the terminal. The text of the last paste or part is kept, and no memory is freed.
+ * longer count, as after another program had the terminal, unless a paste is open: its rest would be typed. The text of the last paste or part is kept, and no memory is freed.
  *
  * Returns the number of bytes that were buffered, 0 if there is no parser. */
 size_t hed_parser_reset(hed_parser *parser);

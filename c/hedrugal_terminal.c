@@ -1,4 +1,4 @@
-#define _POSIX_C_SOURCE 200809L
+#define _XOPEN_SOURCE 700
 #include "hedrugal_terminal.h"
 #include <errno.h>
 #include <fcntl.h>
@@ -12,16 +12,30 @@
 #include <time.h>
 #include <unistd.h>
 
+/* In milliseconds: for how long the reply to DA1 is owed; how long it is waited for at the end, at least and at most; and how long an open paste
+ * or string waits for more once another program had the terminal. */
+enum { OWED_MS = 2000, LEAVE_MS = 200, LEAVE_MOST_MS = 1000, CUT_MS = 1000 };
+
 /* The terminal that is open. It stands here, since exit and signals restore it too. */
 static struct guard {
   int input, output, input_flags, output_flags;
-  struct termios saved, raw;
+  struct termios saved, raw; /* raw is as the system made it */
   char enter[HED_TERMINAL_TEXT_MOST + 1], leave[HED_TERMINAL_TEXT_MOST + 1];
   pid_t owner;
   bool is_open;
+  bool has_mouse; /* whether enter switches mouse reports on */
   volatile sig_atomic_t is_raw;
   volatile sig_atomic_t is_switched; /* whether leave is still to be written */
 } guard;
+
+/* Replies to DA1 that are still to come, the oldest question first. */
+static struct asked {
+  uint64_t since[HED_TERMINAL_ASKS_MOST]; /* when it was asked */
+  unsigned positions[HED_TERMINAL_ASKS_MOST]; /* how many questions for the cursor's position went with it */
+  volatile sig_atomic_t owed; /* how many there are */
+  bool is_answered; /* whether one has come */
+  uint64_t round_trip; /* the longest time that one took */
+} asked;
 
 /* The signals that arrived. The handler also writes to a pipe, which is polled: so no signal is missed between a look at these and poll. */
 static volatile sig_atomic_t ending, stopping, continued, resized;
@@ -39,6 +53,11 @@ static enum hed_terminal_event failed(hed_terminal *it, const char *failure) {
 
 static bool is_own(void) {
   return guard.is_open && guard.owner == getpid();
+}
+
+/* How much is left of a time in milliseconds. */
+static int left_ms(uint64_t since, uint64_t milliseconds, uint64_t now) {
+  return now - since < milliseconds ? (int)(milliseconds - (now - since)) : 0;
 }
 
 /* Writing to the terminal. */
@@ -88,22 +107,77 @@ static void leave_at_once(void) {
   fcntl(guard.output, F_SETFL, guard.output_flags | O_NONBLOCK);
   write_leave(false);
   restore_flags();
-  tcflush(guard.input, TCIFLUSH);
+  if (guard.has_mouse || asked.owed > 0) tcflush(guard.input, TCIFLUSH);
   tcsetattr(guard.input, TCSANOW, &guard.saved);
+}
+
+/* Asks what the terminal is, which nearly every terminal answers. It is owed before it is written, since a handler may interrupt that. */
+static bool ask_attributes(const char *questions, unsigned positions) {
+  asked.since[asked.owed] = hed_terminal_now();
+  asked.positions[asked.owed] = positions;
+  asked.owed++;
+  return write_text(questions, true) && write_text("\033[c", true);
+}
+
+/* The oldest question is over. */
+static void remove_oldest(void) {
+  asked.owed--;
+  memmove(asked.since, asked.since + 1, (size_t)asked.owed * sizeof *asked.since);
+  memmove(asked.positions, asked.positions + 1, (size_t)asked.owed * sizeof *asked.positions);
+}
+
+/* Whether a byte ends a reply to DA1, as ESC [?62;22c: *begun is how many bytes of its beginning came before. */
+static bool ends_reply(size_t *begun, char byte) {
+  static const char beginning[] = "\033[?";
+  bool is_within = *begun == strlen(beginning);
+  if (is_within && ((byte >= '0' && byte <= '9') || byte == ';')) return false;
+  if (!is_within && byte == beginning[*begun]) ++*begun;
+  else *begun = byte == *beginning;
+  return is_within && byte == 'c';
+}
+
+/* Returns false at the end of the input. */
+static bool skip_byte(int milliseconds, size_t *begun) {
+  struct pollfd ready = { .fd = guard.input, .events = POLLIN };
+  char byte;
+  if (poll(&ready, 1, milliseconds) <= 0) return true;
+  ssize_t len = read(guard.input, &byte, 1);
+  if (len > 0 && ends_reply(begun, byte)) remove_oldest();
+  return len > 0 || (len < 0 && (errno == EINTR || errno == EAGAIN || errno == EWOULDBLOCK));
+}
+
+/* Reads up to the last reply that is owed, byte by byte: what comes after it is the next program's. Returns whether it came. */
+static bool skip_replies(void) {
+  uint64_t start = hed_terminal_now(), limit = 2 * asked.round_trip;
+  size_t begun = 0;
+  int left;
+  if (limit < LEAVE_MS) limit = LEAVE_MS;
+  if (limit > LEAVE_MOST_MS) limit = LEAVE_MOST_MS;
+  while (asked.owed > 0 && (left = left_ms(start, limit, hed_terminal_now())) > 0)
+    if (!skip_byte(left, &begun)) return false;
+  return asked.owed == 0;
+}
+
+/* Mouse reports that are under way come before the reply to a question that is asked now. Returns whether nothing is left to be discarded. */
+static bool skip_what_was_sent(void) {
+  if (asked.owed == 0 && !guard.has_mouse) return true;
+  if (asked.owed == 0 && !(asked.is_answered && ask_attributes("", 0))) return false;
+  return skip_replies();
 }
 
 static void leave(void) {
   if (!guard.is_raw) return;
   fflush(stdout);
   write_leave(true);
-  set(TCSAFLUSH, &guard.saved);
+  set(skip_what_was_sent() ? TCSADRAIN : TCSAFLUSH, &guard.saved);
   restore_flags();
   guard.is_raw = false;
+  asked.owed = 0;
 }
 
 /* If it was never left, as around SIGSTOP, modes that nest are left first. */
 static bool enter(hed_terminal *it) {
-  if (!set(TCSADRAIN, &guard.raw)) return fail(it, "raw mode can't be set");
+  if (!set(TCSADRAIN, &guard.raw) || tcgetattr(guard.input, &guard.raw) != 0) return fail(it, "raw mode can't be set");
   guard.is_raw = true;
   write_leave(true);
   guard.is_switched = true; /* from the first byte on, since a handler may interrupt the write */
@@ -112,8 +186,13 @@ static bool enter(hed_terminal *it) {
 
 /* Signals. */
 
-static void note_signal(int number) {
-  int saved = errno;
+/* The signal does what it does to a program that doesn't handle it. If its handler calls this, that is once the handler has returned. */
+static void raise_default(int number) {
+  signal(number, SIG_DFL);
+  raise(number);
+}
+
+static void note(int number) {
   if (number == SIGTSTP) stopping = 1;
   else if (number == SIGCONT) continued = 1;
   else if (number == SIGWINCH) resized = 1;
@@ -123,21 +202,28 @@ static void note_signal(int number) {
   }
   ssize_t written = write(wake[1], "", 1);
   (void)written; /* a full pipe ends the poll as well */
+}
+
+/* A forked child has the handlers too. It is as if it had none. */
+static void note_signal(int number) {
+  int saved = errno;
+  if (guard.owner == getpid()) note(number);
+  else raise_default(number);
   errno = saved;
 }
 
 /* The program still runs a second after a signal that ends it: a write blocks, and goes on after signals. */
 static void end_late(int number) {
-  (void)number;
-  if (!ending) return;
+  bool is_child = guard.owner != getpid();
+  if (is_child) raise_default(number);
+  if (is_child || !ending) return;
   leave_at_once();
   hed_terminal_end();
 }
 
 static void end_at_once(int number) {
   leave_at_once();
-  signal(number, SIG_DFL);
-  raise(number);
+  raise_default(number);
 }
 
 /* What is handled, and how it was before. */
@@ -160,11 +246,19 @@ static struct handled {
 
 enum { HANDLED = sizeof handled / sizeof *handled };
 
+/* A stack for handlers, as of SIGSEGV where the program's own stack has overflowed. One that the program has set stays. */
+static bool set_stack(void) {
+  static char memory[1 << 16];
+  stack_t stack = { .ss_sp = memory, .ss_size = sizeof memory }, before;
+  if (sigaltstack(NULL, &before) != 0) return false;
+  return !(before.ss_flags & SS_DISABLE) || sigaltstack(&stack, NULL) == 0;
+}
+
 static bool set_handler(int number, void (*handler)(int)) {
   struct sigaction action;
   memset(&action, 0, sizeof action);
   action.sa_handler = handler;
-  action.sa_flags = SA_RESTART;
+  action.sa_flags = SA_RESTART | SA_ONSTACK;
   return sigaction(number, &action, NULL) == 0;
 }
 
@@ -176,6 +270,7 @@ static bool is_to_be_handled(const struct handled *it) {
 }
 
 static bool handle_signals(void) {
+  if (!set_stack()) return false;
   for (struct handled *it = handled; it < handled + HANDLED; it++) {
     if (it->is_handled) continue;
     if (sigaction(it->number, NULL, &it->before) != 0) return false;
@@ -196,9 +291,7 @@ static void release_signals(void) {
 }
 
 void hed_terminal_end(void) {
-  if (!ending) return;
-  signal(ending, SIG_DFL);
-  raise(ending);
+  if (ending) raise_default(ending);
 }
 
 /* It stays open, for the next terminal. */
@@ -242,20 +335,48 @@ static bool find_terminal(hed_terminal *it) {
   return true;
 }
 
+static bool is_mouse(unsigned long mode) {
+  return mode == 9 || mode == 1000 || mode == 1002 || mode == 1003;
+}
+
+/* Whether a sequence switches mouse reports on, as 1000;1006h behind ESC [?. */
+static bool sets_mouse(const char *modes) {
+  bool is_found = false;
+  char *end;
+  for (;; modes = end + 1) {
+    is_found |= is_mouse(strtoul(modes, &end, 10));
+    if (*end != ';') return is_found && *end == 'h';
+  }
+}
+
+static bool switches_mouse_on(const char *text) {
+  bool is_found = false;
+  while (!is_found && (text = strstr(text, "\033[?"))) is_found = sets_mouse(text += 3);
+  return is_found;
+}
+
 static bool keep_texts(hed_terminal *it, const char *enter, const char *leave) {
   if (strlen(enter) > HED_TERMINAL_TEXT_MOST || strlen(leave) > HED_TERMINAL_TEXT_MOST) return fail(it, "a text is too long");
   strcpy(guard.enter, enter);
   strcpy(guard.leave, leave);
+  guard.has_mouse = switches_mouse_on(enter);
   return true;
 }
 
 /* If this fails, the terminal is as it was. */
+static bool take_terminal(hed_terminal *it) {
+  if (!handle_signals()) fail(it, "a signal can't be handled");
+  else if (enter(it)) return true;
+  hed_terminal_lend(it);
+  return false;
+}
+
 static bool begin(hed_terminal *it) {
   if (!open_wake() || !note_exit()) return fail(it, "a pipe can't be opened");
   it->wake = wake[0];
   guard.owner = getpid();
   guard.is_open = true;
-  if (hed_terminal_take_back(it)) return true;
+  if (take_terminal(it)) return true;
   guard.is_open = false;
   return false;
 }
@@ -266,6 +387,7 @@ bool hed_terminal_open(hed_terminal *terminal, int input, int output, const char
   terminal->output = output;
   if (guard.is_open) return fail(terminal, "a terminal is open already");
   stopping = continued = resized = 0;
+  memset(&asked, 0, sizeof asked);
   return find_terminal(terminal) && keep_texts(terminal, enter, leave) && begin(terminal);
 }
 
@@ -284,10 +406,8 @@ void hed_terminal_lend(hed_terminal *terminal) {
 bool hed_terminal_take_back(hed_terminal *terminal) {
   if (!is_own()) return fail(terminal, "no terminal is open");
   terminal->unfed = 0;
-  if (!handle_signals()) fail(terminal, "a signal can't be handled");
-  else if (enter(terminal)) return true;
-  hed_terminal_lend(terminal);
-  return false;
+  terminal->was_away = true;
+  return take_terminal(terminal);
 }
 
 /* Waiting. */
@@ -303,8 +423,22 @@ static void stop(void) {
 }
 
 static enum hed_terminal_event resume(hed_terminal *it) {
-  continued = resized = 0;
+  resized = 0;
+  asked.owed = 0;
   return enter(it) ? HED_TERMINAL_RESUMED : HED_TERMINAL_FAILED;
+}
+
+static bool is_same(const struct termios *one, const struct termios *other) {
+  bool has_flags = one->c_iflag == other->c_iflag && one->c_oflag == other->c_oflag && one->c_lflag == other->c_lflag;
+  return has_flags && one->c_cflag == other->c_cflag && memcmp(one->c_cc, other->c_cc, sizeof one->c_cc) == 0;
+}
+
+/* Whether the program was continued, and the terminal isn't as the program had set it. */
+static bool was_away(void) {
+  struct termios now;
+  if (!continued) return false;
+  continued = 0;
+  return !guard.is_raw || tcgetattr(guard.input, &now) != 0 || !is_same(&now, &guard.raw);
 }
 
 /* A signal that ends the program comes before raw mode: a program that set it in the background would be stopped once more. */
@@ -312,19 +446,26 @@ enum hed_terminal_event hed_terminal_heed(hed_terminal *terminal) {
   drain_wake();
   if (stopping && !ending) stop();
   if (ending) return HED_TERMINAL_ENDING;
-  if (continued) return resume(terminal);
+  if (was_away()) return resume(terminal);
   if (!resized) return HED_TERMINAL_NOTHING;
   resized = 0;
   return HED_TERMINAL_RESIZED;
 }
 
+/* Polls again if a signal interrupts it: only then it is known what can be read. */
+static bool poll_both(struct pollfd ready[2], int milliseconds) {
+  int count = poll(ready, 2, milliseconds);
+  while (count < 0 && errno == EINTR) count = poll(ready, 2, 0);
+  return count >= 0;
+}
+
 enum hed_terminal_event hed_terminal_wait(hed_terminal *terminal, int milliseconds) {
   struct pollfd ready[2] = { { .fd = terminal->input, .events = POLLIN }, { .fd = terminal->wake, .events = POLLIN } };
+  enum hed_terminal_event came = HED_TERMINAL_NOTHING;
   if (ending) return HED_TERMINAL_ENDING;
-  int count = poll(ready, 2, milliseconds);
-  if (count == 0) return HED_TERMINAL_NOTHING;
-  if (count < 0 && errno != EINTR) return failed(terminal, "the terminal can't be polled");
-  return count > 0 && !ready[1].revents ? HED_TERMINAL_INPUT : hed_terminal_heed(terminal);
+  if (!poll_both(ready, milliseconds)) return failed(terminal, "the terminal can't be polled");
+  if (ready[1].revents) came = hed_terminal_heed(terminal);
+  return came == HED_TERMINAL_NOTHING && ready[0].revents ? HED_TERMINAL_INPUT : came;
 }
 
 bool hed_terminal_read(hed_terminal *terminal, uint8_t *bytes, size_t room, size_t *count) {
@@ -352,33 +493,123 @@ static enum hed_terminal_event told(hed_terminal *it, uint32_t answer) {
 
 /* Reads bytes, which are fed next. Returns false if that fails. */
 static bool read_more(hed_terminal *it) {
-  if (hed_terminal_read(it, it->bytes, sizeof it->bytes, &it->unfed)) return true;
-  it->has_ended = !it->failure;
-  return it->has_ended;
+  bool is_read = hed_terminal_read(it, it->bytes, sizeof it->bytes, &it->unfed);
+  if (it->is_cut && it->unfed > 0) it->cut_since = hed_terminal_now();
+  it->has_ended = !is_read && !it->failure;
+  return is_read || it->has_ended;
 }
 
-/* How long to wait: no longer than the parser's limits say, nor than what is left of these milliseconds. */
-static int wait_ms(hed_extended *parser, uint64_t start, int milliseconds) {
+/* Another program had the terminal. Events that weren't taken are forgotten, and so is the beginning of a sequence. What is open stays so. */
+static void forget(hed_terminal *it, hed_extended *parser) {
+  hed_extended_event event;
+  while (hed_extended_next(parser, true, &event) == HED_NEXT_EVENT) continue;
+  uint32_t waiting = hed_extended_waiting(parser);
+  it->was_away = false;
+  it->is_cut = waiting == HED_WAITING_PASTE || waiting == HED_WAITING_STRING;
+  it->cut_since = hed_terminal_now();
+  if (!it->is_cut) hed_extended_reset(parser);
+  hed_extended_forget_positions(parser);
+}
+
+/* Questions. */
+
+/* What the oldest question asked of the cursor isn't expected any more, and what the others did is. */
+static void close_oldest(hed_extended *parser) {
+  hed_reading reading;
+  unsigned positions = 0;
+  remove_oldest();
+  for (int i = 0; i < asked.owed; i++) positions += asked.positions[i];
+  if (!hed_extended_reading(parser, &reading)) return;
+  reading.questions = (uint8_t)(positions < UINT8_MAX ? positions : UINT8_MAX);
+  hed_extended_set_reading(parser, &reading);
+}
+
+bool hed_terminal_ask(hed_terminal *terminal, hed_extended *parser, const char *questions) {
+  unsigned positions = 0;
+  if (!is_own() || !guard.is_raw) return fail(terminal, "no terminal is open");
+  if (asked.owed == HED_TERMINAL_ASKS_MOST) return fail(terminal, "too many questions are open");
+  if (fflush(stdout) != 0) return fail(terminal, "the output can't be written");
+  if (terminal->was_away) forget(terminal, parser);
+  for (const char *at = questions; (at = strstr(at, "\033[6n")); at++) {
+    hed_extended_expect_position(parser);
+    positions++;
+  }
+  return ask_attributes(questions, positions) || fail(terminal, "the terminal can't be written");
+}
+
+size_t hed_terminal_owed(const hed_terminal *terminal) {
+  (void)terminal;
+  return (size_t)asked.owed;
+}
+
+/* Whether an event is the reply to DA1. */
+static bool is_attributes(const hed_extended *parser, const hed_extended_event *event) {
+  uint8_t text[256];
+  hed_reply reply;
+  if (event->kind != HED_KIND_CSI || event->text_len > sizeof text) return false;
+  hed_extended_text(parser, text, sizeof text);
+  uint32_t answer = hed_read_reply(HED_KIND_CSI, text, event->text_len, &reply, NULL, 0, NULL, 0);
+  return answer == HED_REPLIED_VALUES && reply.kind == HED_REPLY_DEVICE_ATTRIBUTES && reply.report == HED_DEVICE_ATTRIBUTES_PRIMARY;
+}
+
+static void note_reply(hed_extended *parser) {
+  uint64_t round_trip = hed_terminal_now() - asked.since[0];
+  if (round_trip > asked.round_trip) asked.round_trip = round_trip;
+  asked.is_answered = true;
+  close_oldest(parser);
+}
+
+/* Waiting for events. */
+
+/* What is open ends with the first event that is no part of it. */
+static void note_event(hed_terminal *it, hed_extended *parser, const hed_extended_event *event) {
+  if (event->kind != HED_KIND_PASTE_PART && event->kind != HED_KIND_STRING_PART) it->is_cut = false;
+  if (asked.owed > 0 && is_attributes(parser, event)) note_reply(parser);
+}
+
+/* Looks at the input after the clock: bytes that are there may complete what is due. */
+static uint32_t expire(hed_terminal *it, hed_extended *parser, hed_extended_event *event) {
   uint64_t now = hed_terminal_now();
-  int parser_ms = hed_extended_timeout(parser, now);
-  if (milliseconds < 0) return parser_ms;
-  int left = now - start < (uint64_t)milliseconds ? milliseconds - (int)(now - start) : 0;
-  return parser_ms < 0 || left < parser_ms ? left : parser_ms;
+  struct pollfd ready = { .fd = it->input, .events = POLLIN };
+  if (poll(&ready, 1, 0) != 0) return HED_NEXT_NONE;
+  while (asked.owed > 0 && left_ms(asked.since[0], OWED_MS, now) == 0) close_oldest(parser);
+  if (!it->is_cut || left_ms(it->cut_since, CUT_MS, now) > 0) return hed_extended_expire(parser, now, event);
+  return hed_extended_is_paste_open(parser) ? hed_extended_end_paste(parser, event) : hed_extended_next(parser, false, event);
+}
+
+/* The shorter of two times, of which a negative one is for ever. */
+static int sooner(int one, int other) {
+  return one < 0 || (other >= 0 && other < one) ? other : one;
+}
+
+int hed_terminal_timeout(hed_terminal *terminal, hed_extended *parser) {
+  uint64_t now = hed_terminal_now();
+  int left = hed_extended_timeout(parser, now);
+  if (terminal->is_cut) left = sooner(left, left_ms(terminal->cut_since, CUT_MS, now));
+  return asked.owed > 0 ? sooner(left, left_ms(asked.since[0], OWED_MS, now)) : left;
+}
+
+/* How long to wait, if no longer than these milliseconds from the start on. */
+static int wait_ms(hed_terminal *it, hed_extended *parser, uint64_t start, int milliseconds) {
+  int left = hed_terminal_timeout(it, parser);
+  return milliseconds < 0 ? left : sooner(left, left_ms(start, (uint64_t)milliseconds, hed_terminal_now()));
 }
 
 enum hed_terminal_event hed_terminal_next(hed_terminal *terminal, hed_extended *parser, int milliseconds, hed_extended_event *event) {
   uint64_t start = hed_terminal_now();
   enum hed_terminal_event came = HED_TERMINAL_INPUT;
+  if (terminal->was_away) forget(terminal, parser);
   uint32_t answer = take(terminal, parser, event);
   while (answer == HED_NEXT_NONE && came == HED_TERMINAL_INPUT) {
     if (terminal->has_ended) return HED_TERMINAL_ENDED;
     if (fflush(stdout) != 0) return failed(terminal, "the output can't be written");
-    came = hed_terminal_wait(terminal, wait_ms(parser, start, milliseconds));
+    came = hed_terminal_wait(terminal, wait_ms(terminal, parser, start, milliseconds));
     if (came == HED_TERMINAL_INPUT && !read_more(terminal)) return HED_TERMINAL_FAILED;
     if (came == HED_TERMINAL_INPUT) answer = take(terminal, parser, event);
-    if (came == HED_TERMINAL_NOTHING) answer = hed_extended_expire(parser, hed_terminal_now(), event);
-    if (came == HED_TERMINAL_RESUMED) hed_extended_reset(parser);
+    if (came == HED_TERMINAL_NOTHING) answer = expire(terminal, parser, event);
+    if (came == HED_TERMINAL_RESUMED) forget(terminal, parser);
   }
+  if (answer == HED_NEXT_EVENT) note_event(terminal, parser, event);
   return answer == HED_NEXT_NONE ? came : told(terminal, answer);
 }
 

@@ -34,7 +34,14 @@
  * signals, SIGCONT, SIGWINCH and SIGALRM are handled here. Those that the program ignores stay ignored, and of those of the third case the ones
  * that it handles itself stay its own. It calls no alarm. Its calls of the system go on after these signals (SA_RESTART), but for a poll of its
  * own. The texts that switch modes are written whole, also if the descriptor doesn't block (O_NONBLOCK); the program's stdout then loses what
- * the terminal doesn't take at once. Whether a descriptor blocks is restored with the settings. In a forked child these calls do nothing. */
+ * the terminal doesn't take at once. Whether a descriptor blocks is restored with the settings. In a forked child these calls do nothing, and
+ * signals do what they do by default. Handlers have a stack of their own, unless the program has set one (sigaltstack).
+ *
+ * What was typed ahead is kept for the program, and in the end for the next one, which must not get replies or mouse reports. If replies to
+ * hed_terminal_ask are still to come when the terminal is left, what comes is read and thrown away up to the last of them. If none are, but mouse
+ * reports are on and DA1 was answered before, DA1 is asked once more, and the same is done up to its reply. That is waited for twice as long as the
+ * slowest reply to DA1 took, but at least 200 ms and at most a second. If it doesn't come, or mouse reports are on and DA1 was never answered, all
+ * that came is discarded. Mouse reports are on if what hed_terminal_open writes switches them on. */
 #ifndef HEDRUGAL_TERMINAL_H
 #define HEDRUGAL_TERMINAL_H
 
@@ -57,25 +64,26 @@ extern "C" {
   "\033[>" #flags "u" /* Kitty's keyboard protocol, as HED_TERMINAL_KITTY_ON(5): a sum of HED_KITTY_FLAG_.. */
 #define HED_TERMINAL_KITTY_OFF "\033[<u"
 
-/* The most bytes of a text that switches modes, and of the text of a paste that is buffered before its end. */
-enum { HED_TERMINAL_TEXT_MOST = 511, HED_TERMINAL_PASTE_MOST = 1 << 20 };
+/* The most bytes of a text that switches modes, and of the text of a paste that is buffered before its end; the most asks that are open. */
+enum { HED_TERMINAL_TEXT_MOST = 511, HED_TERMINAL_PASTE_MOST = 1 << 20, HED_TERMINAL_ASKS_MOST = 16 };
 
 typedef struct hed_terminal {
   const char *failure; /* why the last call failed, in words; errno is the system's number for it */
   int wake; /* readable once a signal came: for a loop of the program's own */
   int input, output; /* the rest is for these calls */
-  bool has_ended;
+  bool has_ended, was_away, is_cut;
+  uint64_t cut_since;
   size_t unfed;
   uint8_t bytes[4096];
 } hed_terminal;
 
 /* What hed_terminal_next, hed_terminal_wait and hed_terminal_heed return. With the last three the program ends. */
 enum hed_terminal_event {
-  HED_TERMINAL_NOTHING, /* Nothing came in time. Another signal may end the wait earlier, so the program asks what is due. */
+  HED_TERMINAL_NOTHING, /* Nothing came in time. A signal or an overdue reply may end the wait earlier, so the program asks what is due. */
   HED_TERMINAL_INPUT, /* Bytes can be read, or the input has ended. hed_terminal_next reads them itself. */
   HED_TERMINAL_EVENT, /* An event was written. */
   HED_TERMINAL_RESIZED, /* The terminal has a new size. */
-  HED_TERMINAL_RESUMED, /* Another program had the terminal: what was buffered before no longer counts, and the size may be new. */
+  HED_TERMINAL_RESUMED, /* Another program had the terminal: it may have drawn on it, and the size may be new. */
   HED_TERMINAL_ENDED, /* The input has ended, as when the terminal was closed, and all of its events were told. */
   HED_TERMINAL_ENDING, /* A signal ends the program: it closes the terminal, and calls hed_terminal_end. */
   HED_TERMINAL_FAILED /* The program can't go on, and terminal->failure says why. */
@@ -90,8 +98,8 @@ enum hed_terminal_event {
  * system fails. Then the terminal is unchanged. */
 bool hed_terminal_open(hed_terminal *terminal, int input, int output, const char *enter, const char *leave);
 
-/* Writes what stdout holds, and leave, and restores the settings, unless another program has the terminal. What the terminal sent meanwhile is
- * discarded, so that no mouse report reaches the shell. Signals are handled as before. If no terminal is open, does nothing. */
+/* Writes what stdout holds, and leave, and restores the settings, unless another program has the terminal. Waits for replies that are still to
+ * come, as is said above, for a second at most. Signals are handled as before. If no terminal is open, does nothing. */
 void hed_terminal_close(hed_terminal *terminal);
 
 /* Ends the program by the signal that ends it, as a program that handles none, so that its parent sees why. Returns if none came. */
@@ -99,14 +107,36 @@ void hed_terminal_end(void);
 
 /* Waits for the next event, and writes it to *event. Reads the terminal, keeps the limits in time of the parser, takes a paste of more than
  * HED_TERMINAL_PASTE_MOST bytes in parts, and flushes the parser at the end of the input. What stdout holds is written first. The parser is one
- * that nothing else feeds. With HED_TERMINAL_RESUMED it was reset.
+ * that nothing else feeds.
+ *
+ * If another program had the terminal, the beginning of a sequence that was buffered before is forgotten, since its rest went there. A paste or
+ * a string that was open stays open, as the rest of it would be typed otherwise. It ends where it is if nothing comes for a second: the paste as a
+ * HED_KIND_PASTE, the string as a HED_KIND_STRING_CUT. After a stop by SIGSTOP alone, if the settings are as they were, nothing happened.
  *
  * Returns HED_TERMINAL_EVENT, or what came before an event did: HED_TERMINAL_NOTHING after so many milliseconds, negative: never. With
  * HED_TERMINAL_FAILED no byte is lost, so that the call may be made again if memory was refused. */
 enum hed_terminal_event hed_terminal_next(hed_terminal *terminal, hed_extended *parser, int milliseconds, hed_extended_event *event);
 
+/* Asks the terminal: writes what stdout holds, the questions, and DA1 (ESC [c), which nearly every terminal answers. Replies come in the order of
+ * the questions. So a reply that hasn't come before that to DA1 won't come. Replies are events of hed_terminal_next, that to DA1 too. It counts the
+ * latter. For each ESC [6n of the questions the parser expects a position of the cursor until then.
+ *
+ * A reply to DA1 answers the oldest ask that is open. One that hasn't come after two seconds isn't waited for any longer: if it comes later, it
+ * answers the next one, if there is one. When another program had the terminal, no ask is open any more.
+ *
+ * Returns false if no terminal is open, HED_TERMINAL_ASKS_MOST asks are open, or the terminal can't be written. */
+bool hed_terminal_ask(hed_terminal *terminal, hed_extended *parser, const char *questions);
+
+/* Returns how many asks are open. At 0 the last one is over. At 1 the replies that come next are its own, and at more those of an earlier one. */
+size_t hed_terminal_owed(const hed_terminal *terminal);
+
+/* Returns how many milliseconds a loop of the program's own may wait before it calls hed_terminal_next again, negative: for ever. It is what
+ * hed_extended_timeout says, or less. */
+int hed_terminal_timeout(hed_terminal *terminal, hed_extended *parser);
+
 /* Waits until bytes can be read, a signal comes, or so many milliseconds have passed; negative: for ever. For a program that reads by itself.
- * SIGTSTP stops the program in this call. Signals go first. What stdout holds isn't written: the caller does that before. */
+ * SIGTSTP stops the program in this call. Signals go first. What stdout holds isn't written: the caller does that before. After
+ * HED_TERMINAL_RESUMED the caller forgets what it has buffered, unless a paste or a string is open. */
 enum hed_terminal_event hed_terminal_wait(hed_terminal *terminal, int milliseconds);
 
 /* Reads what the terminal sent, at most room bytes, and writes their number to *count: 0 if there is nothing after all.
@@ -123,8 +153,8 @@ enum hed_terminal_event hed_terminal_heed(hed_terminal *terminal);
  * modes. Does nothing if it is lent. */
 void hed_terminal_lend(hed_terminal *terminal);
 
-/* Sets raw mode and the modes again, whatever that program left, also if it wasn't lent to it. What was buffered before no longer counts: the
- * program calls hed_extended_reset. Returns false if that fails, as when the terminal is gone. */
+/* Sets raw mode and the modes again, whatever that program left, also if it wasn't lent to it. hed_terminal_next forgets what was buffered before,
+ * as after HED_TERMINAL_RESUMED. Returns false if that fails, as when the terminal is gone. */
 bool hed_terminal_take_back(hed_terminal *terminal);
 
 /* Writes the size in characters of the terminal that this descriptor is of, such as 1. Returns false if it isn't known: then nothing is

@@ -1,10 +1,11 @@
 /* A program that tests/test_terminal_c.py runs on a pseudo-terminal: it does with its terminal what the keys say, and prints what came.
  *
- *     cc -Wl,--wrap=malloc -Wl,--wrap=realloc -Wl,--wrap=free test_terminal.c hedrugal_terminal.c libhedrugal.a && ./a.out [--poll | --tty | --ignore | --handle | --long]
+ *     calls="-Wl,--wrap=malloc -Wl,--wrap=realloc -Wl,--wrap=free -Wl,--wrap=poll"
+ *     cc $calls test_terminal.c hedrugal_terminal.c libhedrugal.a && ./a.out [--poll | --tty | --ignore | --handle | --long | --mouse]
  *
  * With --poll it polls the terminal and the signals by itself. With --tty both of its descriptors are of /dev/tty. With --ignore it ignores
  * SIGTERM and SIGHUP, and with --handle it has handlers of its own for SIGUSR1 and SIGUSR2: they interrupt what waits. With --long
- * the text that switches modes on is too long. */
+ * the text that switches modes on is too long, and with --mouse it switches mouse reports on. */
 #define _POSIX_C_SOURCE 200809L
 #include "hedrugal_terminal.h"
 #include "refuse.h"
@@ -16,9 +17,11 @@
 #include <stdlib.h>
 #include <string.h>
 #include <sys/wait.h>
+#include <time.h>
 #include <unistd.h>
 
 static const char off[] = HED_TERMINAL_PASTE_OFF HED_TERMINAL_SCREEN_OFF;
+static const char mouse_off[] = HED_TERMINAL_MOUSE_OFF HED_TERMINAL_PASTE_OFF HED_TERMINAL_SCREEN_OFF;
 
 static hed_extended parser = HED_EXTENDED_NONE;
 static hed_terminal terminal;
@@ -62,15 +65,91 @@ static void fork_child(void) {
   printf("child: %d\n", status);
 }
 
+static void pause_ms(long milliseconds) {
+  struct timespec left = { 0, milliseconds * 1000000 };
+  while (nanosleep(&left, &left) != 0) continue;
+}
+
+/* What a signal does to a child within a fifth of a second. */
+static void print_status(pid_t child, int number) {
+  int status = 0;
+  kill(child, number);
+  pause_ms(200);
+  pid_t changed = waitpid(child, &status, WNOHANG | WUNTRACED);
+  if (changed == child && WIFSTOPPED(status)) printf("child: stopped by %d\n", WSTOPSIG(status));
+  else if (changed == child) printf("child: ended by %d\n", WTERMSIG(status));
+  else puts("child: runs");
+}
+
+/* A child is stopped and ended by the system's signals, and one that crashes leaves the terminal alone. */
+static void signal_children(void) {
+  static const int numbers[] = { SIGTSTP, SIGCONT, SIGTERM };
+  fflush(stdout);
+  pid_t child = fork();
+  while (child == 0) pause();
+  for (size_t i = 0; i < sizeof numbers / sizeof *numbers; i++) print_status(child, numbers[i]);
+  fflush(stdout);
+  child = fork();
+  if (child == 0) abort();
+  print_status(child, SIGCONT);
+}
+
+static bool stands_still;
+
+int __real_poll(struct pollfd *ready, nfds_t count, int milliseconds);
+
+/* Where nothing came the program may stand still, as if it were stopped, before it sees that. */
+int __wrap_poll(struct pollfd *ready, nfds_t count, int milliseconds) {
+  int found = __real_poll(ready, count, milliseconds);
+  if (found != 0 || !stands_still) return found;
+  stands_still = false;
+  puts("stands still");
+  fflush(stdout);
+  pause_ms(300);
+  return found;
+}
+
+/* Wakes the loop without a signal, a while after a look that found nothing. */
+static void wake_late(void) {
+  char name[32];
+  hed_extended_event event;
+  enum hed_terminal_event came = hed_terminal_next(&terminal, &parser, 0, &event);
+  printf("waits: %d\n", came);
+  fflush(stdout);
+  pause_ms(300);
+  snprintf(name, sizeof name, "/proc/self/fd/%d", terminal.wake);
+  int wake = open(name, O_WRONLY);
+  if (write(wake, "", 1) != 1) puts("no pipe");
+  close(wake);
+}
+
+/* Needs so many pages of the stack. */
+static unsigned deepen(unsigned pages) {
+  volatile char page[4096];
+  page[0] = (char)pages;
+  return pages == 0 ? 0 : deepen(pages - 1) + (unsigned)page[0];
+}
+
 /* Runs a command, with the terminal or without it. */
 static bool run_child(const char *command, bool is_lent) {
   if (is_lent) hed_terminal_lend(&terminal);
   fflush(stdout);
   int status = system(command);
   printf("command: %d\n", status);
-  if (!hed_terminal_take_back(&terminal)) return false;
-  hed_extended_reset(&parser);
+  return hed_terminal_take_back(&terminal);
+}
+
+/* Asks, and tells how many asks are open. */
+static bool ask(const char *questions) {
+  bool is_asked = hed_terminal_ask(&terminal, &parser, questions);
+  printf("asked: %s, %zu open\n", is_asked ? "yes" : terminal.failure, hed_terminal_owed(&terminal));
   return true;
+}
+
+/* Asks at once when it has the terminal again. */
+static bool ask_again(void) {
+  hed_terminal_lend(&terminal);
+  return hed_terminal_take_back(&terminal) && ask("\033[6n");
 }
 
 static void print_size(const char *what) {
@@ -83,23 +162,41 @@ static void print_size(const char *what) {
 static bool obey(uint32_t key) {
   switch (key) {
     case '2': open_again(); return true;
+    case '6': return ask("\033[6n");
+    case '9': return ask("\033[6n\033[6n\033]11;?\033\\");
     case 'a': abort();
     case 'c': return run_child("stty sane", false);
     case 'd': fcntl(0, F_SETFL, fcntl(0, F_GETFL) | O_NONBLOCK); return true;
+    case 'e': return run_child("ls /proc/self/fd | wc -l", false);
     case 'f': fork_child(); return true;
+    case 'g': signal_children(); return true;
+    case 'j': stands_still = true; return true;
+    case 'k': wake_late(); return true;
     case 'm': refuse(1); return true;
     case 'l': return run_child("stty -a | grep -o -e '-icanon' -e icanon; read -r line; echo \"line $line\"", true);
+    case 'o': printf("deep: %u\n", deepen(1 << 20)); return true;
     case 'p': write_to_nobody(); return true;
+    case 'r': return ask_again();
     case 's': raise(SIGSEGV); return true;
     case 'x': exit(3);
     default: return key != 'q';
   }
 }
 
+/* Prints what a reply says, or what was cut off of it, and how many asks are open. */
+static void print_reply(const hed_extended_event *event) {
+  char text[64] = "";
+  if (event->kind == HED_KIND_CURSOR_POSITION) snprintf(text, sizeof text, "%u, %u", event->row, event->column);
+  else hed_extended_text(&parser, (uint8_t *)text, sizeof text - 1);
+  printf("%s %s, %zu open\n", event->kind == HED_KIND_STRING_CUT ? "cut" : "reply", text, hed_terminal_owed(&terminal));
+}
+
 static bool handle_event(const hed_extended_event *event) {
   bool is_paste = event->kind == HED_KIND_PASTE || event->kind == HED_KIND_PASTE_PART;
+  bool is_reply = event->kind == HED_KIND_CURSOR_POSITION || event->kind == HED_KIND_CSI || event->kind == HED_KIND_OSC;
   if (event->kind == HED_KIND_KEY) printf("key %u, %u\n", event->input.key, (unsigned)event->input.detail);
   if (is_paste) printf("%s of %zu bytes\n", event->kind == HED_KIND_PASTE ? "paste" : "part", event->text_len);
+  if (is_reply || event->kind == HED_KIND_STRING_CUT) print_reply(event);
   return event->kind != HED_KIND_KEY || event->input.key != HED_KEY_CHAR || obey(event->input.detail);
 }
 
@@ -145,9 +242,11 @@ int main(int argc, char **argv) {
   if (strcmp(word, "--handle") == 0) handle(SIGUSR1), handle(SIGUSR2);
   if (strcmp(word, "--long") == 0) memset(text, ' ', sizeof text - 1);
   if (!hed_extended_init(&parser, HED_PROTOCOL_LEGACY)) return 1;
-  if (!hed_terminal_open(&terminal, input, input == 0 ? 1 : input, text, off)) {
+  bool has_mouse = strcmp(word, "--mouse") == 0;
+  if (has_mouse) strcat(text, HED_TERMINAL_MOUSE_ON);
+  if (!hed_terminal_open(&terminal, input, input == 0 ? 1 : input, text, has_mouse ? mouse_off : off)) {
     fprintf(stderr, "test_terminal: %s\n", terminal.failure);
-    return 1;
+    if (!hed_terminal_open(&terminal, 0, 1, "", "")) return 1;
   }
   puts("begun");
   while (strcmp(word, "--poll") == 0 ? poll_once() : next_once()) continue;

@@ -6,6 +6,9 @@
 #include <stdlib.h>
 #include <string.h>
 
+/* A longer file is refused. */
+enum { FILE_MOST = 1 << 20 };
+
 static const char blanks[] = " \t";
 
 /* What the file says of a chord. The number that the chord is bound to is its address. */
@@ -73,33 +76,39 @@ static bool read_line(bindings *it, source *at) {
   return bind_named(it, at, at->text + start, length, end + strspn(at->text + end, blanks));
 }
 
-static bool read_lines(bindings *it, source *at, FILE *from) {
-  char *line = NULL;
-  size_t room = 0;
+/* Reads the lines of a text, of which the last may have no end. */
+static bool read_lines(bindings *it, source *at, char *text, size_t length) {
   bool has_memory = hed_bindings_init(&it->chords);
-  for (ssize_t length; has_memory && (length = getline(&line, &room, from)) >= 0;) {
+  for (char *end = text + length; has_memory && text < end; text += at->length + 1) {
+    char *newline = memchr(text, '\n', (size_t)(end - text));
     at->number++;
-    at->text = line;
-    at->length = (size_t)length - (line[length - 1] == '\n');
-    line[at->length] = '\0';
+    at->text = text;
+    at->length = (size_t)((newline ? newline : end) - text);
+    text[at->length] = '\0';
     has_memory = read_line(it, at);
   }
-  free(line);
   return has_memory;
+}
+
+static bindings_answer read_text(bindings *it, source *at, char *text, FILE *from) {
+  size_t length = fread(text, 1, FILE_MOST + 1, from);
+  if (ferror(from)) return BINDINGS_NO_FILE;
+  if (length > FILE_MOST) return BINDINGS_TOO_LONG;
+  if (!read_lines(it, at, text, length)) return BINDINGS_NO_MEMORY;
+  return at->is_wrong ? BINDINGS_WRONG : BINDINGS_READ;
 }
 
 bindings_answer bindings_read(bindings *it, const char *file) {
   source at = { .file = file };
   FILE *from = fopen(file, "r");
   if (!from) return BINDINGS_NO_FILE;
-  bool has_memory = read_lines(it, &at, from);
-  bool was_read = feof(from);
+  char *text = malloc(FILE_MOST + 1);
+  bindings_answer answer = text ? read_text(it, &at, text, from) : BINDINGS_NO_MEMORY;
   int error = errno;
+  free(text);
   fclose(from);
   errno = error;
-  if (!has_memory) return BINDINGS_NO_MEMORY;
-  if (!was_read) return BINDINGS_NO_FILE;
-  return at.is_wrong ? BINDINGS_WRONG : BINDINGS_READ;
+  return answer;
 }
 
 void bindings_press(bindings *it, const hed_key_press *presses, size_t count) {

@@ -22,6 +22,7 @@ typedef struct continuation {
 typedef enum bindings_answer {
   BINDINGS_READ,
   BINDINGS_WRONG, /* lines are wrong: standard error has them */
+  BINDINGS_TOO_LONG, /* the file has more than 1048576 bytes */
   BINDINGS_NO_FILE, /* the file can't be read: errno says why */
   BINDINGS_NO_MEMORY
 } bindings_answer;

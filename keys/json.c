@@ -1,36 +1,36 @@
 #include "json.h"
 #include "names.h"
-#include <stdio.h>
+#include "output.h"
 #include <stdlib.h>
 #include <string.h>
 
 static void put_hex(const uint8_t *bytes, size_t length) {
-  for (size_t i = 0; i < length; i++) printf("%02x", bytes[i]);
+  for (size_t i = 0; i < length; i++) fprintf(output, "%02x", bytes[i]);
 }
 
 /* Begins an object with what each has: the read that brought its last byte, the bytes, and how many of them came with earlier reads. */
 static void begin_object(const line *of, size_t start, size_t length, const char *kind) {
-  printf("{\"read\":%zu,\"bytes\":\"", of->read);
+  fprintf(output, "{\"read\":%zu,\"bytes\":\"", of->read);
   put_hex(of->bytes + start, length);
-  printf("\",\"earlier\":%zu,\"kind\":\"%s\"", line_earlier(of, start, length), kind);
+  fprintf(output, "\",\"earlier\":%zu,\"kind\":\"%s\"", line_earlier(of, start, length), kind);
 }
 
 static void put_flags(const char *field, const flag *flags, unsigned set) {
   const char *before = "";
-  printf(",\"%s\":[", field);
+  fprintf(output, ",\"%s\":[", field);
   for (const flag *it = flags; it->name; it++) {
     if (!(set & it->bit)) continue;
-    printf("%s\"%s\"", before, it->name);
+    fprintf(output, "%s\"%s\"", before, it->name);
     before = ",";
   }
-  putchar(']');
+  putc(']', output);
 }
 
 static void put_character(uint32_t code) {
-  if (code == '"' || code == '\\') printf("\\%c", (char)code);
-  else if (code >= ' ' && code < 0x7f) putchar((int)code);
-  else if (code < 0x10000) printf("\\u%04x", (unsigned)code);
-  else printf("\\u%04x\\u%04x", (unsigned)(0xd800 + ((code - 0x10000) >> 10)), (unsigned)(0xdc00 + (code & 0x3ff)));
+  if (code == '"' || code == '\\') fprintf(output, "\\%c", (char)code);
+  else if (code >= ' ' && code < 0x7f) putc((int)code, output);
+  else if (code < 0x10000) fprintf(output, "\\u%04x", (unsigned)code);
+  else fprintf(output, "\\u%04x\\u%04x", (unsigned)(0xd800 + ((code - 0x10000) >> 10)), (unsigned)(0xdc00 + (code & 0x3ff)));
 }
 
 /* A text in UTF-8, as that of a paste always is. */
@@ -39,9 +39,9 @@ static void put_text(const char *characters, size_t length) {
 }
 
 static void put_field(const char *before, const char *name, const char *value) {
-  printf("%s\"%s\":\"", before, name);
+  fprintf(output, "%s\"%s\":\"", before, name);
   put_text(value, strlen(value));
-  putchar('"');
+  putc('"', output);
 }
 
 /* The bytes that the event brought: a text, or those of a sequence in hexadecimal. */
@@ -52,10 +52,10 @@ static bool put_brought(const group *its, const reader *reader) {
   uint8_t *brought = malloc(length + 1);
   if (!brought) return false;
   reader_text(reader, brought, length);
-  printf(",\"length\":%zu,\"%s\":\"", length, is_text ? "text" : "data");
+  fprintf(output, ",\"length\":%zu,\"%s\":\"", length, is_text ? "text" : "data");
   if (is_text) put_text((const char *)brought, length);
   else put_hex(brought, length);
-  putchar('"');
+  putc('"', output);
   free(brought);
   return true;
 }
@@ -63,50 +63,51 @@ static bool put_brought(const group *its, const reader *reader) {
 static void put_key(uint16_t key, uint32_t detail, const flag *flags, unsigned modifiers) {
   text name = { .length = 0 };
   add_key(&name, key, detail);
-  printf(",\"key\":\"%s\"", name.bytes);
+  fprintf(output, ",\"key\":\"%s\"", name.bytes);
   put_flags("modifiers", flags, modifiers);
 }
 
 static void put_code(const char *name, uint32_t code) {
-  if (code != HED_NO_CODE) printf(",\"%s\":%u", name, (unsigned)code);
+  if (code != HED_NO_CODE) fprintf(output, ",\"%s\":%u", name, (unsigned)code);
 }
 
 static void put_report(const hed_key_report *report) {
   put_key(report->key, report->detail, kitty_modifier_flags, report->modifiers);
-  printf(",\"action\":\"%s\"", key_event_kind_name(report->kind));
+  fprintf(output, ",\"action\":\"%s\"", key_event_kind_name(report->kind));
   put_code("shifted", report->shifted);
   put_code("base", report->base);
 }
 
 static void put_mouse(const hed_event *event) {
-  printf(",\"x\":%u,\"y\":%u", event->x, event->y);
+  fprintf(output, ",\"x\":%u,\"y\":%u", event->x, event->y);
   put_flags("buttons", button_flags, event->buttons);
   put_flags("modifiers", modifier_flags, event->modifiers);
 }
 
 static void put_side_button(const hed_extended_event *event) {
   const hed_event *input = &event->input;
-  printf(",\"number\":%u,\"action\":\"%s\",\"x\":%u,\"y\":%u", (unsigned)input->detail, side_button_name(event->flags), input->x, input->y);
+  fprintf(output, ",\"number\":%u,\"action\":\"%s\",\"x\":%u,\"y\":%u", (unsigned)input->detail, side_button_name(event->flags), input->x,
+          input->y);
   put_flags("modifiers", modifier_flags, input->modifiers);
 }
 
 static void put_size(const hed_extended_event *event) {
-  printf(",\"rows\":%u,\"columns\":%u,\"height\":%u,\"width\":%u", event->rows, event->columns, event->height, event->width);
+  fprintf(output, ",\"rows\":%u,\"columns\":%u,\"height\":%u,\"width\":%u", event->rows, event->columns, event->height, event->width);
 }
 
 /* The fields of an event, but for the bytes that it brought. */
 static void put_fields(const hed_extended_event *event) {
   const char *whole = whole_name(event);
-  if (whole) printf(",\"of\":\"%s\"", whole);
+  if (whole) fprintf(output, ",\"of\":\"%s\"", whole);
   switch (event->kind) {
     case HED_KIND_KEY: put_key(event->input.key, event->input.detail, modifier_flags, event->input.modifiers); break;
     case HED_KIND_MOUSE: put_mouse(&event->input); break;
     case HED_KIND_REPORT: put_report(&event->report); break;
-    case HED_KIND_FOCUS_GAINED: printf(",\"gained\":true"); break;
-    case HED_KIND_FOCUS_LOST: printf(",\"gained\":false"); break;
-    case HED_KIND_CURSOR_POSITION: printf(",\"row\":%u,\"column\":%u", event->row, event->column); break;
+    case HED_KIND_FOCUS_GAINED: fprintf(output, ",\"gained\":true"); break;
+    case HED_KIND_FOCUS_LOST: fprintf(output, ",\"gained\":false"); break;
+    case HED_KIND_CURSOR_POSITION: fprintf(output, ",\"row\":%u,\"column\":%u", event->row, event->column); break;
     case HED_KIND_RESIZE: put_size(event); break;
-    case HED_KIND_KEYBOARD_FLAGS: printf(",\"flags\":%u", event->flags); break;
+    case HED_KIND_KEYBOARD_FLAGS: fprintf(output, ",\"flags\":%u", event->flags); break;
     case HED_KIND_SIDE_BUTTON: put_side_button(event); break;
     default: break;
   }
@@ -126,8 +127,8 @@ static void put_presses(const group *its) {
 static void put_command(const char *before, const char *keys, const char *command) {
   put_field(before, "keys", keys);
   if (command) put_field(",", "command", command);
-  else printf(",\"command\":null");
-  putchar('}');
+  else fprintf(output, ",\"command\":null");
+  putc('}', output);
 }
 
 static void put_outcomes(const line *of, size_t first) {
@@ -136,7 +137,7 @@ static void put_outcomes(const line *of, size_t first) {
     put_command(before, outcome_keys(&of->outcomes[place]), of->outcomes[place].command);
     before = ",{";
   }
-  if (first < of->outcome_count) putchar(']');
+  if (first < of->outcome_count) putc(']', output);
 }
 
 /* The presses that are pending, and the chords that may follow. */
@@ -144,7 +145,7 @@ static void put_pending(const bindings *bound) {
   size_t first, end;
   if (!bindings_following(bound, &first, &end)) return;
   continuation it = bindings_at(bound, first);
-  printf(",\"pending\":\"");
+  fprintf(output, ",\"pending\":\"");
   put_text(it.chord, (size_t)(it.rest - it.chord) - 1);
   const char *before = "\",\"continuations\":[{";
   for (size_t place = first; place < end; place++) {
@@ -152,7 +153,7 @@ static void put_pending(const bindings *bound) {
     put_command(before, it.rest, it.command);
     before = ",{";
   }
-  putchar(']');
+  putc(']', output);
 }
 
 bool json_event(const line *of, const group *its, const reader *reader, const bindings *bound) {
@@ -162,19 +163,19 @@ bool json_event(const line *of, const group *its, const reader *reader, const bi
   put_presses(its);
   put_outcomes(of, its->first_outcome);
   if (its->press_count > 0) put_pending(bound);
-  puts("}");
+  fputs("}\n", output);
   return has_memory;
 }
 
 void json_pause(const line *of, size_t first) {
   begin_object(of, of->settled, 0, "pause");
   put_outcomes(of, first);
-  puts("}");
+  fputs("}\n", output);
 }
 
 void json_waiting(const line *of, const char *reason) {
   begin_object(of, of->settled, line_waiting(of), "waiting");
-  printf(",\"reason\":\"");
+  fprintf(output, ",\"reason\":\"");
   put_text(reason, strlen(reason));
-  puts("\"}");
+  fputs("\"}\n", output);
 }

@@ -8,11 +8,13 @@
 #include "json.h"
 #include "names.h"
 #include "options.h"
+#include "output.h"
 #include "reader.h"
 #include "screen.h"
 #include "waiting.h"
 #include <errno.h>
 #include <fcntl.h>
+#include <poll.h>
 #include <signal.h>
 #include <stdio.h>
 #include <string.h>
@@ -47,8 +49,7 @@ static bool fail(keys *it, const char *failure, int error) {
 }
 
 static bool flush_output(keys *it) {
-  if (fflush(stdout) == 0 && !ferror(stdout)) return true;
-  return fail(it, "the output can't be written", errno);
+  return output_flush() || fail(it, "the output can't be written", errno);
 }
 
 /* A key of any kind. The report of a key of the sequence table says that it was pressed. */
@@ -177,11 +178,18 @@ static bool handle_bytes(keys *it, const uint8_t *bytes, size_t length) {
   return goes_on && !it->is_over;
 }
 
+/* Another program may have set the descriptor so that it doesn't block. */
+static bool wait_for_input(const keys *it) {
+  struct pollfd input = { .fd = it->input, .events = POLLIN };
+  return it->is_live || poll(&input, 1, -1) >= 0 || errno == EINTR;
+}
+
 /* Returns false at the end of the input too. */
 static bool handle_input(keys *it) {
   uint8_t bytes[READ_SIZE];
   ssize_t count = read(it->input, bytes, sizeof bytes);
-  if (count < 0) return errno == EINTR || (it->is_live && errno == EAGAIN) || fail(it, "the input can't be read", errno);
+  bool is_empty = count < 0 && (errno == EAGAIN || errno == EWOULDBLOCK);
+  if (count < 0) return errno == EINTR || (is_empty && wait_for_input(it)) || fail(it, "the input can't be read", errno);
   return count > 0 && handle_bytes(it, bytes, (size_t)count);
 }
 
@@ -214,12 +222,19 @@ static void take_size(keys *it) {
   screen_resize(&it->screen, columns, rows);
 }
 
+/* Forgets what is undecided, but for what is open: its rest may still come. */
 static void forget_waiting(keys *it) {
-  text reason = { .length = 0 };
-  text_add(&reason, "forgotten, since another program had the terminal");
-  if (line_waiting(&it->line) > 0 || bindings_is_pending(&it->bindings)) draw_undecided(it, &reason);
-  reader_reset(&it->reader);
-  line_forget(&it->line);
+  reasons why = { .lists_keys = false };
+  bool was_undecided = is_undecided(it), stays = reader_interrupt(&it->reader);
+  text_add(&why.presses, "forgotten, since another program had the terminal");
+  if (stays) {
+    add_waiting(&why.bytes, &it->reader, &it->line);
+    add_waiting_for(&why.bytes, &it->reader, hed_terminal_now());
+  } else {
+    why.bytes = why.presses;
+  }
+  if (was_undecided) draw(it, &why);
+  if (!stays) line_forget(&it->line);
   bindings_forget(&it->bindings);
 }
 
@@ -293,6 +308,7 @@ static bool read_bindings(keys *it) {
   if (!it->options.bindings) return true;
   switch (bindings_read(&it->bindings, it->options.bindings)) {
     case BINDINGS_WRONG: it->is_refused = true; return false;
+    case BINDINGS_TOO_LONG: it->is_refused = true; return fail(it, "a file of bindings has at most 1048576 bytes", 0);
     case BINDINGS_NO_FILE: return fail(it, it->options.bindings, errno);
     case BINDINGS_NO_MEMORY: return fail(it, no_memory, 0);
     default: return true;
@@ -320,7 +336,7 @@ static void show_input(keys *it) {
 }
 
 static void print_words(keys *it) {
-  fputs(it->options.wants_help ? options_help : "hedrugal-keys " HED_VERSION "\n", stdout);
+  fputs(it->options.wants_help ? options_help : "hedrugal-keys " HED_VERSION "\n", output);
   flush_output(it);
 }
 
@@ -332,10 +348,8 @@ static void print_error(const char *words, int error) {
 
 static int status_of(const keys *it) {
   hed_terminal_end();
-  if (it->is_refused) return 2;
-  if (!it->failure) return 0;
-  print_error(it->failure, it->error);
-  return 1;
+  if (it->failure) print_error(it->failure, it->error);
+  return it->is_refused ? 2 : it->failure != NULL;
 }
 
 int main(int count, char **words) {
@@ -347,7 +361,9 @@ int main(int count, char **words) {
     return 2;
   }
   it.is_live = has_terminal && !it.options.file;
-  if (it.options.wants_help || it.options.wants_version) print_words(&it);
+  if (!output_open()) fail(&it, no_memory, 0);
+  else if (it.options.wants_help || it.options.wants_version) print_words(&it);
   else show_input(&it);
+  output_close();
   return status_of(&it);
 }

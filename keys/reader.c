@@ -1,7 +1,7 @@
 #include "reader.h"
 #include <string.h>
 
-enum { SEQUENCE_MOST = 256 };
+enum { SEQUENCE_MOST = 256, CUT_MS = 1000 };
 
 /* The length of the sequence that starts a paste, which the sequence table has. */
 static size_t paste_start_length(const hed_parser *parser) {
@@ -19,6 +19,7 @@ bool reader_init(reader *it, reading how) {
 }
 
 bool reader_feed(reader *it, const uint8_t *bytes, size_t length) {
+  it->is_fed = true;
   return it->is_extended ? hed_extended_feed(&it->extended, bytes, length) : hed_parser_feed(&it->usual, bytes, length);
 }
 
@@ -54,8 +55,10 @@ static uint32_t pass_on(uint32_t returned, const hed_event *input, hed_extended_
 
 uint32_t reader_next(reader *it, bool more, hed_extended_event *event) {
   hed_event input;
-  if (it->is_extended) return hed_extended_next(&it->extended, more, event);
-  return pass_on(hed_parser_next(&it->usual, more, &input), &input, event);
+  uint32_t next =
+      it->is_extended ? hed_extended_next(&it->extended, more, event) : pass_on(hed_parser_next(&it->usual, more, &input), &input, event);
+  if (next == HED_NEXT_EVENT && event->kind != HED_KIND_STRING_PART) it->is_cut = false;
+  return next;
 }
 
 uint32_t reader_take_paste(reader *it, size_t limit, hed_extended_event *event) {
@@ -64,12 +67,30 @@ uint32_t reader_take_paste(reader *it, size_t limit, hed_extended_event *event) 
   return pass_on(hed_parser_take_paste(&it->usual, limit, &input), &input, event);
 }
 
+/* How long what may have lost its end still waits for it. */
+static int32_t cut_timeout(reader *it, uint64_t now) {
+  if (it->is_fed) it->fed = now;
+  it->is_fed = false;
+  return now - it->fed < CUT_MS ? CUT_MS - (int32_t)(now - it->fed) : 0;
+}
+
 int32_t reader_timeout(reader *it, uint64_t now) {
-  return it->is_extended ? hed_extended_timeout(&it->extended, now) : hed_parser_timeout(&it->usual, now);
+  int32_t left = it->is_extended ? hed_extended_timeout(&it->extended, now) : hed_parser_timeout(&it->usual, now);
+  return it->is_cut && (left < 0 || cut_timeout(it, now) < left) ? cut_timeout(it, now) : left;
+}
+
+/* Ends it where it is. */
+static uint32_t end_cut(reader *it, hed_extended_event *event) {
+  hed_event input;
+  if (reader_waiting_kind(it) == HED_WAITING_STRING) return reader_next(it, false, event);
+  it->is_cut = false;
+  if (it->is_extended) return hed_extended_end_paste(&it->extended, event);
+  return pass_on(hed_parser_end_paste(&it->usual, &input), &input, event);
 }
 
 uint32_t reader_expire(reader *it, uint64_t now, hed_extended_event *event) {
   hed_event input;
+  if (it->is_cut && cut_timeout(it, now) == 0) return end_cut(it, event);
   if (it->is_extended) return hed_extended_expire(&it->extended, now, event);
   return pass_on(hed_parser_expire(&it->usual, now, &input), &input, event);
 }
@@ -112,9 +133,14 @@ const hed_parser *reader_completions(reader *it, const uint8_t *waiting, size_t 
   return &it->usual;
 }
 
-void reader_reset(reader *it) {
+bool reader_interrupt(reader *it) {
+  uint32_t kind = reader_waiting_kind(it);
+  it->is_cut = kind == HED_WAITING_PASTE || kind == HED_WAITING_STRING;
+  it->is_fed = true;
+  if (it->is_cut) return true;
   if (it->is_extended) hed_extended_reset(&it->extended);
   else hed_parser_reset(&it->usual);
+  return false;
 }
 
 void reader_free(reader *it) {

@@ -15,6 +15,9 @@ typedef struct reader {
   hed_extended extended;
   hed_parser usual; /* reads the input, or tells the extended one the entries of the sequence table */
   size_t paste_start; /* the length of the sequence that starts a paste */
+  bool is_cut; /* whether a paste or a string is open that may have lost its end, since another program had the terminal */
+  bool is_fed; /* whether that was, or bytes came, since the time was told last */
+  uint64_t fed; /* when the time was told after that */
 } reader;
 
 /* Returns false if memory is refused. Either way the caller owes a reader_free. */
@@ -29,7 +32,7 @@ uint32_t reader_next(reader *it, bool more, hed_extended_event *event);
 uint32_t reader_take_paste(reader *it, size_t limit, hed_extended_event *event);
 
 /* How long the buffered bytes may still wait, and the events of those that waited so long: as hed_extended_timeout and
- * hed_extended_expire, by the usual limits. */
+ * hed_extended_expire, by the usual limits and that of reader_interrupt. */
 int32_t reader_timeout(reader *it, uint64_t now);
 uint32_t reader_expire(reader *it, uint64_t now, hed_extended_event *event);
 
@@ -46,7 +49,10 @@ uint32_t reader_waiting_kind(const reader *it);
 /* Finds the entries of the sequence table that would complete the buffered bytes, and returns the parser to ask for them. */
 const hed_parser *reader_completions(reader *it, const uint8_t *waiting, size_t length, hed_entries *entries);
 
-void reader_reset(reader *it);
+/* Another program had the terminal. An open paste or string stays open, and ends where it is once nothing came for a second. Anything else that
+ * is buffered is forgotten. Returns whether something stays. */
+bool reader_interrupt(reader *it);
+
 void reader_free(reader *it);
 
 #endif

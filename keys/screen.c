@@ -1,6 +1,6 @@
 #include "screen.h"
 #include "names.h"
-#include <stdio.h>
+#include "output.h"
 #include <stdlib.h>
 #include <string.h>
 #include <unistd.h>
@@ -29,8 +29,8 @@ void screen_resize(screen *it, size_t width, size_t height) {
 
 static void set_style(screen *it, const char *style) {
   if (!it->has_colour || it->style == style) return;
-  if (it->style && *it->style) fputs("\033[0m", stdout);
-  fputs(style, stdout);
+  if (it->style && *it->style) fputs("\033[0m", output);
+  fputs(style, output);
   it->style = style;
 }
 
@@ -44,7 +44,7 @@ static size_t indent_of(const screen *it) {
 }
 
 static void end_row(screen *it) {
-  putchar('\n');
+  putc('\n', output);
   it->rows++;
   it->column = 0;
 }
@@ -52,19 +52,19 @@ static void end_row(screen *it) {
 static void begin_row(screen *it) {
   end_row(it);
   it->column = indent_of(it);
-  printf("%*s", (int)it->column, "");
+  fprintf(output, "%*s", (int)it->column, "");
 }
 
 static void put_characters(screen *it, const char *characters) {
   for (; *characters; characters++) {
     if (!has_room(it, 1) && it->column > indent_of(it)) begin_row(it);
-    putchar(*characters);
+    putc(*characters, output);
     it->column++;
   }
 }
 
 static void put_space(screen *it) {
-  putchar(' ');
+  putc(' ', output);
   it->column++;
 }
 
@@ -292,7 +292,7 @@ bool screen_can_replace(const screen *it) {
 
 /* Goes back to where the line began, and erases it. */
 static void erase(const screen *it) {
-  if (screen_can_replace(it)) printf("\033[%zuA\033[J", it->rows);
+  if (screen_can_replace(it)) fprintf(output, "\033[%zuA\033[J", it->rows);
 }
 
 static void put_number(screen *it, size_t read) {

@@ -8,6 +8,8 @@ import random
 import re
 import signal
 import subprocess
+import termios
+import time
 
 import pytest
 from conftest import HEDRUGAL_KEYS, TOP, entries_after
@@ -367,9 +369,16 @@ def test_kitty_keyboard(start):
 
 
 def test_flags_of_kitty_nest(start):
-    """They are pushed again only after they were popped, also by a SIGCONT without a stop."""
+    """They are pushed again only after they were popped, also where SIGSTOP stopped it. A SIGCONT
+    without a stop sets nothing."""
     keys = start("--kitty-keyboard", "--focus")
     keys.kill(signal.SIGCONT)
+    keys.play([b"a", "   1  a"])
+    assert keys.output.count(b"\033[?1004h") == 1
+    keys.kill(signal.SIGSTOP)
+    keys.wait_for_stop()
+    termios.tcsetattr(keys.child_fd, termios.TCSANOW, keys.settings_before)
+    keys.continue_in_foreground()
     keys.wait_for(lambda: keys.output.count(b"\033[?1004h") == 2, "focus mode again")
     keys.stop()
     keys.continue_in_foreground()
@@ -387,11 +396,11 @@ def test_signal(start, number):
 
 
 def test_sigtstp_sigcont_sigterm(start):
-    """What was buffered before the stop no longer counts."""
+    """The beginning that was buffered before the stop no longer counts."""
     keys = start(*ALL_MODES)
-    first = "   1  ESC [ 2 0 0 ~ a -> a paste of 1 bytes so far: waits for its end"
-    second = "   1  ESC [ 2 0 0 ~ a -> forgotten, since another program had the terminal"
-    keys.play([START + b"a", [first]])
+    first = "   1  c3 -> half a character: waits for the rest"
+    second = "   1  c3 -> forgotten, since another program had the terminal"
+    keys.play([b"\xc3", [first]])
     keys.stop()
     keys.continue_in_foreground()
     keys.wait_for(lambda: keys.modes() == ALL_SWITCHED, "modes")
@@ -399,6 +408,72 @@ def test_sigtstp_sigcont_sigterm(start):
     keys.play([b"b", [first, second, "   2  b -> key U+0062 NONE = b"]])
     keys.stop()
     keys.end_by(signal.SIGTERM, signal.SIGCONT)
+
+
+def paste_so_far(count, *, until):
+    return f"   1  ESC [ 2 0 0 ~{' a' * count} -> a paste of {count} bytes so far: {until}"
+
+
+@pytest.mark.timed
+def test_stops_in_a_paste(start):
+    """The rest of it isn't typed, whoever had the terminal."""
+    keys = start("--bracketed-paste", size=WIDE)
+    keys.play([START + b"a", [paste_so_far(1, until="waits for its end")]])
+    keys.kill(signal.SIGCONT)
+    keys.kill(signal.SIGSTOP)
+    keys.wait_for_stop()
+    keys.continue_in_foreground()
+    keys.play([PAUSE])
+    keys.stop()
+    keys.continue_in_foreground()
+    keys.wait_for(keys.modes, "modes")
+    again = [paste_so_far(1, until="waits for its end"), paste_so_far(1, until=UP_TO)]
+    keys.play([again, b"\r" + END + b"b"])
+    gone = paste_so_far(1, until="goes on in read 2").replace("a paste of 1 bytes so far: ", "")
+    pasted = "   2  (ESC [ 2 0 0 ~ a) ^M ESC [ 2 0 1 ~ -> paste 2:610d | b -> key U+0062 NONE = b"
+    keys.end(again[0], gone, pasted)
+
+
+@pytest.mark.timed
+@pytest.mark.parametrize("word", ["", "--extended"])
+def test_rest_that_never_comes(start, word):
+    """The paste ends a second after the stop, or after its last byte. Later ones have no limit."""
+    keys = start("--bracketed-paste", *word.split(), size=WIDE)
+    keys.play([START + b"a", "so far"])
+    keys.stop()
+    keys.continue_in_foreground()
+    keys.play([UP_TO, 0.7, b"b", UP_TO, 0.7])
+    assert "paste 2" not in keys.lines()[-1]
+    keys.play(["-> paste 2:6162\r\n", START + b"a", "waits for its end", LONG_PAUSE, END])
+    keys.play(["-> paste 1:61\r\n"])
+    keys.end()
+
+
+@pytest.mark.timed
+def test_stop_in_a_string(start):
+    keys = start("--extended", size=WIDE)
+    keys.play([b"\033]11;r", "so far"])
+    keys.stop()
+    keys.continue_in_foreground()
+    keys.play([UP_TO, PAUSE, b"g\007", "-> osc 5:31313b7267\r\n", b"\033]11;r", "so far"])
+    keys.stop()
+    keys.continue_in_foreground()
+    keys.play([UP_TO, "-> osc cut 4:31313b72\r\n"])
+    keys.end()
+
+
+@pytest.mark.timed
+def test_key_that_is_due_after_a_stop(start):
+    """Bytes that came meanwhile go first, since they may complete it."""
+    keys = start(size=WIDE)
+    for _ in range(2):
+        keys.play([b"\033[1;5", UP_TO])
+        keys.kill(signal.SIGSTOP)
+        keys.wait_for_stop()
+        keys.play([b"A", LONG_PAUSE])
+        keys.continue_in_foreground()
+        keys.play(["(ESC [ 1 ; 5) A -> key UpArrow CTRL = ctrl+up\r\n"])
+    keys.end()
 
 
 def test_sigtstp_where_no_shell_could_continue_it(start):
@@ -732,6 +807,19 @@ def test_chord_before_a_stop(start, bound):
     keys.end()
 
 
+LONGEST = b"# " + b"x" * ((1 << 20) - 12) + b"\ncopy x\n\n\n"
+TOO_LONG = "hedrugal-keys: a file of bindings has at most 1048576 bytes\n"
+
+
+def test_long_bindings(bound):
+    """A file that never ends is refused, and what is a byte too long."""
+    done = f"   1  x -> key U+0078 NONE = x\n{rows('x -> copy')}"
+    assert len(LONGEST) == 1 << 20
+    assert run("--bindings", bound(LONGEST), typed=b"x") == (0, done, "")
+    for name in (bound(LONGEST + b"\n"), "/dev/zero"):
+        assert run(f"--bindings={name}", typed=b"x") == (2, "", TOO_LONG)
+
+
 PASTE, COMMAND = ("paste", START, END), ("osc", b"\033]52;", b"\007")
 
 
@@ -769,6 +857,26 @@ def test_random_bytes():
         assert (status, errors, b"".join(groups)) == (0, "", typed)
         status, out, errors = run(typed=typed)
         assert (status, errors, re.findall(r"[^ -~\n]", out)) == (0, "", [])
+
+
+@pytest.mark.parametrize("word", ["", "--json"])
+def test_descriptors_that_do_not_block(word):
+    """It waits where they have or take nothing more."""
+    ends = [os.pipe() for _ in range(2)]
+    (typed, keyboard), (shown, out) = ends
+    for end in (typed, out):
+        os.set_blocking(end, False)
+    keys = subprocess.Popen([HEDRUGAL_KEYS, *word.split()], stdin=typed, stdout=out)
+    os.close(typed)
+    os.close(out)
+    for _ in range(2):
+        time.sleep(PAUSE)
+        os.write(keyboard, b"a" * 4096)
+    os.close(keyboard)
+    time.sleep(PAUSE)
+    with open(shown, encoding="ascii") as lines:
+        text = lines.read()
+    assert (keys.wait(SECONDS), text.count("U+0061")) == (0, 8192)
 
 
 def test_closed_pipe():

@@ -147,15 +147,16 @@ def test_signal(start, number):
 
 
 def test_sigtstp_and_sigcont_twice(start):
-    """What was buffered before the stop no longer counts."""
+    """A paste stays open, and the beginning of a key no longer counts."""
     live = start("--mouse")
-    for _ in range(2):
-        live.play([START + b"a" + END + START + b"b", "paste of 1 bytes"])
+    for begun, rest in ((START + b"b", b"\r" + END), (b"\033[1;5", b"A")):
+        live.play([START + b"a" + END + begun, "paste of 1 bytes"])
         live.stop()
         live.continue_in_foreground()
         live.wait_for_raw_again()
         assert live.modes() == MODES
-    live.quit(*["paste of 1 bytes", SIZE] * 2)
+        live.send(rest)
+    live.quit("paste of 1 bytes", SIZE, "paste of 2 bytes", "paste of 1 bytes", SIZE, "Char U+0041")
 
 
 def test_sigcont_in_the_background(start):

@@ -2,16 +2,26 @@
 
 However the program ends or stops, the terminal's settings and modes are restored, and no key is
 lost. tests/test_live.py has what holds of all programs on a terminal."""
+import fcntl
 import os
+import re
 import signal
 import subprocess
 import termios
+import time
+import tty
+from pathlib import Path
 
 import pytest
 from conftest import TOP, run_without_terminal
-from terminal import END, START, Terminal
+from pexpect import EOF
+from terminal import END, LONG_PAUSE, PAUSE, START, TIOCGPTPEER, Terminal
 
-MODES = {1049, 2004}
+MODES, MOUSE_MODES = {1049, 2004}, {1003, 1006}
+ATTRIBUTES, BACKGROUND = b"\033[?62;22c", b"\033]11;rgb:1e1e/1e1e/1e1e\007"
+# Of the first row: without a question it is Ctrl-F3.
+POSITION, F3 = b"\033[1;5R", "key 60, 3"
+RESUMED = "resumed, 80 x 24"
 
 
 def key(character):
@@ -28,11 +38,51 @@ class Program(Terminal):
         self.press("q")
         self.check_end(0)
 
+    def lines(self):
+        """The lines that the program printed, but for its modes and wakes."""
+        text = re.sub(rb"\033\[\?\d+[hl]|nothing\r\n", b"", self.output)
+        return text.decode().split("\r\n")[:-1]
+
+    def stop_and_continue(self, number):
+        """By SIGTSTP the terminal is the shell's meanwhile, by SIGSTOP nobody touches it."""
+        self.kill(number)
+        if number != signal.SIGCONT:
+            self.wait_for_stop()
+            self.continue_in_foreground()
+        self.play([f"{RESUMED}\r\n" if number == signal.SIGTSTP else "nothing\r\n"])
+
+    def keep_busy(self, *typed):
+        """The program reads nothing for 300 ms, while these bytes come."""
+        self.play([b"k", key("k"), "waits: 0\r\n", *typed])
+
+    def ask(self):
+        """Asks for the position of the cursor, and waits until the terminal has the question."""
+        self.play([b"6", key("6"), "\033[6n\033[c", "asked: yes, 1 open\r\n"])
+
+    def blocks(self):
+        """Whether a read blocks by the descriptor that the program has from the shell."""
+        info = Path(f"/proc/{self.shell}/fdinfo/0").read_text()
+        return not int(re.search(r"flags:\s*(\d+)", info)[1], 8) & os.O_NONBLOCK
+
+    def open_terminal(self):
+        """Another program's end of the terminal, which keeps what is left for that."""
+        return fcntl.ioctl(self.child_fd, TIOCGPTPEER, os.O_RDWR | os.O_NOCTTY)
+
+    def what_is_left(self, terminal, status):
+        """What is left for the next program when this one has ended so."""
+        assert os.waitstatus_to_exitcode(self.next_status()) == status
+        self.is_running = False
+        assert self.settings() == self.settings_before
+        tty.setraw(terminal, termios.TCSANOW)
+        os.set_blocking(terminal, False)
+        with open(terminal, "rb", buffering=0) as rest:
+            return rest.read(4096) or b""
+
 
 @pytest.fixture(scope="session")
 def program(compiled):
     sources = [TOP / "c/test_terminal.c", TOP / "c/hedrugal_terminal.c"]
-    refusing = [f"-Wl,--wrap={call}" for call in ("malloc", "realloc", "free")]
+    refusing = [f"-Wl,--wrap={call}" for call in ("malloc", "realloc", "free", "poll")]
     return compiled("test_terminal", "c99", *refusing, *sources)
 
 
@@ -40,7 +90,8 @@ def program(compiled):
 def start(program, on_terminal):
     def start_program(*words, **how):
         started = on_terminal(Program([program, *words], **how))
-        started.wait_for(lambda: started.modes() == MODES, "modes")
+        modes = MODES | MOUSE_MODES if "--mouse" in words else MODES
+        started.wait_for(lambda: started.modes() == modes, "modes")
         return started
 
     return start_program
@@ -96,9 +147,8 @@ def test_other_signals(start, number):
 def test_signals_of_the_program(start):
     """They interrupt what waits, and nothing is lost."""
     it = start("--handle")
-    for number in (signal.SIGUSR1, signal.SIGUSR2):
-        it.kill(number)
-        it.play(["nothing\r\n"])
+    for count, number in enumerate((signal.SIGUSR1, signal.SIGUSR2)):
+        it.wait_for(lambda: it.kill(number) or it.output.count(b"nothing") > count, "wake")
     it.press("w")
     it.quit()
 
@@ -152,10 +202,22 @@ def test_child_that_changes_the_settings(start):
     it.quit()
 
 
+def test_descriptors_of_a_child(start):
+    """Those of a listing are four: none is inherited."""
+    it = start()
+    it.play([b"e", "4\r\n", "command: 0\r\n"])
+    it.quit()
+
+
 def test_descriptor_that_does_not_block(start):
-    """Reads go on, and at the end it blocks again."""
+    """Reads go on. While it is stopped, and at the end, it blocks again."""
     it = start()
     it.play([b"d", key("d"), b"w", key("w"), b"\033[1;5", b"A", "key 31, 0\r\n"])
+    assert not it.blocks()
+    it.stop()
+    assert it.blocks()
+    it.continue_in_foreground()
+    it.play([f"{RESUMED}\r\n"])
     it.quit()
 
 
@@ -208,10 +270,10 @@ def test_without_terminal(program):
 
 
 def test_text_that_is_too_long(program):
-    """Nothing is changed then."""
+    """Nothing is changed then, and the terminal can be opened after it."""
     with Terminal([program, "--long"]) as it:
-        it.play(["test_terminal: a text is too long\r\n"])
-        it.check_end(1)
+        it.play(["test_terminal: a text is too long\r\nbegun\r\n", b"q"])
+        it.check_end(0)
 
 
 def test_output_that_is_no_terminal(program):
@@ -222,3 +284,343 @@ def test_output_that_is_no_terminal(program):
     assert done.returncode == 1 and termios.tcgetattr(terminal) == before
     os.close(ours)
     os.close(terminal)
+
+
+PASTED = ["key 1, 119", "paste of 4 bytes"]
+STOPS = {"SIGCONT": [], "SIGSTOP": [], "SIGTSTP": [RESUMED]}
+
+
+@pytest.mark.timed
+@pytest.mark.parametrize("name, told", STOPS.items(), ids=STOPS)
+def test_stop_in_a_paste(start, name, told):
+    """No byte of it is a key, whoever had the terminal. The next paste is one of its own."""
+    it, number = start(), signal.Signals[name]
+    for _ in range(2):
+        it.play([b"w" + START + b"\ra", key("w")])
+        for _ in range(2):
+            it.stop_and_continue(number)
+        it.play([PAUSE, b"\rb" + END, "paste of 4 bytes\r\n"])
+    it.quit()
+    assert it.lines() == ["begun", *[PASTED[0], *told * 2, PASTED[1]] * 2, "key 1, 113"]
+
+
+@pytest.mark.timed
+def test_rest_that_never_comes(start):
+    """A second after the resumption or the last byte the paste ends. Later ones have no limit."""
+    it = start()
+    it.play([b"w" + START + b"ab", key("w")])
+    it.stop_and_continue(signal.SIGTSTP)
+    it.play([0.7, b"c", 0.7])
+    began = time.monotonic()
+    it.play(["paste of 3 bytes\r\n"])
+    assert 0.1 < time.monotonic() - began < 0.8
+    it.play([START + b"ab", LONG_PAUSE, b"cd" + END, "paste of 4 bytes\r\n"])
+    it.press("w")
+    it.quit()
+    assert it.output.count(b"nothing") < 9  # it waits
+
+
+@pytest.mark.timed
+def test_stop_in_a_string(start):
+    """Its rest belongs to it, or it is cut off after a second."""
+    it = start()
+    for _ in range(2):
+        it.play([b"w" + BACKGROUND[:9], key("w")])
+        it.stop_and_continue(signal.SIGTSTP)
+        it.play([PAUSE, BACKGROUND[9:], "reply 11;rgb:1e1e/1e1e/1e1e, 0 open\r\n"])
+    it.play([b"w" + BACKGROUND[:9] + b"\033", key("w")])
+    it.stop_and_continue(signal.SIGTSTP)
+    it.play([0.7])
+    assert "cut" not in it.lines()[-1]
+    it.play(["cut 11;rgb:, 0 open\r\n"])
+    it.press("w")
+    it.quit()
+
+
+@pytest.mark.timed
+@pytest.mark.parametrize("number", [signal.SIGCONT, signal.SIGTSTP], ids=lambda it: it.name)
+def test_stop_after_a_beginning(start, number):
+    """If the shell had the terminal, the rest of a key may have gone there."""
+    it = start()
+    for _ in range(2):
+        it.play([b"w\033[1;5", key("w")])
+        it.stop_and_continue(number)
+        it.play([b"A", "key 31, 0\r\n" if number == signal.SIGCONT else key("A")])
+    it.quit()
+
+
+@pytest.mark.timed
+def test_key_that_is_due_after_a_stop(start):
+    """Bytes that came meanwhile go first, since they may complete it."""
+    it = start()
+    for _ in range(2):
+        it.play([b"w\033[1;5", key("w")])
+        it.kill(signal.SIGSTOP)
+        it.wait_for_stop()
+        it.play([b"A", LONG_PAUSE])
+        it.continue_in_foreground()
+        it.play(["key 31, 0\r\n"])
+    it.quit()
+
+
+@pytest.mark.timed
+def test_wake_without_a_signal(start):
+    """The same where something else wakes the loop."""
+    it = start()
+    for _ in range(2):
+        it.play([b"k\033", key("k"), "waits: 0\r\n", b"[A", "key 31, 0\r\n"])
+    it.quit()
+
+
+@pytest.mark.timed
+def test_bytes_that_come_after_a_pause(start):
+    """It sees them before it flushes, although the pause was long enough."""
+    it = start()
+    for _ in range(2):
+        it.play([b"j\033", key("j"), "stands still\r\n", b"[A", "key 31, 0\r\n"])
+    it.quit()
+
+
+def test_new_size_while_it_is_stopped(start):
+    it = start()
+    it.kill(signal.SIGSTOP)
+    it.wait_for_stop()
+    it.resize(90, 30)
+    it.kill(signal.SIGWINCH)
+    it.continue_in_foreground()
+    it.play(["resized, 90 x 30\r\n"])
+    it.quit()
+    assert it.lines() == ["begun", "resized, 90 x 30", "key 1, 113"]
+
+
+def test_settings_that_were_changed_at_a_stop(start):
+    """The modes are set again, though SIGSTOP alone stopped it. Nobody waits for replies."""
+    it = start()
+    for _ in range(2):
+        it.ask()
+        it.kill(signal.SIGSTOP)
+        it.wait_for_stop()
+        termios.tcsetattr(it.child_fd, termios.TCSANOW, it.settings_before)
+        it.continue_in_foreground()
+        it.play([f"{RESUMED}\r\n"])
+        it.wait_for(it.is_raw, "raw mode")
+    it.quit()
+
+
+# What is typed before the terminal is lent, and behind that, and what comes of both.
+LENT = {
+    "an open paste": (START + b"ab", b"cd" + END, "paste of 4 bytes"),
+    "a beginning": (b"\033[", b"A", "key 1, 65"),
+    "a key, and an open paste": (b"x" + START + b"ab", b"cd" + END, "paste of 4 bytes"),
+}
+
+
+@pytest.mark.parametrize("before, after, told", LENT.values(), ids=LENT)
+def test_lent_after(start, before, after, told):
+    it = start()
+    it.play([b"l" + before, key("l"), "icanon\r\n", b"hello\n", "command: 0\r\n"])
+    it.wait_for(it.is_raw, "raw mode")
+    it.play([after, f"{told}\r\n"])
+    it.quit()
+
+
+def test_questions(start):
+    """Each ends by its own reply to DA1, which is that of the oldest."""
+    it = start()
+    it.play([b"6", "\033[6n\033[c", "asked: yes, 1 open\r\n"])
+    it.play([b"9", "\033[6n\033[6n\033]11;?\033\\\033[c", "asked: yes, 2 open\r\n"])
+    it.play([POSITION, "reply 1, 5, 2 open\r\n", ATTRIBUTES, "reply ?62;22c, 1 open\r\n"])
+    it.play([POSITION * 2 + BACKGROUND, "reply 1, 5, 1 open\r\n" * 2])
+    it.play(["reply 11;rgb:1e1e/1e1e/1e1e, 1 open\r\n"])
+    it.play([ATTRIBUTES, "reply ?62;22c, 0 open\r\n", POSITION, f"{F3}\r\n"])
+    it.quit()
+
+
+def test_question_without_a_reply(start):
+    """It is closed by its reply to DA1, and later ones stay open."""
+    it = start()
+    it.play([b"669", "asked: yes, 3 open\r\n", ATTRIBUTES, "reply ?62;22c, 2 open\r\n"])
+    it.play([POSITION, "reply 1, 5, 2 open\r\n", ATTRIBUTES, "reply ?62;22c, 1 open\r\n"])
+    it.play([POSITION * 3, "reply 1, 5, 1 open\r\n" * 2, f"{F3}\r\n"])
+    it.play([ATTRIBUTES + POSITION, "reply ?62;22c, 0 open\r\n", f"{F3}\r\n"])
+    it.quit()
+
+
+@pytest.mark.timed
+def test_terminal_that_does_not_answer(start):
+    """A question is given up after two seconds. A later reply to DA1 answers none."""
+    it = start()
+    began = time.monotonic()
+    it.ask()
+    it.play(["nothing\r\n"])
+    assert 1.9 < time.monotonic() - began < 4
+    it.play([POSITION, f"{F3}\r\n", ATTRIBUTES, "reply ?62;22c, 0 open\r\n"])
+    it.ask()
+    it.play([POSITION + ATTRIBUTES, "reply 1, 5, 1 open\r\n", "reply ?62;22c, 0 open\r\n"])
+    it.quit()
+
+
+@pytest.mark.parametrize("begun, rest", [(b"", b""), (START + b"ab", b"cd" + END)])
+def test_questions_before_a_stop(start, begun, rest):
+    """Nobody waits for them any more, also if a paste is open."""
+    it = start()
+    it.play([b"66" + begun, "asked: yes, 2 open\r\n"])
+    it.stop_and_continue(signal.SIGTSTP)
+    it.play([rest + POSITION, f"{F3}\r\n", ATTRIBUTES, "reply ?62;22c, 0 open\r\n"])
+    it.ask()
+    it.quit()
+
+
+def test_question_before_it_is_lent(start):
+    """The other program doesn't get the reply."""
+    it = start()
+    for _ in range(2):
+        it.ask()
+        it.play([b"l", "\033[?1049l", POSITION + ATTRIBUTES + b"hello\n", "line hello\r\n"])
+        it.play(["command: 0\r\n"])
+        it.wait_for(it.is_raw, "raw mode")
+    it.play([b"6l", "icanon\r\n", b"\n", "line \r\n", "command: 0\r\n"])
+    it.ask()
+    it.quit()
+
+
+def test_question_at_once_when_it_is_back(start):
+    """It isn't forgotten with those of before."""
+    it = start()
+    for _ in range(2):
+        it.play([b"r", "asked: yes, 1 open\r\n", POSITION + ATTRIBUTES])
+        it.play(["reply 1, 5, 1 open\r\n", "reply ?62;22c, 0 open\r\n"])
+    it.quit()
+
+
+def test_too_many_questions(start):
+    it = start()
+    it.play([b"6" * 17, "yes, 16 open\r\n", "asked: too many questions are open, 16 open\r\n"])
+    it.send(b"q")
+    it.check_end(0)
+
+
+MOUSE_REPORT = b"\033[<35;3;4M"
+
+
+@pytest.mark.timed
+@pytest.mark.parametrize("number", [signal.SIGTERM, signal.SIGSEGV], ids=lambda it: it.name)
+@pytest.mark.parametrize("word, asks", [("", False), ("", True), ("--mouse", False)])
+def test_typed_ahead_for_the_next_program(start, number, word, asks):
+    """It is kept, unless mouse reports or a reply may be among it. A handler reads nothing."""
+    it = start(*word.split())
+    terminal = it.open_terminal()
+    if asks:
+        it.ask()
+    it.keep_busy(b"ls\r")
+    it.kill(number)
+    assert it.what_is_left(terminal, -number) == (b"" if word or asks else b"ls\r")
+    it.expect(EOF)
+    assert it.output.endswith(b"\033[?2004l\033[?1049l")
+
+
+@pytest.mark.timed
+def test_mouse_reports_under_way(start):
+    """They come before the reply to a question at the end, if the terminal answers any."""
+    it = start("--mouse")
+    it.ask()
+    it.play([ATTRIBUTES, "reply ?62;22c, 0 open\r\n", b"q"])
+    terminal = it.open_terminal()
+    it.play(["\033[?1049l\033[c", MOUSE_REPORT + ATTRIBUTES + b"ls\r"])
+    assert it.what_is_left(terminal, 0) == b"ls\r"
+
+
+# How many milliseconds the terminal takes for each reply.
+@pytest.mark.timed
+@pytest.mark.parametrize("takes", [[0.08], [0.4, 0.5], [0.5, 0.05, 0.6]])
+def test_replies_that_are_owed_at_the_end(start, takes):
+    """They are read, as long as the slowest one lets expect, and nothing behind them."""
+    it = start()
+    terminal = it.open_terminal()
+    for seconds in takes[:-1]:
+        it.ask()
+        it.play([seconds, ATTRIBUTES, "reply ?62;22c, 0 open\r\n"])
+    it.play([b"66q", key("q"), takes[-1], POSITION + ATTRIBUTES + b"\033[?6", 0.02])
+    it.send(b"2;4c" + b"ls\r")
+    assert it.what_is_left(terminal, 0) == b"ls\r"
+
+
+@pytest.mark.timed
+@pytest.mark.parametrize("seconds", [None, 1.3])
+def test_no_reply_at_the_end(start, seconds):
+    """It ends soon, and what came is discarded."""
+    it = start()
+    terminal = it.open_terminal()
+    if seconds:
+        it.ask()
+        it.play([seconds, ATTRIBUTES, "reply ?62;22c, 0 open\r\n"])
+    it.play([b"6q", key("q")])
+    began = time.monotonic()
+    it.send(b"ls\r")
+    assert it.what_is_left(terminal, 0) == b""
+    least, most = (0.9, 1.3) if seconds else (0.15, 0.5)
+    assert least < time.monotonic() - began < most
+
+
+@pytest.mark.timed
+def test_reply_that_is_owed_at_a_stop(start):
+    """The shell doesn't get it, and gets what is typed behind it."""
+    it = start()
+    terminal = it.open_terminal()
+    for _ in range(2):
+        it.ask()
+        it.kill(signal.SIGTSTP)
+        it.play(["\033[?1049l", POSITION + ATTRIBUTES + b"ls\r"])
+        it.wait_for_stop()
+        assert os.read(terminal, 100) == b"ls\r"
+        it.continue_in_foreground()
+        it.play([f"{RESUMED}\r\n"])
+    os.close(terminal)
+    it.quit()
+
+
+def test_signals_of_a_forked_child(start):
+    """They do to it what they do to any program, and its end leaves the terminal alone."""
+    it = start()
+    it.play([b"g", "child: stopped by 20\r\n", "child: runs\r\n", "child: ended by 15\r\n"])
+    it.play(["child: ended by 6\r\n"])
+    assert it.is_raw() and it.modes() == MODES
+    it.quit()
+
+
+def test_stack_that_overflows(start):
+    it = start()
+    it.send(b"o")
+    it.check_end(-signal.SIGSEGV)
+
+
+@pytest.mark.timed
+@pytest.mark.parametrize("word", ["", "--poll"])
+def test_stop_and_end_at_once(start, word):
+    """The end goes before."""
+    it = start(*word.split())
+    it.keep_busy()
+    it.kill(signal.SIGTSTP)
+    it.end_by(signal.SIGTERM)
+
+
+def test_unusual_settings(program, on_terminal):
+    """Raw mode clears them."""
+    shell = 'stty istrip inlcr igncr parmrk; exec "$0"'
+    it = on_terminal(Program(["/bin/sh", "-c", shell, program]))
+    it.press("é")
+    it.play([b"\r", "key 9, 0\r\n"])
+
+
+@pytest.mark.timed
+def test_typed_ahead_for_the_program(program, on_terminal):
+    it = Program(["/bin/sh", "-c", 'sleep 0.5; exec "$0"', program])
+    it.send(b"w")
+    on_terminal(it).play([key("w")])
+    it.quit()
+
+
+def test_output_that_cannot_be_written(program):
+    """The program is told."""
+    with Terminal(["/bin/sh", "-c", 'exec "$0" --tty > /dev/full', program]) as it:
+        it.check_end(0)
