@@ -81,18 +81,9 @@ impl EventDecoder {
     ///
     /// With `OutOfMemory`. No event is lost: call again.
     pub fn expire(&mut self) -> io::Result<Vec<Event>> {
+        while self.events.pull().map_err(refused)? {}
         self.events.expire(Instant::now()).map_err(refused)?;
-        let mut expired = Vec::new();
-        loop {
-            match self.events.next() {
-                Ok(Some(event)) => expired.push(event),
-                Ok(None) => return Ok(expired),
-                Err(error) => {
-                    self.events.put_back(expired.into_iter());
-                    return Err(refused(error));
-                }
-            }
-        }
+        Ok(self.events.take())
     }
 
     /// Sets how long each kind of bytes may stay buffered.
@@ -124,6 +115,11 @@ impl EventDecoder {
     pub fn set_paste_limit(&mut self, limit: usize) {
         self.events.set_paste_limit(limit);
     }
+
+    fn next(&mut self) -> io::Result<Option<Event>> {
+        self.events.pull().map_err(refused)?;
+        Ok(self.events.pop())
+    }
 }
 
 impl Decoder for EventDecoder {
@@ -133,13 +129,13 @@ impl Decoder for EventDecoder {
     fn decode(&mut self, bytes: &mut BytesMut) -> io::Result<Option<Event>> {
         self.events.feed(bytes).map_err(refused)?;
         bytes.clear();
-        self.events.next().map_err(refused)
+        self.next()
     }
 
     fn decode_eof(&mut self, bytes: &mut BytesMut) -> io::Result<Option<Event>> {
         self.events.feed(bytes).map_err(refused)?;
         bytes.clear();
         self.events.end();
-        self.events.next().map_err(refused)
+        self.next()
     }
 }
