@@ -24,7 +24,7 @@ try:
 except BlockingIOError:
     left = b""
 print("left", left)"""
-BEFORE_SHELL = ["sh", "-c", f'"$0" "$@"; python3 -c \'{PRINT_LEFT}\'']
+BEFORE_SHELL = ["sh", "-c", f'trap : TERM; "$0" "$@"; python3 -c \'{PRINT_LEFT}\'']
 ATTRIBUTES = b"\033[?62c"
 BACKGROUND = "\033]11;?\033\\\033[c"
 # How long what was open at a stop waits for its end.
@@ -580,6 +580,16 @@ def test_reply_that_is_owed_at_the_end(start_below_shell, word, late):
     assert cases.is_raw()
     for byte in b"y" + late + b"\033[1;5R" + ATTRIBUTES + b"ls\r":
         cases.send(bytes([byte]))
+    cases.check_left(b"ls\r")
+
+
+@pytest.mark.timed
+def test_reply_that_is_owed_at_a_signal(start_below_shell):
+    cases = start_below_shell("plain")
+    cases.play([b"T", "\033[6n\033[c", 0.3, b"\033[1;1R" + ATTRIBUTES, "is_whole: true"])
+    cases.play([b"t", "\033[6n\033[c", "is_whole: false"])
+    os.killpg(cases.job, signal.SIGTERM)
+    cases.play(["\033[?2004l", 0.2, b"\033[1;5R" + ATTRIBUTES + b"ls\r"])
     cases.check_left(b"ls\r")
 
 

@@ -345,8 +345,8 @@ pub enum Heeded {
     Nothing,
     /// The terminal has a new size.
     Resized,
-    /// Another program had the terminal: what was buffered before no longer counts, and the size may
-    /// be new.
+    /// Another program had the terminal. What was begun before no longer counts, but an open paste
+    /// goes on. The size may be new.
     Resumed,
     /// A signal ends the program, which drops the guard.
     Ending,
@@ -358,15 +358,20 @@ pub enum Heeded {
 /// line that is written still ends with LF. What [`Modes`] says is turned on, and off again.
 ///
 /// The terminal is restored too before SIGHUP, SIGINT, SIGQUIT or SIGTERM does what it did before the
-/// guard, which ends most programs, and before SIGTSTP stops it. After SIGCONT it is in raw mode again, also if SIGSTOP had stopped the
-/// program. A guard of [`RawMode::new`] does all this in the handler of the signal. That of
+/// guard, which ends most programs, and before SIGTSTP stops it. After SIGCONT it is in raw mode
+/// again, if another program had it: one that SIGSTOP had stopped may find it as it was.
+///
+/// A guard of [`RawMode::new`] does all this in the handler of the signal. That of
 /// [`RawMode::noting`] is for a program with a loop, which hears of signals by [`RawMode::heed`].
 /// Once the guard is dropped, these signals do what they did before, and one that was noted is sent
 /// again. SIGALRM is handled too. A signal that was ignored before stays ignored.
 ///
-/// A program has one guard at a time. Nothing is restored by other signals that end the program, by
-/// `abort` or by `std::process::exit`: call [`restore`] before these, and in a hook for panics that
-/// abort.
+/// What was typed ahead is left for the shell. Only what comes with mouse reports is discarded, or
+/// with the reply about Kitty's flags: nobody tells the guard whether that came.
+///
+/// A program has one guard at a time. A child of fork has a copy, which leaves the terminal to the
+/// parent. Nothing is restored by other signals that end the program, by `abort` or by
+/// `std::process::exit`: call [`restore`] before these, and in a hook for panics that abort.
 ///
 /// ```no_run
 /// use hedrugal::terminal::{Modes, RawMode};

@@ -48,6 +48,9 @@ pub struct Answers {
 /// then saves what it has to, within a second, and drops the terminal. That restores it, and sends
 /// the signal again, which ends the program.
 ///
+/// When the terminal is left, replies that it still owes are read first, so that a shell doesn't get
+/// them. That takes a second at most. What was typed before such a reply is lost.
+///
 /// ```no_run
 /// use hedrugal::input::MouseTracking;
 /// use hedrugal::terminal::{Modes, Terminal};
@@ -177,6 +180,13 @@ impl Terminal {
     /// is asked last, and the call returns as soon as that is answered. Each ESC `[6n` in the
     /// questions is expected to be answered by a position, whose bytes may be those of an F3.
     ///
+    /// A reply that comes later is an event, and answers no later question. The reply to ESC `[c` is
+    /// awaited for two seconds, or for `time` if that is longer. One that comes after that, while
+    /// another question is open, can't be told from the reply to it.
+    ///
+    /// The call also returns where another program had the terminal meanwhile, and once 65,536
+    /// events stay for [`Terminal::read`]. The answers aren't whole then.
+    ///
     /// ```no_run
     /// use hedrugal::extended::ExtendedEvent;
     /// use hedrugal::terminal::Terminal;
@@ -244,7 +254,8 @@ impl Terminal {
     }
 
     /// Lends the terminal as it was to what a function runs, such as an editor, as
-    /// [`RawMode::lend`] does. What was typed before and is no event yet no longer counts.
+    /// [`RawMode::lend`] does. A paste or a string that is open goes on after it. Nothing else that
+    /// was typed before and is no event yet counts any more.
     ///
     /// ```no_run
     /// use hedrugal::terminal::Terminal;
@@ -409,8 +420,11 @@ impl Terminal {
             self.events.feed(&self.unfed).map_err(refused)?;
             self.unfed.clear();
         }
+        let owed = self.events.questions().count();
         let pulled = self.events.pull().map_err(refused);
-        self.tell_owed();
+        if self.events.questions().count() != owed {
+            self.tell_owed();
+        }
         pulled
     }
 
