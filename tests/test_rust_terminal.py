@@ -9,6 +9,7 @@ import termios
 import time
 
 import pytest
+from conftest import TOP
 from terminal import END, ENDING_SIGNALS, LONG_PAUSE, PAUSE, START, TIOCGPTPEER, Terminal
 from test_live import SIZE, Live
 
@@ -640,10 +641,11 @@ def test_reply_that_is_owed_at_a_stop(start):
     cases.play([b"T", "\033[6n\033[c", PAUSE, b"\033[1;1R" + ATTRIBUTES, "is_whole: true"])
     cases.play([b"t", "\033[6n\033[c", "is_whole: false"])
     cases.kill(signal.SIGTSTP)
-    cases.play(["\033[?2004l", b"\033[1;5R" + ATTRIBUTES])
+    cases.play(["\033[?2004l", PAUSE, b"\033[1;5R" + ATTRIBUTES])
     cases.wait_for_stop()
     cases.continue_in_foreground()
-    cases.play(["resumed\r\n", b"\033[1;5R", "key ctrl+f3\r\n", b"x", "key x\r\n"])
+    cases.play(["resumed\r\n", b"x", "key x\r\n", b"\033[1;5R", "key ctrl+f3\r\n"])
+    assert cases.output.count(b"Csi(") == 1
     cases.quit()
 
 
@@ -690,8 +692,8 @@ def test_typed_before_the_program_begins(program):
 def test_half_a_line_of_standard_output(start):
     """It is written before the modes are turned off."""
     cases = start("")
-    cases.play([b"w"])
-    cases.quit()
+    cases.send(b"wp")
+    cases.check_end(101)
     assert cases.output.index(b"half a line") < cases.output.index(b"\033[?1049l")
 
 
@@ -733,6 +735,23 @@ def test_layer_whose_output_would_block(start_layer):
     live.play([b"x" * 100, PAUSE])
     live.stop_output(termios.TCOON)
     live.quit(*["Char U+0078"] * 100)
+
+
+def test_editor_whose_output_would_block(example):
+    words = [
+        "sh",
+        "-c",
+        f'{NO_WAIT}; exec "$0" "$@"',
+        *example("rust", "edit"),
+        TOP / "docs/edit.keys",
+    ]
+    with Terminal(words) as edit:
+        edit.expect_exact(" ends\r\n")
+        edit.stop_output()
+        edit.play([b"ab", PAUSE])
+        edit.stop_output(termios.TCOON)
+        edit.play(["text: a|\r\ntext: ab|\r\n", b"\030\003"])
+        edit.check_end(0)
 
 
 @pytest.fixture
