@@ -47,8 +47,12 @@ struct Switches {
 impl Switches {
     // Whether they turn mouse reports on.
     fn have_mouse(&self) -> bool {
-        let modes = ["\x1b[?9h", "\x1b[?1000h", "\x1b[?1002h", "\x1b[?1003h"];
-        modes.iter().any(|on| self.on.contains(on))
+        let is_mouse = |mode| matches!(mode, "9" | "1000" | "1002" | "1003");
+        let mut behind = self.on.split("\x1b[?").skip(1);
+        behind.any(|it| {
+            it.split_once('h')
+                .is_some_and(|(modes, _)| modes.split(';').any(is_mouse))
+        })
     }
 }
 
@@ -153,7 +157,7 @@ impl Entered {
     // Does the same in a handler, where what can't be written at once is left out, and nothing is
     // read.
     fn leave_at_once(&self) {
-        if IS_RAW.swap(false, SeqCst) {
+        if self.is_owner() && IS_RAW.swap(false, SeqCst) {
             let _ = self.turn_off(unix::write_at_once);
             let input = self.input.as_raw_fd();
             if self.has_mouse() || self.leftover.may_come() {
