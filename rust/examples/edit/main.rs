@@ -34,7 +34,6 @@ const MODES: Modes = Modes {
 
 /// The program. Its functions return whether it goes on.
 struct Edit {
-    terminal: Terminal,
     chords: Chords,
     screen: Screen,
 }
@@ -42,15 +41,15 @@ struct Edit {
 impl Edit {
     fn new(bindings: Bindings<Command>) -> io::Result<Edit> {
         Ok(Edit {
-            terminal: Terminal::open_with(MODES)?,
             chords: Chords::new(bindings),
-            screen: Screen::default(),
+            screen: Screen::new(Terminal::open_with(MODES)?),
         })
     }
 
     fn run(&mut self) -> io::Result<()> {
         let quit = self.chords.of(Command::Quit);
-        screen::print_lines(quit.map(|chord| format!("{chord} ends")))?;
+        self.screen
+            .print_lines(quit.map(|chord| format!("{chord} ends")))?;
         while self.step()? {}
         Ok(())
     }
@@ -58,11 +57,11 @@ impl Edit {
     /// Handles the next event, unless what is pending has waited too long for it.
     fn step(&mut self) -> io::Result<bool> {
         if let Some(time) = self.chords.timeout(Instant::now()) {
-            if !self.terminal.poll(time)? {
+            if !self.screen.terminal.poll(time)? {
                 return self.give_up();
             }
         }
-        match self.terminal.read()? {
+        match self.screen.terminal.read()? {
             Some(event) => self.handle(&event),
             None => self.handle_end(),
         }
@@ -81,7 +80,7 @@ impl Edit {
 
     /// A signal ends the program at once.
     fn handle_end(&mut self) -> io::Result<bool> {
-        if self.terminal.ending().is_none() {
+        if self.screen.terminal.ending().is_none() {
             self.give_up()?;
         }
         Ok(false)
@@ -104,7 +103,7 @@ impl Edit {
         if !self.screen.run(outcomes)? {
             return Ok(false);
         }
-        screen::print_lines(self.chords.menu())?;
+        self.screen.print_lines(self.chords.menu())?;
         Ok(true)
     }
 

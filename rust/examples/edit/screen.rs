@@ -2,14 +2,22 @@
 use crate::commands::Command;
 use crate::text::Text;
 use hedrugal::extended::{KeyPress, Outcome};
+use hedrugal::terminal::Terminal;
 use std::io::{self, Write};
 
-#[derive(Default)]
 pub struct Screen {
+    pub terminal: Terminal,
     text: Text,
 }
 
 impl Screen {
+    pub fn new(terminal: Terminal) -> Screen {
+        Screen {
+            terminal,
+            text: Text::default(),
+        }
+    }
+
     /// Does what presses are bound to. Returns whether the program goes on.
     pub fn run(&mut self, outcomes: Vec<Outcome<&Command>>) -> io::Result<bool> {
         for outcome in outcomes {
@@ -37,14 +45,14 @@ impl Screen {
         Ok(true)
     }
 
-    fn print_count(&self) -> io::Result<()> {
-        print_line(&format!("saved {} characters", self.text.count()))
+    fn print_count(&mut self) -> io::Result<()> {
+        self.print_line(&format!("saved {} characters", self.text.count()))
     }
 
     fn type_press(&mut self, press: KeyPress) -> io::Result<()> {
         match press.text() {
             Some(c) => self.insert(c.encode_utf8(&mut [0; 4])),
-            None => print_line(&format!("unbound: {press}")),
+            None => self.print_line(&format!("unbound: {press}")),
         }
     }
 
@@ -56,16 +64,18 @@ impl Screen {
     /// Edits the text, and shows it if that changed anything.
     fn edit(&mut self, edit: impl FnOnce(&mut Text) -> bool) -> io::Result<()> {
         if edit(&mut self.text) {
-            print_line(&format!("text: {}", self.text))?;
+            self.print_line(&format!("text: {}", self.text))?;
         }
         Ok(())
     }
-}
 
-pub fn print_lines(lines: impl IntoIterator<Item = String>) -> io::Result<()> {
-    lines.into_iter().try_for_each(|line| print_line(&line))
-}
+    pub fn print_lines(&mut self, lines: impl IntoIterator<Item = String>) -> io::Result<()> {
+        lines
+            .into_iter()
+            .try_for_each(|line| self.print_line(&line))
+    }
 
-fn print_line(line: &str) -> io::Result<()> {
-    writeln!(io::stdout(), "{line}")
+    fn print_line(&mut self, line: &str) -> io::Result<()> {
+        self.terminal.write_all(format!("{line}\n").as_bytes())
+    }
 }
