@@ -18,7 +18,7 @@ from pathlib import Path
 import pytest
 from conftest import run_without_terminal
 from relay_child import long_text
-from terminal import END, ENDING_SIGNALS, PAUSE, SECONDS, START, Terminal
+from terminal import END, ENDING_SIGNALS, LONG_PAUSE, PAUSE, SECONDS, START, Terminal
 from terminal_data import FOLDER, load
 
 from hedrugal import (
@@ -341,7 +341,7 @@ PASTES = {
     ),
     "a terminal that passes END on": (
         START + b"a" + END + b"ls\r" + END + b"x",
-        START + b"a" + END + b"ls\rx",
+        START + b"a" + END + b"ls\r" + END + b"x",
         b"als\rx",
     ),
     "nothing": (START + END, START + END, b""),
@@ -366,6 +366,17 @@ def test_long_paste(start, bracketed):
     relay = start()
     relay.passes(b"\033[?2004h" if bracketed else b"")
     relay.check_keys(START + text + END, encode_paste(text, bracketed))
+    relay.end()
+
+
+@pytest.mark.timed
+def test_start_that_comes_too_slowly(start):
+    """The child gets it as keys, and ends its paste at END."""
+    relay = start()
+    relay.passes(b"\033[?2004h")
+    for _ in range(2):
+        relay.play([START[:-1], LONG_PAUSE])
+        relay.check_keys(START[-1:] + b"ls" + END + b"x", START + b"ls" + END + b"x")
     relay.end()
 
 
