@@ -10,7 +10,9 @@ import re
 import select
 import signal
 import socket
+import subprocess
 import sys
+import termios
 import threading
 from dataclasses import replace
 from pathlib import Path
@@ -501,6 +503,33 @@ def test_escape(start):
     relay.end()
 
 
+# For a program, each wait that finds nothing ends so late as if it were stopped there.
+LATE_POLL = """#define _GNU_SOURCE
+#include <poll.h>
+#include <unistd.h>
+int poll(struct pollfd *polled, nfds_t count, int ms) {
+  struct timespec time = {ms / 1000, ms % 1000 * 1000000L};
+  int ready = ppoll(polled, count, ms < 0 ? NULL : &time, NULL);
+  if (ready == 0) usleep(400000);
+  return ready;
+}
+"""
+
+
+@pytest.mark.timed
+def test_sequence_that_comes_while_it_is_stopped(start, tmp_path):
+    """Its limit has passed then. It is read before anything is flushed."""
+    source, library = tmp_path / "late.c", tmp_path / "late.so"
+    source.write_text(LATE_POLL)
+    subprocess.run(["cc", "-shared", "-fPIC", "-o", library, source], check=True)
+    relay = start(env=os.environ | {"LD_PRELOAD": str(library)})
+    relay.passes(b"\033[?1h")
+    for _ in range(2):
+        relay.play([b"\033", PAUSE])
+        relay.check_keys(b"[A", b"\033OA")
+    relay.end()
+
+
 def test_new_size(start):
     relay = start()
     relay.child.is_told(8, 80, 24)
@@ -536,27 +565,82 @@ def test_child_that_a_signal_ends(start, number):
     relay.check_end(128 + number)
 
 
-@pytest.mark.parametrize("number", [signal.SIGTSTP, signal.SIGSTOP], ids=lambda it: it.name)
-def test_stop(start, number):
-    """What was buffered before no longer counts. The child draws anew."""
-    relay = start(True)
-    relay.passes(b"\033[?1049;1003;2004h", b"\033[?1049h\033[>31u" + switches("1003 1006"))
-    relay.send(START + b"a" * 100000)
-    relay.child.gets(START + b"a" * 65536)
+def stop_and_continue(relay, number=signal.SIGTSTP):
+    """Another program has the terminal meanwhile, as it was."""
     if number == signal.SIGTSTP:
         relay.stop()
     else:
         relay.kill(number)
         relay.wait_for_stop()
+        termios.tcsetattr(relay.child_fd, termios.TCSANOW, relay.settings_before)
     relay.continue_in_foreground()
-    relay.expect_exact(ON + "\033[?1049h\033[>31u\033[?1003h\033[?1006h")
-    assert relay.is_raw()
+    relay.expect_exact(ON)
     relay.child.is_told(signal.SIGWINCH, 80, 24)
-    relay.send(MOVE)
+    assert relay.is_raw()
+
+
+@pytest.mark.parametrize("number", [signal.SIGTSTP, signal.SIGSTOP], ids=lambda it: it.name)
+def test_stop(start, number):
+    """The terminal is told all again. A paste of which the child has a part stays one."""
+    relay = start(True)
+    on = b"\033[?1049h\033[>31u" + switches("1003 1006")
+    relay.passes(b"\033[?1049;1003;2004h", on)
+    relay.send(START + b"a" * 100000)
+    relay.child.gets(START + b"a" * 65536)
+    stop_and_continue(relay, number)
+    relay.expect_exact(on)
+    relay.send(b"b" + END + MOVE)
     with relay.child.changed:
         relay.child.changed.wait_for(lambda: relay.child.read[-1:] == b"$", SECONDS)
-    assert re.fullmatch(rb"a*\033\[201~a*\033\[M..\$", relay.child.read)
+    assert re.fullmatch(rb"a*b\033\[201~\033\[M..\$", relay.child.read)
     relay.child.read.clear()
+    relay.end()
+
+
+@pytest.mark.timed
+def test_stop_within_a_paste(start):
+    """It goes on, and ends where it is if nothing comes for a second. The next has no such end."""
+    relay = start()
+    relay.passes(b"\033[?2004h")
+    for _ in range(2):
+        relay.play([START + b"a\n", PAUSE])
+        stop_and_continue(relay)
+        relay.play([PAUSE])
+        relay.check_keys(b"b\n" + END + b"x", START + b"a\rb\r" + END + b"x")
+        relay.play([START + b"a\n", PAUSE])
+        stop_and_continue(relay)
+        relay.child.gets(START + b"a\r" + END)
+        relay.play([b"x" + START + b"b", LONG_PAUSE])
+        relay.check_keys(b"c" + END, b"x" + START + b"bc" + END)
+    relay.end()
+
+
+@pytest.mark.timed
+def test_stop_within_a_reply(start):
+    """It goes on, and is cut off if nothing comes for a second. A sequence is forgotten."""
+    relay = start()
+    reply = REPLIES["a colour"]
+    for _ in range(2):
+        relay.play([reply[:9], PAUSE])
+        stop_and_continue(relay)
+        relay.check_keys(reply[9:] + b"x", reply + b"x")
+        relay.play([reply[:9], PAUSE])
+        stop_and_continue(relay)
+        relay.play([LONG_PAUSE])
+        relay.check_keys(b"x", b"x")
+        relay.play([b"\033[1;", PAUSE])
+        stop_and_continue(relay)
+        relay.check_keys(b"A", b"A")
+    relay.end()
+
+
+def test_stop_within_a_question(start):
+    """It counts no more: what looks like the position is a key."""
+    relay = start()
+    relay.passes(b"\033[>31u\033[6n", b"\033[6n")
+    relay.play([START + b"a", PAUSE])
+    stop_and_continue(relay)
+    relay.check_keys(END + b"\033[1;5R", b"a\033[13;5~")
     relay.end()
 
 

@@ -80,11 +80,9 @@ impl Sender {
         }
     }
 
-    /// Forgets what the terminal sent before. Returns what ends a paste of which a part was written.
-    pub fn reset(&mut self) -> Vec<u8> {
-        let end = self.is_in_paste().then(|| self.paste_end("", false));
-        *self = Sender::default();
-        end.unwrap_or_default()
+    /// Forgets which buttons are down.
+    pub fn forget_mouse(&mut self) {
+        self.mouse = Mouse::default();
     }
 
     /// Returns a reply or another sequence as the terminal sent it. One that was cut off, or is
