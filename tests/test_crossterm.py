@@ -52,6 +52,8 @@ KEYS = {
     + [csi(letter) for letter in "ABCDFHPQRSZ"],
     "letters with modifiers": [csi(1, more, it) for it in "ABCDFHPQRS" for more in WITH[1:] + KINDS]
     + [b"\033O5P", csi("1;5Z"), csi("1;65A")],
+    "Alt before a sequence": [b"\033" + it for it in [csi("A"), csi("5~"), b"\033OP"]],
+    "urxvt": [csi("a"), b"\033Oa", csi("5^"), csi("5@")],
     "Linux's console": [csi("[", letter) for letter in "ABCDE"],
     "numbers": [csi(code, more, "~") for code in range(1, 36) for more in WITH],
     "numbers with kinds": [csi("3;5:1~"), csi("3;5:3~")],
@@ -113,6 +115,13 @@ RULES = [
         r"\033\[([PQRS])",
         lambda it: f"\033O{it[1]}",
     ),
+    ("crossterm reads no Alt before a sequence", r"\033\033\[A", "\033[1;3A"),
+    ("crossterm reads no Alt before a sequence", r"\033\033\[5~", "\033[5;3~"),
+    ("crossterm reads no Alt before a sequence", r"\033\033OP", "\033[1;3P"),
+    ("crossterm reads no modifiers of urxvt's", r"\033\[a", "\033[1;2A"),
+    ("crossterm reads no modifiers of urxvt's", r"\033Oa", "\033[1;5A"),
+    ("crossterm reads no modifiers of urxvt's", r"\033\[5\^", "\033[5;5~"),
+    ("crossterm reads no modifiers of urxvt's", r"\033\[5@", "\033[5;6~"),
     ("crossterm reads no F1 with modifiers after ESC O", r"\033O5P", "\033[1;5P"),
     ("crossterm reads no Shift-Tab with more modifiers", r"\033\[1;5Z", "\033[9;6u"),
     (
