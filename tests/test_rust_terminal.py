@@ -1,22 +1,70 @@
 """The Rust package's module for terminals on a pseudo-terminal: the guard alone, and what may go
-wrong. The keys of rust/tests/terminal do what has to go well."""
+wrong. The keys of rust/tests/terminal do what has to go well. Its layers are the terminal, the
+stream for tokio and the source for mio, by the examples that do the same over each."""
+import contextlib
+import fcntl
+import os
 import signal
 import termios
+import time
 
 import pytest
-from terminal import ENDING_SIGNALS, PAUSE, START, Terminal
+from terminal import END, ENDING_SIGNALS, LONG_PAUSE, PAUSE, START, TIOCGPTPEER, Terminal
+from test_live import SIZE, Live
 
 MODES = {1003, 1004, 1006, 1049, 2004}
 # Sets the terminal of the program so that a read of nothing fails at once.
 NO_WAIT = "python3 -c 'import os; os.set_blocking(0, False)'"
+# Runs a program, and then prints what is left for the shell.
+PRINT_LEFT = """import os, time
+time.sleep(0.3)
+os.set_blocking(0, False)
+try:
+    left = os.read(0, 1000)
+except BlockingIOError:
+    left = b""
+print("left", left)"""
+BEFORE_SHELL = ["sh", "-c", f'trap : TERM; "$0" "$@"; python3 -c \'{PRINT_LEFT}\'']
+ATTRIBUTES = b"\033[?62c"
+BACKGROUND = "\033]11;?\033\\\033[c"
+# How long what was open at a stop waits for its end.
+GAP = 1.0
 
 
 class Cases(Terminal):
     FIRST = "q ends"
+    turned_on = MODES
+
+    def stop_by(self, number):
+        """A shell has the terminal as it was."""
+        self.kill(number)
+        self.wait_for_stop()
+        if number == signal.SIGTSTP:
+            self.check_restored()
+        else:
+            termios.tcsetattr(self.child_fd, termios.TCSANOW, self.settings_before)
+
+    def read_as_shell(self):
+        """What nobody has read."""
+        flags = os.O_RDWR | os.O_NOCTTY | os.O_NONBLOCK
+        terminal = fcntl.ioctl(self.child_fd, TIOCGPTPEER, flags)
+        try:
+            return os.read(terminal, 1000)
+        except BlockingIOError:
+            return b""
+        finally:
+            os.close(terminal)
+
+    def check_left(self, left, within=5):
+        """It ends, and so much is left for the shell."""
+        begin = time.monotonic()
+        self.expect_exact(f"left {left!r}\r\n")
+        assert time.monotonic() - begin < within
+        self.check_end(0)
 
     def check_raw(self):
         self.wait_for(self.is_raw, "raw mode")
-        self.wait_for(lambda: self.modes() == MODES, "modes")
+        self.wait_for(lambda: self.modes() == self.turned_on, "modes")
 
     def check_restored(self):
         self.wait_for(lambda: not self.modes(), "end of the modes")
@@ -35,8 +83,10 @@ def program(example):
 @pytest.fixture
 def start(program, on_terminal):
     def run(*words, before=(), **how):
-        cases = on_terminal(Cases([*before, *program, *words], **how))
-        cases.check_raw()
+        cases = Cases([*before, *program, *words], **how)
+        if "plain" in words:
+            cases.turned_on = {2004}
+        on_terminal(cases).check_raw()
         return cases
 
     return run
@@ -63,12 +113,7 @@ def test_signal(start, words, number):
 def test_stop_and_continue(start, words, number):
     cases = start(*words)
     for _ in range(2):
-        cases.kill(number)
-        cases.wait_for_stop()
-        if number == signal.SIGTSTP:
-            cases.check_restored()
-        else:
-            termios.tcsetattr(cases.child_fd, termios.TCSANOW, cases.settings_before)
+        cases.stop_by(number)
         cases.continue_in_foreground()
         cases.check_raw()
     cases.quit()
@@ -81,8 +126,7 @@ def test_modes_of_the_program(start, number):
     cases = start("")
     cases.play([b"o", "own\r\n"])
     assert b"2031" not in cases.output
-    cases.kill(number)
-    cases.wait_for_stop()
+    cases.stop_by(number)
     cases.continue_in_foreground()
     cases.expect_exact(on)
     cases.quit()
@@ -230,17 +274,17 @@ def test_question_and_a_new_size(start):
     cases.quit()
 
 
-def test_question_and_a_stop(start):
-    """What was read before it stays, and the last reply may come after it."""
+@pytest.mark.parametrize("number", [signal.SIGTSTP, signal.SIGSTOP], ids=lambda it: it.name)
+def test_question_and_a_stop(start, number):
+    """It ends there. What was read before stays, and a reply that comes later is an event."""
     cases = start("")
     cases.play([b"a", "\033[6n\033[c", b"x\033[2;3R", PAUSE])
-    cases.kill(signal.SIGTSTP)
-    cases.wait_for_stop()
-    cases.check_restored()
+    cases.stop_by(number)
     cases.continue_in_foreground()
+    cases.play(["CursorPosition { row: 2, column: 3 }", "is_whole: false"])
     cases.check_raw()
-    cases.play([b"\033[?62c", "CursorPosition { row: 2, column: 3 }", "is_whole: true"])
-    cases.play(["key x\r\n", "resumed\r\n"])
+    cases.play(["key x\r\n", "resumed\r\nResized { columns: 80, rows: 24 }\r\n"])
+    cases.play([b"\033[1;5R", "key ctrl+f3\r\n", ATTRIBUTES, "Csi("])
     cases.quit()
 
 
@@ -255,13 +299,13 @@ def test_question_that_would_block(start):
     cases.quit()
 
 
-@pytest.mark.parametrize("number", range(3, 10))
+@pytest.mark.parametrize("number", range(2, 12))
 def test_question_and_refused_memory(start, number):
-    """That of a reply is refused. The replies and the other events then come in their order."""
-    cases = start("", str(number))
-    cases.play([b"m", "\033[6n\033[c", b"x\033[2;3R\033[?1;2$yy\033[?62c", "OutOfMemory\r\n"])
+    """The replies and the other events then come in their order."""
+    cases, keys = start("", str(number)), b"x" * 50
+    cases.play([b"m", "\033[6n\033[c", keys + b"\033[2;3R\033[?1;2$yy\033[?62c", "OutOfMemory\r\n"])
     mode, attributes = list(b"?1;2$y"), list(b"?62c")
-    cases.play(["key x\r\n", "CursorPosition { row: 2, column: 3 }", f"Csi({mode})"])
+    cases.play(["key x\r\n" * len(keys), "CursorPosition { row: 2, column: 3 }", f"Csi({mode})"])
     cases.play(["key y\r\n", f"Csi({attributes})"])
     cases.quit()
 
@@ -281,6 +325,445 @@ def test_terminal_of_the_session(program, redirected):
         cases.play(["q ends\r\n"])
         cases.check_raw()
         cases.quit()
+
+
+LAYERS = {"terminal": ("rust", "live"), "tokio": ("tokio", "stream"), "mio": ("mio", "mio")}
+
+
+@pytest.fixture(scope="session", params=LAYERS.values(), ids=LAYERS)
+def layer(request, example):
+    return example(*request.param)
+
+
+@pytest.fixture
+def start_layer(layer, on_terminal):
+    def run(*before):
+        live = on_terminal(Live([*before, *layer]))
+        live.wait_for(lambda: live.modes() == {2004}, "modes")
+        return live
+
+    return run
+
+
+def stop_and_continue(live, number):
+    """By SIGTSTP it leaves the terminal. After SIGSTOP the shell had it."""
+    if number == signal.SIGTSTP:
+        live.stop()
+    else:
+        live.kill(number)
+        live.wait_for_stop()
+        termios.tcsetattr(live.child_fd, termios.TCSANOW, live.settings_before)
+    live.continue_in_foreground()
+    live.wait_for_raw_again()
+
+
+def is_stopped(terminal):
+    with open(f"/proc/{terminal.job}/stat") as stat:
+        return stat.read().rpartition(")")[2].split()[0] == "T"
+
+
+stopped = pytest.mark.parametrize(
+    "number", [signal.SIGTSTP, signal.SIGSTOP], ids=lambda it: it.name
+)
+
+
+@pytest.mark.parametrize("number", [signal.SIGCONT, signal.SIGSTOP], ids=lambda it: it.name)
+def test_continued_where_nobody_had_the_terminal(start_layer, number):
+    """A paste goes on, and nothing is told of it but a new size."""
+    live, text = start_layer(), b"rm -rf ~\r" * 5
+    live.send(START)
+    for byte in text[:20]:
+        live.send(bytes([byte]))
+        live.kill(number)
+        if number == signal.SIGSTOP:
+            live.wait_for_stop()
+            live.continue_in_foreground()
+            live.wait_for(lambda: not is_stopped(live), "SIGCONT")
+    live.resize(100, 40)
+    live.wait_for_line("size 100 x 40")
+    live.play([text[20:] + END + START + b"b", PAUSE, END, "paste of 1 bytes\r\n"])
+    assert live.output.count(b"\033[?2004h") == 1
+    live.quit("size 100 x 40", f"paste of {len(text)} bytes", "paste of 1 bytes")
+
+
+@stopped
+def test_stopped_within_a_paste(start_layer, number):
+    """What comes up to its end belongs to it, also after pauses. A later paste has no limit."""
+    live = start_layer()
+    live.play([START + b"a\r", PAUSE])
+    stop_and_continue(live, number)
+    live.play([b"b\r", 0.7, b"c\r", 0.7, b"d" + END + START + b"e\r", LONG_PAUSE, b"f" + END])
+    live.quit(SIZE, "paste of 7 bytes", "paste of 3 bytes")
+
+
+@pytest.mark.timed
+@stopped
+def test_stopped_within_a_paste_that_has_no_end(start_layer, number):
+    """It is told a second later. Then all is as ever."""
+    live = start_layer()
+    live.play([START + b"ab", LONG_PAUSE])
+    stop_and_continue(live, number)
+    begin = time.monotonic()
+    live.wait_for_line("paste of 2 bytes")
+    assert GAP - 0.1 < time.monotonic() - begin < GAP + 0.5
+    live.play([b"x" + START + b"c", LONG_PAUSE, b"d" + END])
+    live.quit(SIZE, "paste of 2 bytes", "Char U+0078", "paste of 2 bytes")
+
+
+@pytest.mark.timed
+@stopped
+@pytest.mark.parametrize("rest", [b"1e/1e\033\\", b""], ids=["whole", "cut"])
+def test_stopped_within_a_string(start_layer, number, rest):
+    live, begun = start_layer(), b"\033]11;rgb:1e/"
+    live.play([begun, PAUSE])
+    stop_and_continue(live, number)
+    begin = time.monotonic()
+    live.send(rest)
+    kind = "Osc" if rest else "StringCut"
+    live.expect_exact(kind)
+    assert rest or GAP - 0.1 < time.monotonic() - begin < GAP + 0.5
+    live.play(["\r\n", b"x", "Char U+0078\r\n", b"q"])
+    super(Live, live).check_end(0)
+    assert len(live.lines()) == 5 and live.lines()[2].startswith(kind)
+
+
+@stopped
+@pytest.mark.parametrize("begun", [b"\033", b"\033[", b"\033]1", b"\303"], ids=repr)
+def test_stopped_within_a_beginning(start_layer, number, begun):
+    """It is forgotten, unless its limit passed before."""
+    live = start_layer()
+    live.send(b"x" + begun)
+    live.wait_for_line("Char U+0078")
+    stop_and_continue(live, number)
+    live.play([b"A", "Char U+0041\r\n"])
+    lines = [it for it in live.lines()[2:] if it not in (SIZE, "Escape", "Char U+005B alt")]
+    assert lines == ["Char U+0041"]
+    live.send(b"q")
+    super(Live, live).check_end(0)
+
+
+def test_guard_continued_where_nobody_had_the_terminal(start):
+    guard = start("guard")
+    for _ in range(20):
+        guard.kill(signal.SIGCONT)
+    guard.play([b"a", "byte 97\r\n"])
+    assert guard.output.count(b"\033[?2004h") == 1
+    guard.quit()
+
+
+@pytest.mark.parametrize(
+    "begun, rest, line",
+    [
+        (START + b"a\r", b"b" + END, 'Paste("a\\rb")'),
+        (b"\033]11;rgb:", b"0/0/0\033\\", f"Osc({list(b'11;rgb:0/0/0')})"),
+        (b"\033[", b"A", "key A\r\n"),
+        (b"typed", b"A", "key A\r\n"),
+    ],
+    ids=["a paste", "a string", "a beginning", "keys"],
+)
+def test_lent_within(start, begun, rest, line):
+    """What is open goes on, and all else is forgotten."""
+    cases = start("", "echo begun")
+    cases.play([b"l" + begun, "begun", "lent true\r\n", rest, line])
+    assert b"key t" not in cases.output
+    cases.play([START + b"second" + END, 'Paste("second")'])
+    cases.quit()
+
+
+def test_slow_terminal(start):
+    """A question for the cursor stays open until its last reply. That to a later question is its
+    own."""
+    cases = start("")
+    cases.play([b"t", "\033[6n\033[c", "[], is_whole: false", PAUSE])
+    cases.play([b"u", BACKGROUND, "[], is_whole: false", b"b", BACKGROUND])
+    cases.play([b"\033[1;5R" + ATTRIBUTES + b"\033]11;old\007" + ATTRIBUTES])
+    cases.play([b"\033]11;new\007" + ATTRIBUTES])
+    own = f"[Osc({list(b'11;new')}), Csi({list(ATTRIBUTES[2:])})], is_whole: true"
+    cases.play([own, "CursorPosition { row: 1, column: 5 }", "Csi("])
+    cases.play([f"Osc({list(b'11;old')})", "Csi(", b"\033[1;5R", "key ctrl+f3\r\n"])
+    cases.quit()
+
+
+def test_question_for_the_cursor_behind_a_late_one(start):
+    """The first stays open with its reply, and the second opens it anew."""
+    cases = start("")
+    cases.play([b"t", "\033[6n\033[c", "is_whole: false", b"T", "\033[6n\033[c"])
+    cases.play(
+        [ATTRIBUTES + b"\033[1;6R\033[1;5R" + ATTRIBUTES, "row: 1, column: 6", "is_whole: true"]
+    )
+    cases.play(["Csi(", "key ctrl+f3\r\n"])
+    cases.quit()
+
+
+@pytest.mark.timed
+def test_terminal_that_never_answers(start):
+    """After two seconds nothing is owed: what comes then answers no later question."""
+    cases = start("")
+    cases.play([b"t", "is_whole: false", 2.1, b"\033[1;5R", "key ctrl+f3\r\n"])
+    cases.play([ATTRIBUTES, "Csi(", b"b", BACKGROUND, b"\033]11;new\007" + ATTRIBUTES])
+    cases.play([f"[Osc({list(b'11;new')}), Csi(", "is_whole: true"])
+    cases.quit()
+
+
+class Kitty(Cases):
+    def check_raw(self):
+        self.wait_for(self.is_raw, "raw mode")
+        self.expect_exact("\033[?u\033[c")
+
+
+@pytest.fixture
+def start_kitty(program, on_terminal):
+    def run(before=()):
+        cases = Kitty([*before, *program, "kitty"])
+        cases.FIRST = "\033[?u\033[cq ends"
+        return on_terminal(cases)
+
+    return run
+
+
+def test_flags_of_kittys_protocol(start_kitty):
+    """The reply to the question behind them isn't told, nor is it that of the program's own."""
+    cases = start_kitty()
+    cases.play([b"b", BACKGROUND, b"\033[?1u" + ATTRIBUTES + b"\033]11;new\007" + ATTRIBUTES])
+    cases.play([f"[Osc({list(b'11;new')}), Csi(", "is_whole: true", "KeyboardFlags(1))\r\n"])
+    cases.play([b"x", "key x\r\n", ATTRIBUTES, "Csi("])
+    assert cases.output.count(b"Csi(") == 2
+    cases.quit()
+
+
+def test_flags_of_kittys_protocol_after_a_stop(start_kitty):
+    cases = start_kitty()
+    cases.play([b"\033[?1u" + ATTRIBUTES, "KeyboardFlags(1))\r\n"])
+    cases.stop()
+    cases.continue_in_foreground()
+    cases.play(["\033[?u\033[c", b"\033[?1u" + ATTRIBUTES, "KeyboardFlags(1))\r\n"])
+    cases.play([b"x", "key x\r\n"])
+    assert b"Csi(" not in cases.output
+    cases.quit()
+
+
+def test_flood_while_asking(start):
+    """So many events are kept, and the rest stays where it is."""
+    cases = start("")
+    cases.play([b"f", BACKGROUND, b"x" * 70000, "is_whole: false", "70000 events\r\n"])
+    cases.quit()
+
+
+@pytest.fixture
+def start_below_shell(start, start_kitty):
+    """Starts a program below a shell, which then prints what is left for it."""
+
+    def run(word):
+        if word == "kitty":
+            return start_kitty(before=BEFORE_SHELL)
+        return start(word, before=BEFORE_SHELL)
+
+    return run
+
+
+def test_typed_ahead(start_below_shell):
+    """It is left for the shell."""
+    cases = start_below_shell("plain")
+    cases.play([b"e", "ending\r\n", b"ls\r"])
+    cases.check_left(b"ls\r")
+
+
+@pytest.mark.timed
+@pytest.mark.parametrize("late", [b"", b"\033[<35;1;1M"], ids=["", "a mouse report"])
+@pytest.mark.parametrize("word", ["plain", ""], ids=["plain", "mouse"])
+def test_reply_that_is_owed_at_the_end(start_below_shell, word, late):
+    """It is read, and so is what comes before it. What comes behind is left for the shell. The
+    first reply tells how slow the line is."""
+    cases = start_below_shell(word)
+    cases.play([b"T", "\033[6n\033[c", 0.4, b"\033[1;1R" + ATTRIBUTES, "is_whole: true"])
+    cases.play([b"t", "\033[6n\033[c", "is_whole: false", b"q", "\033[?2004l", 0.4])
+    assert cases.is_raw()
+    for byte in b"y" + late + b"\033[1;5R" + ATTRIBUTES + b"ls\r":
+        cases.send(bytes([byte]))
+    cases.check_left(b"ls\r")
+
+
+@pytest.mark.timed
+def test_reply_that_is_owed_at_a_signal(start_below_shell):
+    cases = start_below_shell("plain")
+    cases.play([b"T", "\033[6n\033[c", 0.3, b"\033[1;1R" + ATTRIBUTES, "is_whole: true"])
+    cases.play([b"t", "\033[6n\033[c", "is_whole: false"])
+    os.killpg(cases.job, signal.SIGTERM)
+    cases.play(["\033[?2004l", 0.2, b"\033[1;5R" + ATTRIBUTES + b"ls\r"])
+    cases.check_left(b"ls\r")
+
+
+@pytest.mark.timed
+def test_reply_to_the_question_for_the_flags_at_the_end(start_below_shell):
+    cases = start_below_shell("kitty")
+    cases.play([b"q", "\033[?2004l", 0.05, b"\033[?0u" + ATTRIBUTES + b"ls\r"])
+    cases.check_left(b"ls\r")
+
+
+@pytest.mark.timed
+@pytest.mark.parametrize("word", ["plain", "", "kitty"])
+def test_reply_that_never_comes(start_below_shell, word):
+    """It isn't waited for long, and what came is discarded."""
+    cases = start_below_shell(word)
+    cases.play([b"t", "is_whole: false", b"e", "ending\r\n", b"ls\r"])
+    cases.check_left(b"")
+
+
+@pytest.mark.timed
+def test_reply_that_is_overdue_at_the_end(start_below_shell):
+    """It is owed no longer, so nothing is read or discarded."""
+    cases = start_below_shell("plain")
+    cases.play([b"t", "is_whole: false", 2.1, b"e", "ending\r\n", b"ls\r"])
+    cases.check_left(b"ls\r")
+
+
+@pytest.mark.timed
+def test_mouse_report_at_the_end(start_below_shell):
+    """A terminal that answers is asked once more, and no report comes behind its reply."""
+    cases = start_below_shell("")
+    cases.play([b"T", "\033[6n\033[c", b"\033[1;1R" + ATTRIBUTES, "is_whole: true"])
+    cases.play([b"e", "ending\r\n", b"\033[<35;1;1M", "\033[?1049l\033[c"])
+    cases.play([b"\033[<35;2;1M" + ATTRIBUTES + b"ls\r"])
+    cases.check_left(b"ls\r")
+
+
+def test_mouse_report_of_a_terminal_that_never_answered(start_below_shell):
+    """It isn't asked, and all that came is discarded."""
+    cases = start_below_shell("")
+    cases.play([b"e", "ending\r\n", b"\033[<35;1;1Mls\r", "\033[?1049l"])
+    cases.check_left(b"")
+    assert b"\033[c" not in cases.output
+
+
+def test_reply_that_is_owed_at_a_stop(start):
+    cases = start("plain")
+    cases.play([b"T", "\033[6n\033[c", PAUSE, b"\033[1;1R" + ATTRIBUTES, "is_whole: true"])
+    cases.play([b"t", "\033[6n\033[c", "is_whole: false"])
+    cases.kill(signal.SIGTSTP)
+    cases.play(["\033[?2004l", b"\033[1;5R" + ATTRIBUTES])
+    cases.wait_for_stop()
+    cases.continue_in_foreground()
+    cases.play(["resumed\r\n", b"\033[1;5R", "key ctrl+f3\r\n", b"x", "key x\r\n"])
+    cases.quit()
+
+
+def test_reply_that_is_owed_while_it_is_lent(start):
+    cases = start("plain", "read line; echo got $line.")
+    cases.play([b"T", "\033[6n\033[c", PAUSE, b"\033[1;1R" + ATTRIBUTES, "is_whole: true"])
+    cases.play([b"t", "\033[6n\033[c", "is_whole: false", b"l", "\033[?2004l"])
+    cases.play([b"\033[1;5R" + ATTRIBUTES + b"text\n", "got text.\r\n", "lent true\r\n"])
+    cases.quit()
+
+
+@pytest.mark.parametrize("word", ["plain", ""], ids=["plain", "mouse"])
+@pytest.mark.parametrize("number", ENDING_SIGNALS, ids=lambda it: it.name)
+def test_signal_while_a_reply_is_owed(start, word, number):
+    cases = start(word)
+    cases.play([b"t", "\033[6n\033[c", "is_whole: false"])
+    begin = time.monotonic()
+    cases.kill(number)
+    cases.check_end(-number)
+    assert time.monotonic() - begin < 3
+
+
+@pytest.mark.parametrize("words, left", [(["guard", "plain"], b"ls\r"), (["guard"], b"")])
+def test_typed_ahead_at_a_stop_of_the_guard(start, words, left):
+    """Its handler reads nothing: a mouse report may come, or all is kept."""
+    guard = start(*words)
+    guard.stop_output()
+    guard.send(b"xls\r")  # the program is in a write
+    guard.play([PAUSE])
+    guard.kill(signal.SIGTSTP)
+    guard.wait_for_stop()
+    assert guard.read_as_shell() == left
+    guard.kill(signal.SIGKILL)
+    guard.wait_for_end()
+
+
+def test_typed_before_the_program_begins(program):
+    words = ["sh", "-c", 'sleep 0.5; exec "$0" "$@"', *program, "plain"]
+    with Cases(words) as cases:
+        cases.play([b"x", "q ends\r\n", "key x\r\n"])
+        cases.quit()
+
+
+def test_half_a_line_of_standard_output(start):
+    """It is written before the modes are turned off."""
+    cases = start("")
+    cases.play([b"w"])
+    cases.quit()
+    assert cases.output.index(b"half a line") < cases.output.index(b"\033[?1049l")
+
+
+def test_forked_child_that_drops_the_guard(start):
+    """The terminal is its parent's."""
+    guard = start("fork")
+    guard.play(["child ", b"x", "status 0\r\n"])
+    guard.check_raw()
+    guard.play([b"x", "byte 120\r\n"])
+    guard.quit()
+
+
+@pytest.mark.parametrize("number", ENDING_SIGNALS, ids=lambda it: it.name)
+def test_forked_child_that_ends_by_a_signal(start, number):
+    guard = start("fork")
+    guard.expect(rb"child (\d+)\r\n")
+    os.kill(int(guard.match[1]), number)
+    guard.play([f"status {int(number)}\r\n"])
+    guard.check_raw()
+    guard.play([b"x", "byte 120\r\n"])
+    guard.quit()
+
+
+def test_guards_dropped_while_signals_come(program):
+    """Each leaves the terminal as it was."""
+    with Terminal([*program, "storm"]) as terminal:
+        terminal.expect_exact("q ends")
+        with contextlib.suppress(ProcessLookupError):
+            while True:
+                terminal.kill(signal.SIGCONT)
+        terminal.expect_exact("\r\n0 left raw\r\n")
+        terminal.check_end(0)
+
+
+def test_layer_whose_output_would_block(start_layer):
+    """The terminal is set so that a write which has to wait fails. The program waits."""
+    live = start_layer("sh", "-c", f'{NO_WAIT}; exec "$0" "$@"')
+    live.stop_output()
+    live.play([b"x" * 100, PAUSE])
+    live.stop_output(termios.TCOON)
+    live.quit(*["Char U+0078"] * 100)
+
+
+@pytest.fixture
+def stream(example, on_terminal):
+    cases = Cases(example("tokio", "stream_cases"))
+    cases.turned_on = {2004}
+    return on_terminal(cases)
+
+
+@pytest.mark.parametrize(
+    "begun, rest, line",
+    [
+        (b"\033", b"[200~rm -rf ~\rq" + END, 'Paste("rm -rf ~\\rq")'),
+        (b"\033[", b"1;5A", "key ctrl+up\r\n"),
+    ],
+    ids=["ESC", "ESC and ["],
+)
+def test_stream_of_a_task_that_computes(stream, begun, rest, line):
+    """What came meanwhile is read before what is overdue is flushed."""
+    for _ in range(2):
+        stream.play([b"b" + begun, "key b\r\nblocked\r\n", rest, line])
+    assert b"escape" not in stream.output and b"alt+" not in stream.output
+    stream.quit()
+
+
+def test_question_over_a_stream(stream):
+    """A late reply to it is an event of the stream, and no key."""
+    for _ in range(2):
+        stream.play([b"a", "\033[6n\033[c", "[], is_whole: false", b"\033[1;5R" + ATTRIBUTES])
+        stream.play(["CursorPosition { row: 1, column: 5 }", "Csi(", b"\033[1;5R", "key ctrl+f3"])
+    stream.quit()
 
 
 @pytest.fixture

@@ -24,7 +24,9 @@
 #[cfg(feature = "tokio")]
 mod decoder;
 mod events;
+mod leftover;
 mod modes;
+mod questions;
 mod raw_mode;
 mod reader;
 #[cfg(feature = "mio")]

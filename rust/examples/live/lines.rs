@@ -46,16 +46,13 @@ fn input_line(event: &InputEvent) -> String {
     }
 }
 
-fn line(event: &Event, terminal: &Terminal) -> io::Result<String> {
-    Ok(match event {
+fn line(event: &Event) -> Option<String> {
+    Some(match event {
         Event::Input(ExtendedEvent::Input(event)) => input_line(event),
         Event::Input(other) => format!("{other:?}"),
         Event::PastePart(text) => format!("part of a paste, {} bytes", text.len()),
         Event::Resized { columns, rows } => format!("size {columns} x {rows}"),
-        Event::Resumed => {
-            let (columns, rows) = terminal.size()?;
-            format!("size {columns} x {rows}")
-        }
+        Event::Resumed => return None,
     })
 }
 
@@ -64,13 +61,15 @@ fn is_q(event: &Event) -> bool {
 }
 
 /// Prints the first line.
-pub fn begin() -> io::Result<()> {
-    writeln!(io::stdout(), "q ends")
+pub fn begin(terminal: &mut Terminal) -> io::Result<()> {
+    terminal.write_all(b"q ends\n")
 }
 
 /// Prints an event. Returns whether the program goes on.
-pub fn handle(event: &Event, terminal: &Terminal) -> io::Result<bool> {
-    writeln!(io::stdout(), "{}", line(event, terminal)?)?;
+pub fn handle(event: &Event, terminal: &mut Terminal) -> io::Result<bool> {
+    if let Some(line) = line(event) {
+        terminal.write_all(format!("{line}\n").as_bytes())?;
+    }
     Ok(!is_q(event))
 }
 

@@ -18,9 +18,9 @@ use std::process::ExitCode;
 
 fn run(modes: Modes) -> io::Result<()> {
     let mut terminal = Terminal::open_with(modes)?;
-    lines::begin()?;
+    lines::begin(&mut terminal)?;
     while let Some(event) = terminal.read()? {
-        if !lines::handle(&event, &terminal)? {
+        if !lines::handle(&event, &mut terminal)? {
             break;
         }
     }

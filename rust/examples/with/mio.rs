@@ -26,7 +26,7 @@ fn run(modes: Modes) -> io::Result<()> {
     let mut ready = Events::with_capacity(8);
     poll.registry()
         .register(&mut terminal, Token(0), Interest::READABLE)?;
-    lines::begin()?;
+    lines::begin(&mut terminal)?;
     while handle_all(&mut terminal)? {
         match poll.poll(&mut ready, terminal.timeout()) {
             Err(error) if error.kind() != ErrorKind::Interrupted => return Err(error),

@@ -15,7 +15,7 @@ use tokio::time::interval;
 async fn run(modes: Modes) -> io::Result<()> {
     let mut events = EventStream::new(Terminal::open_with(modes)?)?;
     let mut clock = interval(Duration::from_millis(5));
-    lines::begin()?;
+    lines::begin(events.terminal())?;
     loop {
         tokio::select! {
             event = events.next() => match event.transpose()? {

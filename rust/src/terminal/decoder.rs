@@ -10,9 +10,43 @@ use tokio_util::codec::Decoder;
 /// Reads the events of a terminal that is at the other end of a connection, as that of a server for
 /// SSH or telnet. The feature `tokio` has it.
 ///
-/// A codec knows no time. So the program waits for the next event and for
-/// [`timeout`](EventDecoder::timeout), whichever comes first, and then calls
+/// A codec knows no time. So the program waits for the next event at most for
+/// [`timeout`](EventDecoder::timeout). If none came it looks at its connection once more: what is
+/// there may complete what is overdue. Only if nothing is there it calls
 /// [`expire`](EventDecoder::expire).
+///
+/// ```no_run
+/// use futures_core::Stream;
+/// use hedrugal::terminal::{Event, EventDecoder};
+/// use std::future::poll_fn;
+/// use std::io;
+/// use std::pin::Pin;
+/// use std::time::Duration;
+/// use tokio::net::TcpStream;
+/// use tokio::task::yield_now;
+/// use tokio::time::timeout;
+/// use tokio_util::codec::FramedRead;
+///
+/// // Returns `None` at the end of the connection.
+/// async fn next_events(
+///     frames: &mut FramedRead<TcpStream, EventDecoder>,
+/// ) -> io::Result<Option<Vec<Event>>> {
+///     let mut time = frames.decoder_mut().timeout().unwrap_or(Duration::MAX);
+///     for is_over in [false, true] {
+///         if is_over {
+///             yield_now().await; // the runtime looks at the connection
+///             time = Duration::ZERO;
+///         }
+///         let next = poll_fn(|context| Pin::new(&mut *frames).poll_next(context));
+///         if let Ok(event) = timeout(time, next).await {
+///             return event.transpose().map(|event| event.map(|it| vec![it]));
+///         }
+///     }
+///     frames.decoder_mut().expire().map(Some)
+/// }
+/// ```
+///
+/// What the decoder does by itself:
 ///
 /// ```
 /// use bytes::BytesMut;
@@ -67,7 +101,8 @@ impl EventDecoder {
         self.events.timeout(Instant::now())
     }
 
-    /// Returns the events of what has waited so long: ESC is the Escape key then.
+    /// Returns the events of what has waited so long: ESC is the Escape key then. Call it once a look
+    /// at the connection after that time has found nothing.
     ///
     /// ```
     /// use hedrugal::terminal::{EventDecoder, Modes};
@@ -81,18 +116,9 @@ impl EventDecoder {
     ///
     /// With `OutOfMemory`. No event is lost: call again.
     pub fn expire(&mut self) -> io::Result<Vec<Event>> {
+        while self.events.pull().map_err(refused)? {}
         self.events.expire(Instant::now()).map_err(refused)?;
-        let mut expired = Vec::new();
-        loop {
-            match self.events.next() {
-                Ok(Some(event)) => expired.push(event),
-                Ok(None) => return Ok(expired),
-                Err(error) => {
-                    self.events.put_back(expired.into_iter());
-                    return Err(refused(error));
-                }
-            }
-        }
+        Ok(self.events.take())
     }
 
     /// Sets how long each kind of bytes may stay buffered.
@@ -124,6 +150,11 @@ impl EventDecoder {
     pub fn set_paste_limit(&mut self, limit: usize) {
         self.events.set_paste_limit(limit);
     }
+
+    fn next(&mut self) -> io::Result<Option<Event>> {
+        self.events.pull().map_err(refused)?;
+        Ok(self.events.pop())
+    }
 }
 
 impl Decoder for EventDecoder {
@@ -133,13 +164,13 @@ impl Decoder for EventDecoder {
     fn decode(&mut self, bytes: &mut BytesMut) -> io::Result<Option<Event>> {
         self.events.feed(bytes).map_err(refused)?;
         bytes.clear();
-        self.events.next().map_err(refused)
+        self.next()
     }
 
     fn decode_eof(&mut self, bytes: &mut BytesMut) -> io::Result<Option<Event>> {
         self.events.feed(bytes).map_err(refused)?;
         bytes.clear();
         self.events.end();
-        self.events.next().map_err(refused)
+        self.next()
     }
 }

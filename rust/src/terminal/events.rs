@@ -1,7 +1,8 @@
 // The events of a terminal, from what was read and from what passed of the time.
+use super::questions::Questions;
 use super::Modes;
 use crate::extended::{
-    DeviceAttributes, ExtendedEvent, ExtendedParser, KeyPress, KeyReport, Protocol, Reading, Reply,
+    ExtendedEvent, ExtendedParser, ExtendedWaiting, KeyPress, KeyReport, Protocol, Reading,
 };
 use crate::input::{AllocError, Policy};
 use std::collections::VecDeque;
@@ -36,8 +37,9 @@ pub enum Event {
         /// The number of rows.
         rows: u16,
     },
-    /// The program goes on after it was stopped: another program had the terminal, so draw all of
-    /// it. The size may be new, and what was typed before no longer counts.
+    /// Another program had the terminal while this one was stopped, so draw all of it. `Resized`
+    /// follows, since the size may be new. A paste or a string that was open goes on; nothing else
+    /// that was typed before counts any more.
     Resumed,
 }
 
@@ -66,15 +68,8 @@ impl Event {
         self.key().and_then(|report| KeyPress::of_report(&report))
     }
 
-    pub(super) fn into_input(self) -> Option<ExtendedEvent> {
-        match self {
-            Event::Input(event) => Some(event),
-            _ => None,
-        }
-    }
-
     // Whether a terminal sends it since it was asked, and never by itself.
-    pub(super) fn is_reply(&self) -> bool {
+    fn is_reply(&self) -> bool {
         use ExtendedEvent::*;
         let Event::Input(event) = self else {
             return false;
@@ -87,28 +82,31 @@ impl Event {
     }
 
     // Whether it is the reply to ESC [c.
-    pub(super) fn is_attributes(&self) -> Result<bool, AllocError> {
-        let reply = match self {
-            Event::Input(event) => event.try_reply()?,
-            _ => None,
+    fn is_attributes(&self) -> bool {
+        let Event::Input(ExtendedEvent::Csi(bytes)) = self else {
+            return false;
         };
-        Ok(matches!(
-            reply,
-            Some(Reply::DeviceAttributes {
-                report: DeviceAttributes::Primary,
-                ..
-            })
-        ))
+        let numbers = bytes
+            .strip_prefix(b"?")
+            .and_then(|it| it.strip_suffix(b"c"));
+        numbers.is_some_and(|it| {
+            it.first().is_some_and(u8::is_ascii_digit)
+                && it.iter().all(|byte| matches!(byte, b'0'..=b'9' | b';'))
+        })
     }
 }
 
-// Events of bytes, one at a time. `next` comes before bytes are fed, before a wait, and before what
-// waited too long is flushed.
+// Events of bytes. `pull` comes before bytes are fed, before a wait, and before what waited too long
+// is flushed.
 #[derive(Debug)]
 pub(crate) struct Events {
     parser: ExtendedParser,
     // What comes before what the parser has.
     first: VecDeque<Event>,
+    questions: Questions,
+    // When a paste or a string ends where it is, which was open when another program had the
+    // terminal.
+    cut_at: Option<Instant>,
     // Kitty's protocol was asked for, and is read once the terminal replies.
     wants_kitty: bool,
     paste_limit: usize,
@@ -118,17 +116,24 @@ pub(crate) struct Events {
 impl Events {
     // Of a paste so much is buffered, or it comes in parts.
     const PASTE_LIMIT: usize = 1 << 20;
+    // How long nothing may come for what was open when another program had the terminal.
+    const LONGEST_GAP: Duration = Duration::from_secs(1);
+    // A beginning of a sequence has fewer bytes, and so many events at most. A string is one event.
+    const MOST_FLUSHED: usize = 256;
 
     pub fn new(modes: &Modes) -> Result<Events, AllocError> {
         Ok(Events {
             parser: ExtendedParser::try_new(Protocol::Legacy)?,
             first: VecDeque::new(),
+            questions: Questions::default(),
+            cut_at: None,
             wants_kitty: !modes.keyboard.is_empty(),
             paste_limit: Events::PASTE_LIMIT,
             is_ended: false,
         })
     }
 
+    #[cfg(feature = "crossterm")]
     pub fn parser(&mut self) -> &mut ExtendedParser {
         &mut self.parser
     }
@@ -142,7 +147,12 @@ impl Events {
     }
 
     pub fn feed(&mut self, bytes: &[u8]) -> Result<(), AllocError> {
-        self.parser.try_feed(bytes)
+        self.forget_overdue();
+        self.parser.try_feed(bytes)?;
+        if self.cut_at.is_some() {
+            self.cut_at = Some(Instant::now() + Events::LONGEST_GAP);
+        }
+        Ok(())
     }
 
     // The input is at its end: what is buffered is flushed.
@@ -154,38 +164,90 @@ impl Events {
         self.is_ended
     }
 
-    // Has these come first.
-    pub fn put_back(&mut self, events: impl DoubleEndedIterator<Item = Event>) {
-        events.rev().for_each(|event| self.first.push_front(event));
+    // How many events are there.
+    pub fn count(&self) -> usize {
+        self.first.len()
     }
 
-    pub fn next(&mut self) -> Result<Option<Event>, AllocError> {
-        if let Some(event) = self.first.pop_front() {
-            return Ok(Some(event));
+    pub fn pop(&mut self) -> Option<Event> {
+        self.first.pop_front()
+    }
+
+    #[cfg(feature = "tokio")]
+    pub fn take(&mut self) -> Vec<Event> {
+        std::mem::take(&mut self.first).into()
+    }
+
+    // Has the parser's next event come last of those that are there. Returns whether it had one.
+    pub fn pull(&mut self) -> Result<bool, AllocError> {
+        loop {
+            self.first.try_reserve(1).map_err(|_| AllocError)?;
+            let Some(event) = self.parsed()? else {
+                return Ok(false);
+            };
+            if self.note(&event) {
+                self.first.push_back(event);
+                return Ok(true);
+            }
         }
+    }
+
+    fn parsed(&mut self) -> Result<Option<Event>, AllocError> {
         if let Some(event) = self.parser.try_next_event(!self.is_ended)? {
-            self.note(&event);
             return Ok(Some(Event::Input(event)));
         }
         if self.is_ended {
             return Ok(self.parser.try_end_paste()?.map(Event::Input));
         }
-        Ok(self
-            .parser
-            .take_paste(self.paste_limit)?
-            .map(Event::PastePart))
+        let part = self.parser.take_paste(self.paste_limit)?;
+        Ok(part.map(Event::PastePart))
+    }
+
+    // Notes what an event tells. Returns whether the program gets it.
+    fn note(&mut self, event: &Event) -> bool {
+        match event {
+            Event::PastePart(_) | Event::Input(ExtendedEvent::StringPart { .. }) => return true,
+            Event::Input(ExtendedEvent::KeyboardFlags(_)) if self.wants_kitty => {
+                self.parser.set_reading(Reading {
+                    protocol: Protocol::Kitty,
+                    ..self.parser.reading()
+                });
+            }
+            Event::Input(ExtendedEvent::CursorPosition { .. }) => self.questions.answer_position(),
+            _ => {}
+        }
+        self.cut_at = None;
+        if !event.is_attributes() {
+            return true;
+        }
+        let is_told = self.questions.answer(Instant::now());
+        self.expect_positions();
+        is_told
     }
 
     // How long to wait for more bytes.
     pub fn timeout(&mut self, now: Instant) -> Option<Duration> {
-        self.parser.timeout(now)
+        let cut = self.cut_at.map(|at| at.saturating_duration_since(now));
+        [self.parser.timeout(now), cut].into_iter().flatten().min()
     }
 
     // No bytes came in time: ESC is the Escape key, and what began a sequence is keys.
     pub fn expire(&mut self, now: Instant) -> Result<(), AllocError> {
-        let first = &mut self.first;
-        self.parser
-            .expire(now, |event| first.push_back(Event::Input(event)))
+        let most = Events::MOST_FLUSHED.min(self.parser.waiting_len() + 1);
+        self.first.try_reserve(most).map_err(|_| AllocError)?;
+        let (first, cut_at) = (&mut self.first, &mut self.cut_at);
+        if cut_at.is_some_and(|at| at <= now) {
+            let cut = match self.parser.waiting() {
+                ExtendedWaiting::Paste => self.parser.try_end_paste()?,
+                _ => self.parser.try_next_event(false)?,
+            };
+            first.extend(cut.map(Event::Input));
+            *cut_at = None;
+        }
+        self.parser.expire(now, |event| {
+            first.push_back(Event::Input(event));
+            *cut_at = None;
+        })
     }
 
     // Has this come next.
@@ -193,13 +255,81 @@ impl Events {
         self.first.push_back(event);
     }
 
-    fn note(&mut self, event: &ExtendedEvent) {
-        if self.wants_kitty && matches!(event, ExtendedEvent::KeyboardFlags(_)) {
-            self.parser.set_reading(Reading {
-                protocol: Protocol::Kitty,
-                ..self.parser.reading()
-            });
+    // Another program had the terminal. A paste or a string that is open goes on, unless nothing
+    // comes for too long. Nothing else that came before counts.
+    pub fn resume(&mut self, now: Instant) {
+        self.questions.forget_all();
+        self.expect_positions();
+        let are_dropped = loop {
+            match self.parser.try_next_event(true) {
+                Ok(Some(_)) => {}
+                other => break other.is_ok(),
+            }
+        };
+        self.cut_at = match self.parser.waiting() {
+            ExtendedWaiting::Paste | ExtendedWaiting::String if are_dropped => {
+                Some(now + Events::LONGEST_GAP)
+            }
+            _ => {
+                self.parser.reset();
+                None
+            }
+        };
+    }
+
+    pub fn questions(&self) -> &Questions {
+        &self.questions
+    }
+
+    // Notes that a question for the attributes is asked now, as `Questions::ask` does.
+    pub fn ask(
+        &mut self,
+        time: Duration,
+        positions: usize,
+        is_hidden: bool,
+    ) -> Result<u64, AllocError> {
+        self.forget_overdue();
+        let now = Instant::now();
+        let number = self.questions.ask(now, time, positions, is_hidden)?;
+        self.expect_positions();
+        Ok(number)
+    }
+
+    pub fn forget_overdue(&mut self) {
+        let before = self.questions.count();
+        self.questions.forget_overdue(Instant::now());
+        if self.questions.count() < before {
+            self.expect_positions();
         }
+    }
+
+    // Has the parser expect replies to the open questions for the cursor alone.
+    fn expect_positions(&mut self) {
+        let questions = u8::try_from(self.questions.positions()).unwrap_or(u8::MAX);
+        self.parser.set_reading(Reading {
+            questions,
+            ..self.parser.reading()
+        });
+    }
+
+    // Whether the event that came last answers a question for the attributes.
+    pub fn is_last_attributes(&self) -> bool {
+        self.first.back().is_some_and(Event::is_attributes)
+    }
+
+    // Takes the replies from this place on out of the events.
+    pub fn take_replies(&mut self, begin: usize) -> Result<Vec<ExtendedEvent>, AllocError> {
+        let count = self.first.range(begin..).filter(|it| it.is_reply()).count();
+        let mut replies = Vec::new();
+        replies.try_reserve_exact(count).map_err(|_| AllocError)?;
+        for place in 0..self.first.len() {
+            match self.first.pop_front() {
+                Some(event) if place < begin || !event.is_reply() => self.first.push_back(event),
+                Some(Event::Input(reply)) => replies.push(reply),
+                _ => {}
+            }
+        }
+        Ok(replies)
     }
 }
 

@@ -28,7 +28,8 @@ pub struct Modes {
     /// xterm reports keys that have no sequence of their own (modifyOtherKeys 2).
     pub other_keys: bool,
     /// The flags of Kitty's keyboard protocol. The terminal is asked for them too: once it replies,
-    /// keys are read by [`Protocol::Kitty`](crate::extended::Protocol::Kitty).
+    /// keys are read by [`Protocol::Kitty`](crate::extended::Protocol::Kitty). A
+    /// [`Terminal`](super::Terminal) asks ESC `[c` behind that, and keeps the reply to itself.
     pub keyboard: KittyKeyboardFlags,
     /// What else is written first, such as ESC `[?1049h` for the alternate screen.
     pub also_on: &'static str,

@@ -1,4 +1,5 @@
 // Raw mode, and the signals that come meanwhile.
+use super::leftover::Leftover;
 use super::unix::{self, Action, Settings};
 use super::unix::{SIGALRM, SIGCONT, SIGHUP, SIGINT, SIGQUIT, SIGTERM, SIGTSTP, SIGWINCH};
 use super::Modes;
@@ -10,7 +11,8 @@ use std::os::unix::net::UnixStream;
 use std::sync::atomic::Ordering::SeqCst;
 use std::sync::atomic::{AtomicBool, AtomicI32, AtomicPtr, AtomicUsize};
 use std::sync::OnceLock;
-use std::{fmt, ptr, thread};
+use std::time::Duration;
+use std::{fmt, process, ptr, thread};
 
 // The terminal of the one guard that there may be, for the handler of signals.
 static ENTERED: AtomicPtr<Entered> = AtomicPtr::new(ptr::null_mut());
@@ -19,9 +21,10 @@ static USERS: AtomicUsize = AtomicUsize::new(0);
 // Whether the terminal is in raw mode, and whether its modes are still to be turned off.
 static IS_RAW: AtomicBool = AtomicBool::new(false);
 static IS_SWITCHED: AtomicBool = AtomicBool::new(false);
-// Signals are noted while the terminal is being set, and where a loop heeds them, unless another
-// program was lent the terminal meanwhile.
+// Whether somebody sets the terminal: see `Turn`.
 static IS_BUSY: AtomicBool = AtomicBool::new(false);
+// Where a loop heeds signals they are only noted, unless another program was lent the terminal. Both
+// change while it is somebody's turn.
 static HAS_LOOP: AtomicBool = AtomicBool::new(false);
 static IS_LENT: AtomicBool = AtomicBool::new(false);
 // What was noted.
@@ -41,6 +44,41 @@ struct Switches {
     off: String,
 }
 
+impl Switches {
+    // Whether they turn mouse reports on.
+    fn have_mouse(&self) -> bool {
+        let modes = ["\x1b[?9h", "\x1b[?1000h", "\x1b[?1002h", "\x1b[?1003h"];
+        modes.iter().any(|on| self.on.contains(on))
+    }
+}
+
+// The turn to set the terminal, which one call has at a time. A handler that doesn't get it notes its
+// signal, and whoever has it does what was noted at its end.
+struct Turn;
+
+impl Turn {
+    fn take() -> Option<Turn> {
+        let taken = IS_BUSY.compare_exchange(false, true, SeqCst, SeqCst);
+        taken.ok().map(|_| Turn)
+    }
+
+    // Not for a handler: the call that it interrupted may have the turn.
+    fn wait() -> Turn {
+        loop {
+            match Turn::take() {
+                Some(turn) => return turn,
+                None => thread::yield_now(),
+            }
+        }
+    }
+}
+
+impl Drop for Turn {
+    fn drop(&mut self) {
+        IS_BUSY.store(false, SeqCst);
+    }
+}
+
 // A terminal that is in raw mode, or was left for another program.
 struct Entered {
     input: File,
@@ -52,14 +90,30 @@ struct Entered {
     own: AtomicPtr<Switches>,
     // The signals that are handled, and what each did before.
     before: Vec<(c_int, Action)>,
+    leftover: Leftover,
+    // The process whose terminal it is. A child of fork has a copy of all this.
+    owner: u32,
 }
 
 impl Entered {
+    fn is_owner(&self) -> bool {
+        process::id() == self.owner
+    }
+
+    // Whether the terminal wasn't left, and nobody else has set it since.
+    fn is_kept(&self) -> bool {
+        let settings = Settings::of(self.input.as_raw_fd());
+        IS_RAW.load(SeqCst) && settings.is_ok_and(|settings| settings.is_raw())
+    }
+
     // Sets raw mode. What was typed ahead is kept. Around SIGSTOP the terminal was never left: then
     // modes are turned off first, since some of them nest.
     fn enter(&self) -> io::Result<()> {
-        self.raw.apply(self.input.as_raw_fd())?;
+        if !self.is_owner() {
+            return Ok(());
+        }
         IS_RAW.store(true, SeqCst);
+        self.raw.apply(self.input.as_raw_fd())?;
         self.turn_off(unix::write_all)?;
         IS_SWITCHED.store(true, SeqCst);
         for switches in [&self.modes, self.own()] {
@@ -73,23 +127,39 @@ impl Entered {
         unsafe { &*self.own.load(SeqCst) }
     }
 
-    // Restores the terminal, unless another program has it, and discards what it sent meanwhile,
-    // so that no mouse report reaches the shell. One that is gone can't be restored, so errors
+    fn has_mouse(&self) -> bool {
+        self.modes.have_mouse() || self.own().have_mouse()
+    }
+
+    // Restores the terminal, unless another program has it. What the terminal still sends is read, or
+    // else discarded, so that neither a reply nor a mouse report reaches the shell. What was typed
+    // ahead is kept where neither may come. A terminal that is gone can't be restored, so errors
     // count for nothing.
     fn leave(&self) {
-        if IS_RAW.load(SeqCst) {
+        if IS_RAW.load(SeqCst) && self.is_owner() {
             let _ = io::stdout().flush();
             let _ = self.turn_off(unix::write_all);
-            let _ = self.saved.apply_and_discard(self.input.as_raw_fd());
+            let input = self.input.as_raw_fd();
+            let has_mouse = self.has_mouse();
+            let _ = if self.leftover.read(&self.input, &self.output, has_mouse) {
+                self.saved.apply(input)
+            } else {
+                self.saved.apply_and_discard(input)
+            };
             IS_RAW.store(false, SeqCst);
         }
     }
 
-    // Does the same in a handler, where what can't be written at once is left out.
+    // Does the same in a handler, where what can't be written at once is left out, and nothing is
+    // read.
     fn leave_at_once(&self) {
         if IS_RAW.swap(false, SeqCst) {
             let _ = self.turn_off(unix::write_at_once);
-            let _ = self.saved.apply_at_once(self.input.as_raw_fd());
+            let input = self.input.as_raw_fd();
+            if self.has_mouse() || self.leftover.may_come() {
+                unix::discard(input);
+            }
+            let _ = self.saved.apply_at_once(input);
         }
     }
 
@@ -103,53 +173,50 @@ impl Entered {
         Ok(())
     }
 
-    // Does what a signal asks for. A handler calls it.
-    fn act(&self, number: c_int) {
-        IS_BUSY.store(true, SeqCst);
+    // Does what was noted, unless a loop will, or the call that has the turn does so at its end. A
+    // handler calls it.
+    fn act_on_noted(&self) {
+        while is_noted() && !is_for_loop() {
+            let Some(_turn) = Turn::take() else { return };
+            self.act();
+        }
+    }
+
+    fn act(&self) {
+        if is_for_loop() {
+            return;
+        }
         let was_raw = IS_RAW.load(SeqCst);
-        match number {
-            SIGCONT => {}
-            SIGINT | SIGQUIT if IS_LENT.load(SeqCst) => {} // typed for the other program
-            SIGTSTP => {
-                self.leave_at_once();
-                self.stop();
-            }
-            _ => {
-                self.leave_at_once();
-                self.send_as_before(number);
-            }
+        CONTINUED.store(false, SeqCst);
+        if let Some(number) = take_ending() {
+            self.leave_at_once();
+            self.send_as_before(number);
+        } else if STOPPING.swap(false, SeqCst) {
+            self.leave_at_once();
+            self.stop();
         }
         // A signal that ends the program comes before raw mode, by which a program in the background
         // would be stopped once more.
-        if was_raw && ENDING.load(SeqCst) == 0 {
+        if was_raw && ENDING.load(SeqCst) == 0 && !self.is_kept() {
             let _ = self.enter();
         }
-        self.settle();
     }
 
-    // The terminal is set now: does what was noted meanwhile, unless a loop will.
-    fn settle(&self) {
-        IS_BUSY.store(false, SeqCst);
-        if is_noting() {
-            return;
-        }
-        let is_continued = CONTINUED.swap(false, SeqCst);
-        let is_stopping = STOPPING.swap(false, SeqCst);
-        match take_ending() {
-            Some(number) => self.act(number),
-            None if is_stopping => self.act(SIGTSTP),
-            None if is_continued => self.act(SIGCONT),
-            None => {}
-        }
-    }
-
-    // Has a signal do what it did before it was handled.
+    // Has a signal do what it did before it was handled, until it is handled again.
     fn send_as_before(&self, number: c_int) {
-        let before = self.before.iter().find(|(it, _)| *it == number);
-        if before.is_some_and(|(_, action)| action.set(number).is_ok()) {
-            unix::send(number);
-            let _ = Action::handled_by(handle).set(number);
+        if self.give_back(number) {
+            let _ = handled(number).set(number);
         }
+    }
+
+    // Has a signal do what it did before it was handled. Returns whether it was handled.
+    fn give_back(&self, number: c_int) -> bool {
+        let before = self.before.iter().find(|(it, _)| *it == number);
+        let is_set = before.is_some_and(|(_, action)| action.set(number).is_ok());
+        if is_set {
+            unix::send(number);
+        }
+        is_set
     }
 
     // Stops as a program does that handles no SIGTSTP. Returns once it is continued, or at once if no
@@ -161,8 +228,12 @@ impl Entered {
     }
 }
 
-fn is_noting() -> bool {
-    IS_BUSY.load(SeqCst) || HAS_LOOP.load(SeqCst) && !IS_LENT.load(SeqCst)
+fn is_noted() -> bool {
+    ENDING.load(SeqCst) != 0 || STOPPING.load(SeqCst) || CONTINUED.load(SeqCst)
+}
+
+fn is_for_loop() -> bool {
+    HAS_LOOP.load(SeqCst) && !IS_LENT.load(SeqCst)
 }
 
 // Calls a function with the terminal of the guard, if there is one.
@@ -182,13 +253,24 @@ fn wait_for_users() {
     }
 }
 
+// What a signal does while there is a guard. One that comes again and again doesn't interrupt its own
+// handler, unless that has to send it.
+fn handled(number: c_int) -> Action {
+    Action::handled_by(handle, !matches!(number, SIGCONT | SIGWINCH | SIGALRM))
+}
+
 extern "C" fn handle(number: c_int) {
     unix::keep_errno(|| {
         with_entered(|entered| match number {
+            _ if !entered.is_owner() => {
+                entered.give_back(number);
+            }
             SIGALRM => end_at_once(entered),
-            SIGWINCH => note(number),
-            _ if is_noting() => note(number),
-            _ => entered.act(number),
+            SIGINT | SIGQUIT if IS_LENT.load(SeqCst) => {} // typed for the other program
+            _ => {
+                note(number);
+                entered.act_on_noted();
+            }
         });
     });
 }
@@ -263,8 +345,8 @@ pub enum Heeded {
     Nothing,
     /// The terminal has a new size.
     Resized,
-    /// Another program had the terminal: what was buffered before no longer counts, and the size may
-    /// be new.
+    /// Another program had the terminal. What was begun before no longer counts, but an open paste
+    /// goes on. The size may be new.
     Resumed,
     /// A signal ends the program, which drops the guard.
     Ending,
@@ -276,15 +358,20 @@ pub enum Heeded {
 /// line that is written still ends with LF. What [`Modes`] says is turned on, and off again.
 ///
 /// The terminal is restored too before SIGHUP, SIGINT, SIGQUIT or SIGTERM does what it did before the
-/// guard, which ends most programs, and before SIGTSTP stops it. After SIGCONT it is in raw mode again, also if SIGSTOP had stopped the
-/// program. A guard of [`RawMode::new`] does all this in the handler of the signal. That of
+/// guard, which ends most programs, and before SIGTSTP stops it. After SIGCONT it is in raw mode
+/// again, if another program had it: one that SIGSTOP had stopped may find it as it was.
+///
+/// A guard of [`RawMode::new`] does all this in the handler of the signal. That of
 /// [`RawMode::noting`] is for a program with a loop, which hears of signals by [`RawMode::heed`].
 /// Once the guard is dropped, these signals do what they did before, and one that was noted is sent
 /// again. SIGALRM is handled too. A signal that was ignored before stays ignored.
 ///
-/// A program has one guard at a time. Nothing is restored by other signals that end the program, by
-/// `abort` or by `std::process::exit`: call [`restore`] before these, and in a hook for panics that
-/// abort.
+/// What was typed ahead is left for the shell. Only what comes with mouse reports is discarded, or
+/// with the reply about Kitty's flags: nobody tells the guard whether that came.
+///
+/// A program has one guard at a time. A child of fork has a copy, which leaves the terminal to the
+/// parent. Nothing is restored by other signals that end the program, by `abort` or by
+/// `std::process::exit`: call [`restore`] before these, and in a hook for panics that abort.
 ///
 /// ```no_run
 /// use hedrugal::terminal::{Modes, RawMode};
@@ -355,14 +442,15 @@ impl RawMode {
     ) -> io::Result<RawMode> {
         let wake = wake()?;
         claim(Entered::find(modes, has_loop, saved)?)?;
-        IS_BUSY.store(true, SeqCst);
-        HAS_LOOP.store(has_loop, SeqCst);
         let guard = RawMode { wake };
+        let turn = Turn::wait();
+        HAS_LOOP.store(has_loop, SeqCst);
         for (number, _) in &guard.entered().before {
-            Action::handled_by(handle).set(*number)?;
+            handled(*number).set(*number)?;
         }
         guard.entered().enter()?;
-        guard.entered().settle();
+        drop(turn);
+        guard.entered().act_on_noted();
         Ok(guard)
     }
 
@@ -453,6 +541,7 @@ impl RawMode {
     /// If raw mode can't be set again.
     pub fn heed(&mut self) -> io::Result<Heeded> {
         while self.wake.read(&mut [0; 64]).is_ok() {}
+        let _turn = Turn::wait();
         let is_stopping = self.is_stopping();
         if is_stopping {
             self.entered().leave();
@@ -461,7 +550,8 @@ impl RawMode {
         if self.ending().is_some() {
             return Ok(Heeded::Ending); // before raw mode is set once more
         }
-        if CONTINUED.swap(false, SeqCst) || is_stopping {
+        let is_continued = CONTINUED.swap(false, SeqCst);
+        if is_stopping || is_continued && !self.entered().is_kept() {
             RESIZED.store(false, SeqCst);
             self.entered().enter()?;
             return Ok(Heeded::Resumed);
@@ -544,16 +634,24 @@ impl RawMode {
     ///
     /// If raw mode can't be set again.
     pub fn lend<T>(&mut self, call: impl FnOnce() -> T) -> io::Result<T> {
-        IS_BUSY.store(true, SeqCst);
-        self.entered().leave();
+        let turn = Turn::wait();
         IS_LENT.store(true, SeqCst);
-        self.entered().settle();
+        self.entered().leave();
+        drop(turn);
+        self.entered().act_on_noted();
         let done = call();
-        IS_BUSY.store(true, SeqCst);
+        let turn = Turn::wait();
         IS_LENT.store(false, SeqCst);
         self.entered().enter()?;
-        self.entered().settle();
+        drop(turn);
+        self.entered().act_on_noted();
         Ok(done)
+    }
+
+    // Tells the guard how many replies to a question for the attributes are owed, and the longest
+    // time that one took.
+    pub(super) fn set_owed(&self, owed: usize, longest: Option<Duration>) {
+        self.entered().leftover.set(owed, longest);
     }
 }
 
@@ -587,6 +685,8 @@ impl Entered {
                 off: modes.off(),
             },
             own: AtomicPtr::new(Box::into_raw(Box::default())),
+            leftover: Leftover::new(!modes.keyboard.is_empty()),
+            owner: process::id(),
         })
     }
 }
@@ -620,12 +720,14 @@ fn claim(entered: Entered) -> io::Result<()> {
 /// }));
 /// ```
 pub fn restore() {
+    // A guard that is dropped meanwhile has the turn, and waits for all users.
+    let _turn = Turn::wait();
     with_entered(Entered::leave);
 }
 
 impl Drop for RawMode {
     fn drop(&mut self) {
-        IS_BUSY.store(true, SeqCst);
+        let turn = Turn::wait();
         self.entered().leave();
         for (number, before) in &self.entered().before {
             let _ = before.set(*number);
@@ -634,22 +736,16 @@ impl Drop for RawMode {
         wait_for_users();
         // SAFETY: this guard put it there, and no handler has it any more.
         drop(unsafe { Box::from_raw(entered) });
+        for flag in [&HAS_LOOP, &IS_LENT, &IS_SWITCHED, &CONTINUED, &RESIZED] {
+            flag.store(false, SeqCst);
+        }
+        drop(turn);
         send_noted();
     }
 }
 
 // Sends what was noted and not heeded to what handles it now.
 fn send_noted() {
-    for flag in [
-        &IS_BUSY,
-        &HAS_LOOP,
-        &IS_LENT,
-        &IS_SWITCHED,
-        &CONTINUED,
-        &RESIZED,
-    ] {
-        flag.store(false, SeqCst);
-    }
     let is_stopping = STOPPING.swap(false, SeqCst);
     match take_ending() {
         Some(number) => unix::send(number),

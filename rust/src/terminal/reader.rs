@@ -1,5 +1,6 @@
 // A terminal that a program reads events from.
 use super::events::{refused, Events};
+use super::questions::{ATTRIBUTES, POSITION};
 use super::unix::{self, Settings, EIO};
 use super::{Event, Heeded, Modes, RawMode};
 use crate::extended::ExtendedEvent;
@@ -11,6 +12,8 @@ use std::time::{Duration, Instant};
 
 // The most bytes that are read at once.
 const READ: usize = 4096;
+// So many events stay for the program at most while a question waits for its replies.
+const MOST_EVENTS: usize = 1 << 16;
 
 /// What [`Terminal::ask`] was answered.
 ///
@@ -45,6 +48,9 @@ pub struct Answers {
 /// then saves what it has to, within a second, and drops the terminal. That restores it, and sends
 /// the signal again, which ends the program.
 ///
+/// When the terminal is left, replies that it still owes are read first, so that a shell doesn't get
+/// them. That takes a second at most. What was typed before such a reply is lost.
+///
 /// ```no_run
 /// use hedrugal::input::MouseTracking;
 /// use hedrugal::terminal::{Modes, Terminal};
@@ -62,6 +68,7 @@ pub struct Terminal {
     events: Events,
     // What was read and refused memory by the parser. It never grows.
     unfed: Vec<u8>,
+    asks_for_flags: bool,
     raw_mode: RawMode,
 }
 
@@ -106,11 +113,24 @@ impl Terminal {
 
     // `saved` has the settings to restore, if they aren't those of now.
     pub(crate) fn begin(modes: Modes, saved: Option<Settings>) -> io::Result<Terminal> {
-        Ok(Terminal {
+        let mut terminal = Terminal {
             events: Events::new(&modes).map_err(refused)?,
             unfed: Vec::with_capacity(READ),
+            asks_for_flags: !modes.keyboard.is_empty(),
             raw_mode: RawMode::begin(modes, true, saved)?,
-        })
+        };
+        terminal.count_flags()?;
+        Ok(terminal)
+    }
+
+    // The guard has asked for the flags of Kitty's protocol, if they are wanted. A question that is
+    // always answered tells when their reply is owed no longer.
+    fn count_flags(&mut self) -> io::Result<()> {
+        if self.asks_for_flags {
+            self.ask_attributes("", Duration::ZERO, true)?;
+        }
+        self.tell_owed();
+        Ok(())
     }
 
     /// Waits for an event. Returns `None` at the end of the input, where the terminal is gone, and
@@ -130,7 +150,10 @@ impl Terminal {
     ///
     /// If the terminal can't be read, or with `OutOfMemory`. No event is lost: call again.
     pub fn read(&mut self) -> io::Result<Option<Event>> {
-        self.read_until(None)
+        if self.events.count() == 0 {
+            self.read_event(None)?;
+        }
+        self.next_event()
     }
 
     /// Waits for an event, at most for so long. Returns whether [`Terminal::read`] returns at once:
@@ -151,10 +174,8 @@ impl Terminal {
     ///
     /// Those of [`Terminal::read`].
     pub fn poll(&mut self, time: Duration) -> io::Result<bool> {
-        let event = self.read_until(Some(time))?;
-        let is_there = event.is_some() || self.is_over();
-        self.events.put_back(event.into_iter());
-        Ok(is_there)
+        let end = Instant::now().checked_add(time);
+        Ok(self.events.count() > 0 || self.read_event(end)? || self.is_over())
     }
 
     /// Asks the terminal, and waits for its replies, at most for so long. Other events that come
@@ -163,6 +184,13 @@ impl Terminal {
     /// A terminal doesn't reply to a question that it doesn't know. So ESC `[c`, to which all reply,
     /// is asked last, and the call returns as soon as that is answered. Each ESC `[6n` in the
     /// questions is expected to be answered by a position, whose bytes may be those of an F3.
+    ///
+    /// A reply that comes later is an event, and answers no later question. The reply to ESC `[c` is
+    /// awaited for two seconds, or for `time` if that is longer. One that comes after that, while
+    /// another question is open, can't be told from the reply to it.
+    ///
+    /// The call also returns where another program had the terminal meanwhile, and once 65,536
+    /// events stay for [`Terminal::read`]. The answers aren't whole then.
     ///
     /// ```no_run
     /// use hedrugal::extended::ExtendedEvent;
@@ -185,48 +213,54 @@ impl Terminal {
     /// Those of [`Terminal::read`], or if the questions can't be written. The replies that came before
     /// stay for [`Terminal::read`], in their order with the other events.
     pub fn ask(&mut self, questions: &str, time: Duration) -> io::Result<Answers> {
-        for _ in questions.matches("\x1b[6n") {
-            self.events.parser().expect_position();
-        }
-        let mut came = Vec::new();
-        let asked = self.write_questions(questions);
-        let is_whole = asked.and_then(|()| self.read_up_to_attributes(time, &mut came));
-        self.events.parser().forget_positions();
-        let (replies, others): (Vec<_>, Vec<_>) = came
-            .into_iter()
-            .partition(|event| is_whole.is_ok() && event.is_reply());
-        self.events.put_back(others.into_iter());
+        let end = Instant::now().checked_add(time);
+        while self.pull()? {} // what came before is no reply
+        let number = self.ask_attributes(questions, time, false)?;
+        let begin = self.read_replies(number, end)?;
         Ok(Answers {
-            is_whole: is_whole?,
-            events: replies.into_iter().filter_map(Event::into_input).collect(),
+            events: self.events.take_replies(begin).map_err(refused)?,
+            is_whole: self.events.questions().is_answered(number),
         })
     }
 
-    fn write_questions(&self, questions: &str) -> io::Result<()> {
+    // Asks these questions, and last one that is always answered. Returns its number.
+    fn ask_attributes(
+        &mut self,
+        questions: &str,
+        time: Duration,
+        is_hidden: bool,
+    ) -> io::Result<u64> {
+        let positions = questions.matches(POSITION).count();
+        let asked = self.events.ask(time, positions, is_hidden);
+        let number = asked.map_err(refused)?;
+        self.tell_owed();
         io::stdout().flush()?;
         let output = self.raw_mode.output().as_raw_fd();
         unix::write_all(output, questions.as_bytes())?;
-        unix::write_all(output, b"\x1b[c")
+        unix::write_all(output, ATTRIBUTES)?;
+        Ok(number)
     }
 
-    // Reads events until the last question is answered, at most for so long. Returns whether it is.
-    fn read_up_to_attributes(&mut self, time: Duration, came: &mut Vec<Event>) -> io::Result<bool> {
-        let end = Instant::now().checked_add(time);
-        loop {
-            let left = end.map(|end| end.saturating_duration_since(Instant::now()));
-            let Some(event) = self.read_until(left)? else {
-                return Ok(false);
-            };
-            let is_last = event.is_attributes();
-            came.push(event);
-            if is_last.map_err(refused)? {
-                return Ok(true);
+    // Reads events until the last question is answered, at most up to a time, while there is room.
+    // Returns the place of the first one behind what answers earlier questions.
+    fn read_replies(&mut self, number: u64, end: Option<Instant>) -> io::Result<usize> {
+        let mut begin = self.events.count();
+        while self.events.questions().is_owed(number) && self.events.count() < MOST_EVENTS {
+            if !self.read_event(end)? {
+                break;
+            }
+            let questions = self.events.questions();
+            let is_earlier = !questions.is_next(number) || self.events.is_last_attributes();
+            if questions.is_owed(number) && is_earlier {
+                begin = self.events.count();
             }
         }
+        Ok(begin)
     }
 
     /// Lends the terminal as it was to what a function runs, such as an editor, as
-    /// [`RawMode::lend`] does. What was typed before and is no event yet no longer counts.
+    /// [`RawMode::lend`] does. A paste or a string that is open goes on after it. Nothing else that
+    /// was typed before and is no event yet counts any more.
     ///
     /// ```no_run
     /// use hedrugal::terminal::Terminal;
@@ -240,8 +274,9 @@ impl Terminal {
     ///
     /// If raw mode can't be set again.
     pub fn lend<T>(&mut self, call: impl FnOnce() -> T) -> io::Result<T> {
+        self.forget_overdue();
         let done = self.raw_mode.lend(call)?;
-        self.events.parser().reset();
+        self.resume()?;
         Ok(done)
     }
 
@@ -355,17 +390,17 @@ impl Terminal {
         [self.raw_mode.input().as_fd(), self.raw_mode.wake()]
     }
 
-    // The next event, if it comes within this time.
-    fn read_until(&mut self, time: Option<Duration>) -> io::Result<Option<Event>> {
-        let end = time.and_then(|time| Instant::now().checked_add(time));
+    // Waits for an event at most up to a time, and has it come last of those that are there. Returns
+    // whether one came.
+    fn read_event(&mut self, end: Option<Instant>) -> io::Result<bool> {
+        let count = self.events.count();
         loop {
-            let event = self.next_event()?;
-            if event.is_some() || self.is_over() {
-                return Ok(event);
+            if self.pull()? || self.events.count() > count {
+                return Ok(true);
             }
             let left = end.map(|end| end.saturating_duration_since(Instant::now()));
-            if !self.wait(left)? && left == Some(Duration::ZERO) {
-                return self.next_event();
+            if self.is_over() || !self.wait(left)? && left == Some(Duration::ZERO) {
+                return Ok(self.pull()? || self.events.count() > count);
             }
         }
     }
@@ -377,21 +412,36 @@ impl Terminal {
 
     // An event that is there.
     pub(crate) fn next_event(&mut self) -> io::Result<Option<Event>> {
+        if self.events.count() == 0 {
+            self.pull()?;
+        }
+        Ok(self.events.pop())
+    }
+
+    // Has the next event of what was read come last of those that are there. Returns whether there
+    // was one.
+    fn pull(&mut self) -> io::Result<bool> {
         if !self.unfed.is_empty() {
             self.events.feed(&self.unfed).map_err(refused)?;
             self.unfed.clear();
         }
-        self.events.next().map_err(refused)
+        let owed = self.events.questions().count();
+        let pulled = self.events.pull().map_err(refused);
+        if self.events.questions().count() != owed {
+            self.tell_owed();
+        }
+        pulled
     }
 
-    // Waits for input, a signal or a limit in time, at most for so long. Bytes that are there go
-    // before a limit, since they may complete what is overdue. Returns whether input or a signal
-    // came.
-    fn wait(&mut self, time: Option<Duration>) -> io::Result<bool> {
-        let limits = [time, self.timeout()];
+    // Waits for input, a signal or a limit in time, at most for so long. Nothing is flushed unless
+    // nothing was there once its limit had passed: what is there may complete it. Returns whether
+    // input or a signal came.
+    pub(crate) fn wait(&mut self, time: Option<Duration>) -> io::Result<bool> {
+        let now = Instant::now();
+        let limits = [time, self.events.timeout(now)];
         let came = self.handle_ready(limits.into_iter().flatten().min())?;
         if !came {
-            self.expire()?;
+            self.events.expire(now).map_err(refused)?;
         }
         Ok(came)
     }
@@ -416,10 +466,12 @@ impl Terminal {
     }
 
     fn heed(&mut self) -> io::Result<()> {
+        self.forget_overdue();
         match self.raw_mode.heed()? {
             Heeded::Resumed => {
-                self.events.parser().reset();
+                self.resume()?;
                 self.events.push(Event::Resumed);
+                self.note_size();
             }
             Heeded::Resized => self.note_size(),
             Heeded::Nothing | Heeded::Ending => {}
@@ -434,8 +486,24 @@ impl Terminal {
         }
     }
 
-    pub(crate) fn expire(&mut self) -> io::Result<()> {
-        self.events.expire(Instant::now()).map_err(refused)
+    // Another program had the terminal.
+    fn resume(&mut self) -> io::Result<()> {
+        let _ = self.events.feed(&self.unfed); // of a paste that is open
+        self.unfed.clear();
+        self.events.resume(Instant::now());
+        self.count_flags()
+    }
+
+    // Has the guard know what the terminal still owes, for when it is left.
+    fn forget_overdue(&mut self) {
+        self.events.forget_overdue();
+        self.tell_owed();
+    }
+
+    fn tell_owed(&self) {
+        let questions = self.events.questions();
+        self.raw_mode
+            .set_owed(questions.count(), questions.longest());
     }
 
     // Reads what is there. A terminal that is gone is at its end.
@@ -449,6 +517,34 @@ impl Terminal {
                 if matches!(error.kind(), ErrorKind::WouldBlock | ErrorKind::Interrupted) => {}
             Err(error) => return Err(error),
         }
+        Ok(())
+    }
+}
+
+impl Drop for Terminal {
+    fn drop(&mut self) {
+        self.forget_overdue();
+    }
+}
+
+/// Writes to the terminal, also if standard output is none or another program set it not to wait:
+/// then this waits for room. `println!` fails there.
+///
+/// ```no_run
+/// use hedrugal::terminal::Terminal;
+/// use std::io::Write;
+///
+/// let mut terminal = Terminal::open()?;
+/// terminal.write_all(b"q ends\n")?;
+/// # Ok::<(), std::io::Error>(())
+/// ```
+impl Write for Terminal {
+    fn write(&mut self, bytes: &[u8]) -> io::Result<usize> {
+        unix::write_waiting(self.raw_mode.output().as_raw_fd(), bytes)
+    }
+
+    /// Does nothing: no byte is kept here.
+    fn flush(&mut self) -> io::Result<()> {
         Ok(())
     }
 }

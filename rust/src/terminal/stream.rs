@@ -113,7 +113,10 @@ impl EventStream {
             }
             match self.terminal.timeout() {
                 None => return Poll::Pending,
-                Some(Duration::ZERO) => self.terminal.expire()?,
+                // The runtime may not have looked since the limit passed, so the terminal does.
+                Some(Duration::ZERO) => {
+                    self.terminal.wait(Some(Duration::ZERO))?;
+                }
                 Some(time) => {
                     self.sleep.as_mut().reset(Instant::now() + time);
                     ready!(self.sleep.as_mut().poll(context));

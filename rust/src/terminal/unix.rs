@@ -84,7 +84,7 @@ fn checked(answer: c_int) -> io::Result<c_int> {
 /// The settings of a terminal, a `struct termios`: its flags, and what only the C library looks
 /// into. Its own has 60 bytes.
 #[repr(C)]
-#[derive(Clone, Copy)]
+#[derive(Clone, Copy, PartialEq)]
 pub struct Settings {
     input: c_uint,
     output: c_uint,
@@ -117,6 +117,11 @@ impl Settings {
         self
     }
 
+    /// Whether these are settings in raw mode.
+    pub fn is_raw(&self) -> bool {
+        self.to_raw() == *self
+    }
+
     /// Sets the terminal once its output is written.
     pub fn apply(&self, terminal: RawFd) -> io::Result<()> {
         self.set(terminal, TCSADRAIN)
@@ -127,10 +132,8 @@ impl Settings {
         self.set(terminal, TCSAFLUSH)
     }
 
-    /// Discards the input, and sets the terminal without a wait. A handler of a signal may call it.
+    /// Sets the terminal without a wait. A handler of a signal may call it.
     pub fn apply_at_once(&self, terminal: RawFd) -> io::Result<()> {
-        // SAFETY: the call has no pointers.
-        unsafe { tcflush(terminal, TCIFLUSH) };
         self.set(terminal, TCSANOW)
     }
 
@@ -143,6 +146,12 @@ impl Settings {
             }
         }
     }
+}
+
+/// Discards the input that nobody has read. A handler of a signal may call it.
+pub fn discard(terminal: RawFd) {
+    // SAFETY: the call has no pointers.
+    unsafe { tcflush(terminal, TCIFLUSH) };
 }
 
 /// Returns the columns and rows of a terminal.
@@ -190,17 +199,24 @@ fn write_some(descriptor: RawFd, bytes: &[u8]) -> io::Result<usize> {
     usize::try_from(count).map_err(|_| io::Error::last_os_error())
 }
 
-/// Writes all bytes, also to a descriptor that doesn't block. A handler of a signal may call it.
-pub fn write_all(descriptor: RawFd, mut bytes: &[u8]) -> io::Result<()> {
-    while !bytes.is_empty() {
+/// Writes some bytes once there is room, also to a descriptor that doesn't block.
+pub fn write_waiting(descriptor: RawFd, bytes: &[u8]) -> io::Result<usize> {
+    loop {
         match write_some(descriptor, bytes) {
-            Ok(count) => bytes = &bytes[count..],
             Err(error) if error.kind() == io::ErrorKind::Interrupted => {}
             Err(error) if error.kind() == io::ErrorKind::WouldBlock => {
                 has_room(descriptor, -1);
             }
-            Err(error) => return Err(error),
+            answer => return answer,
         }
+    }
+}
+
+/// Writes all bytes so. A handler of a signal may call it.
+pub fn write_all(descriptor: RawFd, mut bytes: &[u8]) -> io::Result<()> {
+    while !bytes.is_empty() {
+        let count = write_waiting(descriptor, bytes)?;
+        bytes = &bytes[count..];
     }
     Ok(())
 }
@@ -226,11 +242,12 @@ impl Action {
         restorer: 0,
     };
 
-    /// A handler. Calls of the system go on after it, and it may be interrupted by any signal.
-    pub fn handled_by(handler: extern "C" fn(c_int)) -> Action {
+    /// A handler. Calls of the system go on after it. Other signals may interrupt it, and its own if
+    /// it is nested.
+    pub fn handled_by(handler: extern "C" fn(c_int), is_nested: bool) -> Action {
         Action {
             handler: handler as *const () as usize,
-            flags: SA_RESTART | SA_NODEFER,
+            flags: SA_RESTART | if is_nested { SA_NODEFER } else { 0 },
             ..Action::DEFAULT
         }
     }

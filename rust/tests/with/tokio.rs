@@ -5,11 +5,17 @@
 mod malloc;
 
 use bytes::BytesMut;
+use futures_core::Stream;
 use hedrugal::terminal::{Event, EventDecoder, Modes};
-use std::future::poll_fn;
-use std::pin::Pin;
+use std::future::{poll_fn, Future};
+use std::io::{self, Write};
+use std::pin::{pin, Pin};
+use std::task::Poll;
 use std::time::Duration;
-use tokio::io::{duplex, AsyncWriteExt};
+use tokio::io::{duplex, AsyncRead, AsyncWriteExt};
+use tokio::net::UnixStream;
+use tokio::task::yield_now;
+use tokio::time::timeout;
 use tokio_util::codec::{Decoder, FramedRead};
 
 const SENT: &[u8] = b"a\x1b[A\x1b[200~text\x1b[201~\x1b[24;80R\x1b]11;rgb:1/2/3\x1b\\\xc3\xa9\x1b";
@@ -87,7 +93,7 @@ fn gives_a_long_paste_in_parts() {
 // What a refused request was for comes once more, and what came before it, too.
 #[test]
 fn loses_no_event_if_memory_is_refused() {
-    for number in [1, 3, 4] {
+    for number in [1, 2, 3] {
         let mut decoder = decoder();
         let mut bytes = BytesMut::from(&b"ab\x1b[?6c"[..]);
         let first = decoder.decode(&mut bytes).expect("memory is granted");
@@ -117,9 +123,27 @@ fn reads_by_kittys_protocol_once_a_reply_came() {
     );
 }
 
-// What a server does: it waits for the next event, and for the limit in time.
+// What a server does: it waits for the next event, and for the limit in time. Then it looks once
+// more. Returns `None` at the end.
+async fn next_events<C: AsyncRead + Unpin>(
+    frames: &mut FramedRead<C, EventDecoder>,
+) -> io::Result<Option<Vec<Event>>> {
+    let mut time = frames.decoder_mut().timeout().unwrap_or(Duration::MAX);
+    for is_over in [false, true] {
+        if is_over {
+            yield_now().await; // the runtime looks at the connection
+            time = Duration::ZERO;
+        }
+        let next = poll_fn(|context| Pin::new(&mut *frames).poll_next(context));
+        if let Ok(event) = timeout(time, next).await {
+            return event.transpose().map(|event| event.map(|it| vec![it]));
+        }
+    }
+    frames.decoder_mut().expire().map(Some)
+}
+
 #[tokio::test]
-async fn reads_a_connection_with_limits() {
+async fn reads_a_connection_with_limits() -> io::Result<()> {
     let (mut terminal, server) = duplex(64);
     let sends = tokio::spawn(async move {
         terminal.write_all(b"a\x1b").await.expect("it is read");
@@ -128,20 +152,30 @@ async fn reads_a_connection_with_limits() {
     });
     let mut frames = FramedRead::new(server, decoder());
     let mut events = Vec::new();
-    loop {
-        let time = frames.decoder_mut().timeout().unwrap_or(Duration::MAX);
-        let next =
-            poll_fn(|context| futures_core::Stream::poll_next(Pin::new(&mut frames), context));
-        tokio::select! {
-            event = next => match event {
-                Some(event) => events.push(event.expect("memory is granted")),
-                None => break,
-            },
-            () = tokio::time::sleep(time) => {
-                events.extend(frames.decoder_mut().expire().expect("memory is granted"));
-            }
-        }
+    while let Some(next) = next_events(&mut frames).await? {
+        events.extend(next);
     }
     sends.await.expect("all is sent");
     assert_eq!(names(&events), ["a", "escape", "[", "A"]);
+    Ok(())
+}
+
+// The runtime looked at the connection when the limit passed, and not since.
+#[tokio::test]
+async fn reads_what_came_before_the_task_went_on() -> io::Result<()> {
+    let (mut terminal, server) = std::os::unix::net::UnixStream::pair()?;
+    server.set_nonblocking(true)?;
+    let mut frames = FramedRead::new(UnixStream::from_std(server)?, decoder());
+    for _ in 0..2 {
+        terminal.write_all(b"a\x1b")?;
+        let events = next_events(&mut frames).await?.unwrap_or_default();
+        assert_eq!(names(&events), ["a"]);
+        let mut next = pin!(next_events(&mut frames));
+        let first = poll_fn(|context| Poll::Ready(next.as_mut().poll(context))).await;
+        assert!(first.is_pending(), "ESC waits");
+        tokio::time::sleep(Duration::from_millis(80)).await;
+        terminal.write_all(b"[A")?;
+        assert_eq!(names(&next.await?.unwrap_or_default()), ["up"]);
+    }
+    Ok(())
 }
