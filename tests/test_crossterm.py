@@ -4,9 +4,10 @@ program rust/tests/with/crossterm_events.rs runs over each of the two.
 They have the same events of most bytes. Where they differ a rule names the reason, and mostly other
 bytes, of which crossterm has the events that this package has."""
 import re
+import signal
 
 import pytest
-from terminal import PAUSE, Terminal
+from terminal import END, PAUSE, START, Terminal
 
 # Codes of Kitty's protocol: some characters, and the numbers of its functional keys.
 CHARACTERS, FUNCTIONAL = [32, 48, 97, 122, 160, 233, 1092, 0x1F600], range(57344, 57456)
@@ -232,6 +233,24 @@ def test_mouse(readers, form, button, held):
     assert ours.events(sent[0]) == theirs.events(sent[1])
     is_same = form == as_sgr or button == 0
     assert (theirs.events(sent[0]) == theirs.events(sent[1])) == is_same
+
+
+@pytest.mark.parametrize("number", [signal.SIGSTOP, signal.SIGTSTP], ids=lambda it: it.name)
+def test_stop_within_a_paste(program, number):
+    """It stays one, and so does the next. No line of it is typed."""
+    with Reader(program) as reader:
+        reader.expect_exact("q ends\r\n")
+        for _ in range(2):
+            reader.play([START + b"a\n", PAUSE])
+            reader.kill(number)
+            reader.wait_for_stop()
+            reader.continue_in_foreground()
+            reader.wait_for(reader.is_raw, "raw mode")
+            told = reader.events(b"b\nc" + END)
+            assert told[-1] == r'Paste("a\nb\nc")'
+            assert told[:-1] == ([] if number == signal.SIGSTOP else ["Resize(80, 24)"])
+        reader.play([b"q"])
+        assert reader.wait_for_end() == 0
 
 
 def test_sequence_during_a_computation(program):

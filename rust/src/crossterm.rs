@@ -423,20 +423,16 @@ impl Reader {
             }
             let event = self.terminal.read()?;
             let event = event.ok_or(io::ErrorKind::UnexpectedEof)?;
-            self.front = self.convert(event)?;
+            self.front = self.convert(event);
         }
         Ok(true)
     }
 
-    fn convert(&mut self, event: Event) -> io::Result<Option<theirs::Event>> {
-        Ok(match event {
+    fn convert(&mut self, event: Event) -> Option<theirs::Event> {
+        match event {
             Event::Input(event) => self.converter.convert(event).ok(),
-            Event::Resumed => {
-                let (columns, rows) = self.terminal.size()?;
-                Some(theirs::Event::Resize(columns, rows))
-            }
             event => event.try_into().ok(),
-        })
+        }
     }
 }
 
