@@ -35,9 +35,12 @@ from hedrugal import (
 
 CHILD = Path(__file__).with_name("relay_child.py")
 # What relay tells its terminal at the start, and at its end.
-ON, OFF = "\033=\033[?2004h\033[>4;2m\033[>31u\033[?u", "\033[<u\033[>4m\033[?2004l\033>"
-# How a terminal with Kitty's protocol replies, and which flags a child may ask for.
-HAS_KITTY = b"\033[?31u"
+ON, OFF = "\033=\033[>31u\033[?2004h\033[>4;2m", "\033[>4m\033[?2004l\033[<u\033>"
+# What it asks then. A terminal with Kitty's protocol replies to the first, and each to the second.
+ASKS_ATTRIBUTES = "\033[c"
+QUESTIONS = "\033[?u" + ASKS_ATTRIBUTES
+HAS_KITTY, ATTRIBUTES = b"\033[?31u", b"\033[?62;22c"
+# Which flags a child may ask for.
 FLAGS = [1, 5, 15, 31]
 MEGABYTES = 3 << 20
 
@@ -83,18 +86,21 @@ class Child:
 class Relay(Terminal):
     """A relay with the child."""
 
-    def __init__(self, program, folder, has_kitty=False, words=(), **how):
+    def __init__(self, program, folder, has_kitty=False, words=(), before=(), replies=True, **how):
         path = folder / "socket"
         path.unlink(missing_ok=True)
         self.listener = socket.socket(socket.AF_UNIX, socket.SOCK_SEQPACKET)
         self.listener.bind(str(path))
         self.listener.listen()
         self.listener.settimeout(SECONDS)
-        super().__init__([*program, *words, sys.executable, CHILD, path], **how)
+        super().__init__([*before, *program, *words, sys.executable, CHILD, path], **how)
         self.child = Child(self.listener.accept()[0])
-        self.expect_exact(ON)
-        if has_kitty:
-            self.send(HAS_KITTY)
+        self.expect_exact(ON + QUESTIONS)
+        if replies:
+            self.send((HAS_KITTY if has_kitty else b"") + ATTRIBUTES)
+        if words:
+            self.expect_exact(ASKS_ATTRIBUTES)
+            self.send(ATTRIBUTES)
 
     def close(self):
         super().close()
@@ -483,6 +489,67 @@ def test_position(start, has_kitty):
     relay.end()
 
 
+@pytest.mark.timed
+def test_attributes(start):
+    """The child gets the replies to its own questions, and relay's own if that comes too late."""
+    relay, question = start(), ASKS_ATTRIBUTES.encode()
+    for _ in range(2):
+        relay.passes(question, question)
+        relay.check_keys(ATTRIBUTES, ATTRIBUTES)
+    relay.end()
+    relay = start(replies=False)
+    relay.play([2.1])
+    relay.check_keys(ATTRIBUTES, ATTRIBUTES)
+    relay.end()
+
+
+# Runs a program, and then prints what is left for the shell.
+PRINT_LEFT = """import os, termios, time, tty
+time.sleep(0.3)
+tty.setraw(0, termios.TCSANOW)
+os.set_blocking(0, False)
+try:
+    left = os.read(0, 1000)
+except BlockingIOError:
+    left = b""
+print("left", left, end="|")"""
+BEFORE_SHELL = ["sh", "-c", f'"$0" "$@"; exec {sys.executable} -c \'{PRINT_LEFT}\'']
+
+
+@pytest.mark.timed
+def test_end_before_a_reply(start):
+    """It is waited for, and what was typed behind it is the shell's."""
+    relay = start(before=BEFORE_SHELL, replies=False)
+    relay.child.do(b"x")
+    relay.play([OFF, 0.1, HAS_KITTY + ATTRIBUTES + b"ls\r", "left b'ls\\r'|"])
+
+
+@pytest.mark.timed
+def test_end_where_nothing_replies(start):
+    """relay soon ends, and what came is discarded."""
+    relay = start(before=BEFORE_SHELL, replies=False)
+    relay.child.do(b"x")
+    relay.play([OFF, b"\033[?31", "left b''|"])
+
+
+def test_end_with_keys_that_nobody_read(start):
+    """They were typed for the shell."""
+    relay = start(before=BEFORE_SHELL)
+    relay.child.do(b"f", 60000)
+    relay.child.do(b"x")
+    relay.play([PAUSE, b"ls\r"])
+    screen(relay, 60000)
+    relay.play(["left b'ls\\r'|"])
+
+
+def test_end_with_a_mouse(start):
+    """What reports it sends is read up to a last reply."""
+    relay = start(before=BEFORE_SHELL)
+    relay.passes(b"\033[?1003h", switches("1003 1006"))
+    relay.child.do(b"x")
+    relay.play([OFF + ASKS_ATTRIBUTES, MOVE + ATTRIBUTES + b"ls\r", "left b'ls\\r'|"])
+
+
 def test_long_reply(start):
     """What is longer than the parser's limit isn't passed on, nor any part of it."""
     relay = start()
@@ -540,14 +607,14 @@ def test_new_size(start):
 
 @pytest.mark.parametrize("number", ENDING_SIGNALS, ids=lambda it: it.name)
 def test_signal(start, number):
-    """The child gets it too. Of both screens nothing is left."""
+    """The child gets it too. Of both screens nothing is left, and the mouse is waited for."""
     relay = start()
     relay.child.do(b"w", b"\033[?1049h\033[?1003;1004h|")
     relay.expect_exact("|")
     relay.kill(number)
     relay.child.is_told(number)
     relay.check_end(-number)
-    assert relay.output.endswith(b"\033[<u\033[?1049l" + OFF.encode())
+    assert relay.output.endswith(b"\033[<u\033[?1049l" + (OFF + ASKS_ATTRIBUTES).encode())
 
 
 @pytest.mark.parametrize("status", [0, 3, 255])
@@ -565,8 +632,9 @@ def test_child_that_a_signal_ends(start, number):
     relay.check_end(128 + number)
 
 
-def stop_and_continue(relay, number=signal.SIGTSTP):
-    """Another program has the terminal meanwhile, as it was."""
+def stop_and_continue(relay, number=signal.SIGTSTP, on=""):
+    """Another program has the terminal meanwhile, as it was. Then it is told all again. It is asked
+    nothing if a paste or a reply is open: its own would be a part of that."""
     if number == signal.SIGTSTP:
         relay.stop()
     else:
@@ -574,21 +642,20 @@ def stop_and_continue(relay, number=signal.SIGTSTP):
         relay.wait_for_stop()
         termios.tcsetattr(relay.child_fd, termios.TCSANOW, relay.settings_before)
     relay.continue_in_foreground()
-    relay.expect_exact(ON)
+    relay.expect_exact(ON + on)
     relay.child.is_told(signal.SIGWINCH, 80, 24)
     assert relay.is_raw()
 
 
 @pytest.mark.parametrize("number", [signal.SIGTSTP, signal.SIGSTOP], ids=lambda it: it.name)
 def test_stop(start, number):
-    """The terminal is told all again. A paste of which the child has a part stays one."""
+    """A paste of which the child has a part stays one."""
     relay = start(True)
     on = b"\033[?1049h\033[>31u" + switches("1003 1006")
     relay.passes(b"\033[?1049;1003;2004h", on)
     relay.send(START + b"a" * 100000)
     relay.child.gets(START + b"a" * 65536)
-    stop_and_continue(relay, number)
-    relay.expect_exact(on)
+    stop_and_continue(relay, number, on.decode())
     relay.send(b"b" + END + MOVE)
     with relay.child.changed:
         relay.child.changed.wait_for(lambda: relay.child.read[-1:] == b"$", SECONDS)
@@ -630,13 +697,14 @@ def test_stop_within_a_reply(start):
         relay.check_keys(b"x", b"x")
         relay.play([b"\033[1;", PAUSE])
         stop_and_continue(relay)
+        relay.play([QUESTIONS, ATTRIBUTES])
         relay.check_keys(b"A", b"A")
     relay.end()
 
 
 def test_stop_within_a_question(start):
-    """It counts no more: what looks like the position is a key."""
-    relay = start()
+    """It counts no more: what looks like the position is a key, and attributes are the child's."""
+    relay = start(replies=False)
     relay.passes(b"\033[>31u\033[6n", b"\033[6n")
     relay.play([START + b"a", PAUSE])
     stop_and_continue(relay)
@@ -644,10 +712,33 @@ def test_stop_within_a_question(start):
     relay.end()
 
 
+def is_stopped(relay):
+    return Path(f"/proc/{relay.job}/stat").read_text().rpartition(")")[2].split()[0] == "T"
+
+
+@pytest.mark.parametrize("number", [signal.SIGCONT, signal.SIGSTOP], ids=lambda it: it.name)
+def test_stop_where_nobody_has_the_terminal(start, number):
+    """Nothing comes of it, within a paste or a sequence."""
+    relay = start(True)
+    relay.passes(b"\033[?2004h")
+    for _ in range(2):
+        for sent in [START, b"a\n", END, b"\033[1;", b"5A"]:
+            relay.send(sent)
+            relay.kill(number)
+            if number == signal.SIGSTOP:
+                relay.wait_for_stop()
+                relay.continue_in_foreground()
+                relay.wait_for(lambda: not is_stopped(relay), "SIGCONT")
+        relay.check_keys(b"", START + b"a\r" + END + b"\033[1;5A")
+    relay.end()
+    assert relay.output.count(ON.encode()) == 1
+    assert relay.child.signals == [[8, 80, 24]]
+
+
 def test_sigtstp_where_no_shell_could_continue_it(start):
     relay = start(is_orphaned=True)
     relay.kill(signal.SIGTSTP)
-    relay.expect_exact(ON)
+    relay.play([ON + QUESTIONS, ATTRIBUTES])
     relay.check_keys(b"a", b"a")
     relay.end()
 

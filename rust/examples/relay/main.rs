@@ -21,7 +21,9 @@ mod scanner;
 mod terminal;
 mod unix;
 
-use hedrugal::extended::{ExtendedEvent, ExtendedParser, ExtendedWaiting, Protocol, Reading};
+use hedrugal::extended::{
+    DeviceAttributes, ExtendedEvent, ExtendedParser, ExtendedWaiting, Protocol, Reading, Reply,
+};
 use hedrugal::terminal::Heeded;
 use input::Sender;
 use modes::Wanted;
@@ -132,6 +134,7 @@ impl Relay {
     }
 
     fn run(&mut self) -> io::Result<u8> {
+        self.terminal.ask(&mut self.to_terminal);
         loop {
             match self.step()? {
                 Next::Step => {}
@@ -228,8 +231,8 @@ impl Relay {
         Ok(Next::Step)
     }
 
-    /// Goes on after another program had the terminal. A paste or a string stays open. Nothing else
-    /// that came before counts.
+    /// Goes on after another program had the terminal. A paste or a string stays open, and a reply
+    /// would be a part of it. Nothing else that came before counts.
     fn resume(&mut self) {
         self.sender.forget_mouse();
         match self.parser.waiting() {
@@ -237,7 +240,10 @@ impl Relay {
                 self.parser.forget_positions();
                 self.cut_at = Some(Instant::now() + LONGEST_GAP);
             }
-            _ => drop(self.parser.reset()),
+            _ => {
+                self.parser.reset();
+                self.terminal.ask(&mut self.to_terminal);
+            }
         }
     }
 
@@ -289,6 +295,9 @@ impl Relay {
                 ..self.parser.reading()
             });
         }
+        if is_attributes(event) && !self.terminal.note_attributes() {
+            return;
+        }
         let protocol = self.parser.protocol();
         let mut bytes = self.sender.bytes(event, &self.output.modes, protocol);
         self.to_child.append(&mut bytes);
@@ -329,6 +338,11 @@ impl Relay {
             self.to_child.append(&mut self.replies);
         }
     }
+}
+
+fn is_attributes(event: &ExtendedEvent) -> bool {
+    let primary = DeviceAttributes::Primary;
+    matches!(event.reply(), Some(Reply::DeviceAttributes { report, .. }) if report == primary)
 }
 
 /// Writes what is taken without a wait.
