@@ -10,7 +10,9 @@ import re
 import select
 import signal
 import socket
+import subprocess
 import sys
+import termios
 import threading
 from dataclasses import replace
 from pathlib import Path
@@ -18,7 +20,7 @@ from pathlib import Path
 import pytest
 from conftest import run_without_terminal
 from relay_child import long_text
-from terminal import END, ENDING_SIGNALS, PAUSE, SECONDS, START, Terminal
+from terminal import END, ENDING_SIGNALS, LONG_PAUSE, PAUSE, SECONDS, START, Terminal
 from terminal_data import FOLDER, load
 
 from hedrugal import (
@@ -33,9 +35,12 @@ from hedrugal import (
 
 CHILD = Path(__file__).with_name("relay_child.py")
 # What relay tells its terminal at the start, and at its end.
-ON, OFF = "\033=\033[?2004h\033[>4;2m\033[>31u\033[?u", "\033[<u\033[>4m\033[?2004l\033>"
-# How a terminal with Kitty's protocol replies, and which flags a child may ask for.
-HAS_KITTY = b"\033[?31u"
+ON, OFF = "\033=\033[>31u\033[?2004h\033[>4;2m", "\033[>4m\033[?2004l\033[<u\033>"
+# What it asks then. A terminal with Kitty's protocol replies to the first, and each to the second.
+ASKS_ATTRIBUTES = "\033[c"
+QUESTIONS = "\033[?u" + ASKS_ATTRIBUTES
+HAS_KITTY, ATTRIBUTES = b"\033[?31u", b"\033[?62;22c"
+# Which flags a child may ask for.
 FLAGS = [1, 5, 15, 31]
 MEGABYTES = 3 << 20
 
@@ -81,18 +86,21 @@ class Child:
 class Relay(Terminal):
     """A relay with the child."""
 
-    def __init__(self, program, folder, has_kitty=False, words=(), **how):
+    def __init__(self, program, folder, has_kitty=False, words=(), before=(), replies=True, **how):
         path = folder / "socket"
         path.unlink(missing_ok=True)
         self.listener = socket.socket(socket.AF_UNIX, socket.SOCK_SEQPACKET)
         self.listener.bind(str(path))
         self.listener.listen()
         self.listener.settimeout(SECONDS)
-        super().__init__([*program, *words, sys.executable, CHILD, path], **how)
+        super().__init__([*before, *program, *words, sys.executable, CHILD, path], **how)
         self.child = Child(self.listener.accept()[0])
-        self.expect_exact(ON)
-        if has_kitty:
-            self.send(HAS_KITTY)
+        self.expect_exact(ON + QUESTIONS)
+        if replies:
+            self.send((HAS_KITTY if has_kitty else b"") + ATTRIBUTES)
+        if words:
+            self.expect_exact(ASKS_ATTRIBUTES)
+            self.send(ATTRIBUTES)
 
     def close(self):
         super().close()
@@ -341,7 +349,7 @@ PASTES = {
     ),
     "a terminal that passes END on": (
         START + b"a" + END + b"ls\r" + END + b"x",
-        START + b"a" + END + b"ls\rx",
+        START + b"a" + END + b"ls\r" + END + b"x",
         b"als\rx",
     ),
     "nothing": (START + END, START + END, b""),
@@ -366,6 +374,17 @@ def test_long_paste(start, bracketed):
     relay = start()
     relay.passes(b"\033[?2004h" if bracketed else b"")
     relay.check_keys(START + text + END, encode_paste(text, bracketed))
+    relay.end()
+
+
+@pytest.mark.timed
+def test_start_that_comes_too_slowly(start):
+    """The child gets it as keys, and ends its paste at END."""
+    relay = start()
+    relay.passes(b"\033[?2004h")
+    for _ in range(2):
+        relay.play([START[:-1], LONG_PAUSE])
+        relay.check_keys(START[-1:] + b"ls" + END + b"x", START + b"ls" + END + b"x")
     relay.end()
 
 
@@ -470,6 +489,67 @@ def test_position(start, has_kitty):
     relay.end()
 
 
+@pytest.mark.timed
+def test_attributes(start):
+    """The child gets the replies to its own questions, and relay's own if that comes too late."""
+    relay, question = start(), ASKS_ATTRIBUTES.encode()
+    for _ in range(2):
+        relay.passes(question, question)
+        relay.check_keys(ATTRIBUTES, ATTRIBUTES)
+    relay.end()
+    relay = start(replies=False)
+    relay.play([2.1])
+    relay.check_keys(ATTRIBUTES, ATTRIBUTES)
+    relay.end()
+
+
+# Runs a program, and then prints what is left for the shell.
+PRINT_LEFT = """import os, termios, time, tty
+time.sleep(0.3)
+tty.setraw(0, termios.TCSANOW)
+os.set_blocking(0, False)
+try:
+    left = os.read(0, 1000)
+except BlockingIOError:
+    left = b""
+print("left", left, end="|")"""
+BEFORE_SHELL = ["sh", "-c", f'"$0" "$@"; exec {sys.executable} -c \'{PRINT_LEFT}\'']
+
+
+@pytest.mark.timed
+def test_end_before_a_reply(start):
+    """It is waited for, and what was typed behind it is the shell's."""
+    relay = start(before=BEFORE_SHELL, replies=False)
+    relay.child.do(b"x")
+    relay.play([OFF, 0.1, HAS_KITTY + ATTRIBUTES + b"ls\r", "left b'ls\\r'|"])
+
+
+@pytest.mark.timed
+def test_end_where_nothing_replies(start):
+    """relay soon ends, and what came is discarded."""
+    relay = start(before=BEFORE_SHELL, replies=False)
+    relay.child.do(b"x")
+    relay.play([OFF, b"\033[?31", "left b''|"])
+
+
+def test_end_with_keys_that_nobody_read(start):
+    """They were typed for the shell."""
+    relay = start(before=BEFORE_SHELL)
+    relay.child.do(b"f", 60000)
+    relay.child.do(b"x")
+    relay.play([PAUSE, b"ls\r"])
+    screen(relay, 60000)
+    relay.play(["left b'ls\\r'|"])
+
+
+def test_end_with_a_mouse(start):
+    """What reports it sends is read up to a last reply."""
+    relay = start(before=BEFORE_SHELL)
+    relay.passes(b"\033[?1003h", switches("1003 1006"))
+    relay.child.do(b"x")
+    relay.play([OFF + ASKS_ATTRIBUTES, MOVE + ATTRIBUTES + b"ls\r", "left b'ls\\r'|"])
+
+
 def test_long_reply(start):
     """What is longer than the parser's limit isn't passed on, nor any part of it."""
     relay = start()
@@ -490,6 +570,33 @@ def test_escape(start):
     relay.end()
 
 
+# For a program, each wait that finds nothing ends so late as if it were stopped there.
+LATE_POLL = """#define _GNU_SOURCE
+#include <poll.h>
+#include <unistd.h>
+int poll(struct pollfd *polled, nfds_t count, int ms) {
+  struct timespec time = {ms / 1000, ms % 1000 * 1000000L};
+  int ready = ppoll(polled, count, ms < 0 ? NULL : &time, NULL);
+  if (ready == 0) usleep(400000);
+  return ready;
+}
+"""
+
+
+@pytest.mark.timed
+def test_sequence_that_comes_while_it_is_stopped(start, tmp_path):
+    """Its limit has passed then. It is read before anything is flushed."""
+    source, library = tmp_path / "late.c", tmp_path / "late.so"
+    source.write_text(LATE_POLL)
+    subprocess.run(["cc", "-shared", "-fPIC", "-o", library, source], check=True)
+    relay = start(env=os.environ | {"LD_PRELOAD": str(library)})
+    relay.passes(b"\033[?1h")
+    for _ in range(2):
+        relay.play([b"\033", PAUSE])
+        relay.check_keys(b"[A", b"\033OA")
+    relay.end()
+
+
 def test_new_size(start):
     relay = start()
     relay.child.is_told(8, 80, 24)
@@ -500,14 +607,14 @@ def test_new_size(start):
 
 @pytest.mark.parametrize("number", ENDING_SIGNALS, ids=lambda it: it.name)
 def test_signal(start, number):
-    """The child gets it too. Of both screens nothing is left."""
+    """The child gets it too. Of both screens nothing is left, and the mouse is waited for."""
     relay = start()
     relay.child.do(b"w", b"\033[?1049h\033[?1003;1004h|")
     relay.expect_exact("|")
     relay.kill(number)
     relay.child.is_told(number)
     relay.check_end(-number)
-    assert relay.output.endswith(b"\033[<u\033[?1049l" + OFF.encode())
+    assert relay.output.endswith(b"\033[<u\033[?1049l" + (OFF + ASKS_ATTRIBUTES).encode())
 
 
 @pytest.mark.parametrize("status", [0, 3, 255])
@@ -525,34 +632,113 @@ def test_child_that_a_signal_ends(start, number):
     relay.check_end(128 + number)
 
 
-@pytest.mark.parametrize("number", [signal.SIGTSTP, signal.SIGSTOP], ids=lambda it: it.name)
-def test_stop(start, number):
-    """What was buffered before no longer counts. The child draws anew."""
-    relay = start(True)
-    relay.passes(b"\033[?1049;1003;2004h", b"\033[?1049h\033[>31u" + switches("1003 1006"))
-    relay.send(START + b"a" * 100000)
-    relay.child.gets(START + b"a" * 65536)
+def stop_and_continue(relay, number=signal.SIGTSTP, on=""):
+    """Another program has the terminal meanwhile, as it was. Then it is told all again. It is asked
+    nothing if a paste or a reply is open: its own would be a part of that."""
     if number == signal.SIGTSTP:
         relay.stop()
     else:
         relay.kill(number)
         relay.wait_for_stop()
+        termios.tcsetattr(relay.child_fd, termios.TCSANOW, relay.settings_before)
     relay.continue_in_foreground()
-    relay.expect_exact(ON + "\033[?1049h\033[>31u\033[?1003h\033[?1006h")
-    assert relay.is_raw()
+    relay.expect_exact(ON + on)
     relay.child.is_told(signal.SIGWINCH, 80, 24)
-    relay.send(MOVE)
+    assert relay.is_raw()
+
+
+@pytest.mark.parametrize("number", [signal.SIGTSTP, signal.SIGSTOP], ids=lambda it: it.name)
+def test_stop(start, number):
+    """A paste of which the child has a part stays one."""
+    relay = start(True)
+    on = b"\033[?1049h\033[>31u" + switches("1003 1006")
+    relay.passes(b"\033[?1049;1003;2004h", on)
+    relay.send(START + b"a" * 100000)
+    relay.child.gets(START + b"a" * 65536)
+    stop_and_continue(relay, number, on.decode())
+    relay.send(b"b" + END + MOVE)
     with relay.child.changed:
         relay.child.changed.wait_for(lambda: relay.child.read[-1:] == b"$", SECONDS)
-    assert re.fullmatch(rb"a*\033\[201~a*\033\[M..\$", relay.child.read)
+    assert re.fullmatch(rb"a*b\033\[201~\033\[M..\$", relay.child.read)
     relay.child.read.clear()
     relay.end()
+
+
+@pytest.mark.timed
+def test_stop_within_a_paste(start):
+    """It goes on, and ends where it is if nothing comes for a second. The next has no such end."""
+    relay = start()
+    relay.passes(b"\033[?2004h")
+    for _ in range(2):
+        relay.play([START + b"a\n", PAUSE])
+        stop_and_continue(relay)
+        relay.play([PAUSE])
+        relay.check_keys(b"b\n" + END + b"x", START + b"a\rb\r" + END + b"x")
+        relay.play([START + b"a\n", PAUSE])
+        stop_and_continue(relay)
+        relay.child.gets(START + b"a\r" + END)
+        relay.play([b"x" + START + b"b", LONG_PAUSE])
+        relay.check_keys(b"c" + END, b"x" + START + b"bc" + END)
+    relay.end()
+
+
+@pytest.mark.timed
+def test_stop_within_a_reply(start):
+    """It goes on, and is cut off if nothing comes for a second. A sequence is forgotten."""
+    relay = start()
+    reply = REPLIES["a colour"]
+    for _ in range(2):
+        relay.play([reply[:9], PAUSE])
+        stop_and_continue(relay)
+        relay.check_keys(reply[9:] + b"x", reply + b"x")
+        relay.play([reply[:9], PAUSE])
+        stop_and_continue(relay)
+        relay.play([LONG_PAUSE])
+        relay.check_keys(b"x", b"x")
+        relay.play([b"\033[1;", PAUSE])
+        stop_and_continue(relay)
+        relay.play([QUESTIONS, ATTRIBUTES])
+        relay.check_keys(b"A", b"A")
+    relay.end()
+
+
+def test_stop_within_a_question(start):
+    """It counts no more: what looks like the position is a key, and attributes are the child's."""
+    relay = start(replies=False)
+    relay.passes(b"\033[>31u\033[6n", b"\033[6n")
+    relay.play([START + b"a", PAUSE])
+    stop_and_continue(relay)
+    relay.check_keys(END + b"\033[1;5R", b"a\033[13;5~")
+    relay.end()
+
+
+def is_stopped(relay):
+    return Path(f"/proc/{relay.job}/stat").read_text().rpartition(")")[2].split()[0] == "T"
+
+
+@pytest.mark.parametrize("number", [signal.SIGCONT, signal.SIGSTOP], ids=lambda it: it.name)
+def test_stop_where_nobody_has_the_terminal(start, number):
+    """Nothing comes of it, within a paste or a sequence."""
+    relay = start(True)
+    relay.passes(b"\033[?2004h")
+    for _ in range(2):
+        for sent in [START, b"a\n", END, b"\033[1;", b"5A"]:
+            relay.send(sent)
+            relay.kill(number)
+            if number == signal.SIGSTOP:
+                relay.wait_for_stop()
+                relay.continue_in_foreground()
+                relay.wait_for(lambda: not is_stopped(relay), "SIGCONT")
+        relay.check_keys(b"", START + b"a\r" + END + b"\033[1;5A")
+    relay.end()
+    assert relay.output.count(ON.encode()) == 1
+    assert relay.child.signals == [[8, 80, 24]]
 
 
 def test_sigtstp_where_no_shell_could_continue_it(start):
     relay = start(is_orphaned=True)
     relay.kill(signal.SIGTSTP)
-    relay.expect_exact(ON)
+    relay.play([ON + QUESTIONS, ATTRIBUTES])
     relay.check_keys(b"a", b"a")
     relay.end()
 

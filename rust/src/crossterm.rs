@@ -31,9 +31,12 @@
 //!   `Paste`, those of browsers, the marks of a paste, the modifiers without a side, and a functional
 //!   key of Kitty's table that is neither a modifier nor of a media player
 //! - of a key report that it has: what the key types with Shift or on the standard layout, and its
-//!   text
+//!   text. A text of several characters is a paste
 //! - that the program goes on after it was stopped: [`event::read`] returns its size then
-use crate::extended::{ExtendedEvent, KeyEventKind, KeyReport, KittyModifiers, ReportedKey};
+use crate::extended::{
+    typed_text, ExtendedEvent, KeyEventKind, KeyPress, KeyReport, KittyModifiers, Protocol,
+    Reading, ReportedKey,
+};
 use crate::input::{InputEvent, KeyCode, Modifiers, MouseButtons, MouseEvent};
 use crate::terminal::{restore, Event, Modes, RawMode, Terminal};
 use ::crossterm::event as theirs;
@@ -104,10 +107,10 @@ impl Converter {
             ExtendedEvent::Input(InputEvent::Mouse(mouse)) => {
                 self.mouse(mouse).map(theirs::Event::Mouse)
             }
-            event => event
-                .key()
-                .and_then(|report| key(&report))
-                .map(theirs::Event::Key),
+            event => event.key().and_then(|report| match typed_text(&report) {
+                "" => key(&report).map(theirs::Event::Key),
+                text => Some(theirs::Event::Paste(text.to_string())),
+            }),
         };
         converted.ok_or(event)
     }
@@ -191,14 +194,14 @@ fn state(held: KittyModifiers, is_keypad: bool) -> theirs::KeyEventState {
 }
 
 fn key(report: &KeyReport) -> Option<theirs::KeyEvent> {
-    let (code, is_keypad) = match report.key {
-        ReportedKey::Named(key) => match keypad_code(key) {
-            Some(code) => (code, true),
-            None => (named_code(key)?, false),
-        },
-        ReportedKey::Functional(number) => functional_code(number)?,
+    let (key, held) = match report.key {
+        ReportedKey::Named(KeyCode::Char(c)) if c.is_ascii_control() => {
+            control_key(c, report.modifiers)?
+        }
+        key => (key, report.modifiers),
     };
-    let mut modifiers = modifiers(report.modifiers);
+    let (code, is_keypad) = code_of(key)?;
+    let mut modifiers = modifiers(held);
     let code = match code {
         theirs::KeyCode::Tab if modifiers.contains(theirs::KeyModifiers::SHIFT) => {
             theirs::KeyCode::BackTab
@@ -218,8 +221,30 @@ fn key(report: &KeyReport) -> Option<theirs::KeyEvent> {
             KeyEventKind::Repeat => theirs::KeyEventKind::Repeat,
             KeyEventKind::Release => theirs::KeyEventKind::Release,
         },
-        state: state(report.modifiers, is_keypad),
+        state: state(held, is_keypad),
     })
+}
+
+// The key that sends a control character, and what is held with it. crossterm calls the last four
+// Ctrl with 4 to 7.
+fn control_key(c: char, held: KittyModifiers) -> Option<(ReportedKey, KittyModifiers)> {
+    let press = KeyPress::new(ReportedKey::Named(KeyCode::Char(c)), held)?;
+    let key = match c {
+        '\x1c'..='\x1f' => ReportedKey::Named(KeyCode::Char(char::from(c as u8 - 0x1c + b'4'))),
+        _ => press.key(),
+    };
+    Some((key, held.union(press.held())))
+}
+
+// A key's code, and whether it is of the keypad.
+fn code_of(key: ReportedKey) -> Option<(theirs::KeyCode, bool)> {
+    match key {
+        ReportedKey::Named(key) => match keypad_code(key) {
+            Some(code) => Some((code, true)),
+            None => Some((named_code(key)?, false)),
+        },
+        ReportedKey::Functional(number) => functional_code(number),
+    }
 }
 
 // A key of the keypad, by what it types or does.
@@ -350,6 +375,13 @@ impl TryFrom<Event> for theirs::Event {
     }
 }
 
+// Nobody tells which protocol and which mouse reports the program turned on by crossterm's commands.
+// As crossterm does, this reads them all.
+const READING: Reading = Reading {
+    x10_mouse: true,
+    ..Reading::new(Protocol::Kitty)
+};
+
 // The terminal of `read` and `poll`.
 struct Reader {
     terminal: Terminal,
@@ -370,8 +402,10 @@ impl Reader {
             enable_raw_mode()?;
             saved = Some(before?);
         }
+        let mut terminal = Terminal::begin(Modes::NONE, saved)?;
+        terminal.parser().set_reading(READING);
         Ok(Reader {
-            terminal: Terminal::begin(Modes::NONE, saved)?,
+            terminal,
             converter: Converter::default(),
             front: None,
         })
@@ -389,20 +423,16 @@ impl Reader {
             }
             let event = self.terminal.read()?;
             let event = event.ok_or(io::ErrorKind::UnexpectedEof)?;
-            self.front = self.convert(event)?;
+            self.front = self.convert(event);
         }
         Ok(true)
     }
 
-    fn convert(&mut self, event: Event) -> io::Result<Option<theirs::Event>> {
-        Ok(match event {
+    fn convert(&mut self, event: Event) -> Option<theirs::Event> {
+        match event {
             Event::Input(event) => self.converter.convert(event).ok(),
-            Event::Resumed => {
-                let (columns, rows) = self.terminal.size()?;
-                Some(theirs::Event::Resize(columns, rows))
-            }
             event => event.try_into().ok(),
-        })
+        }
     }
 }
 
@@ -427,7 +457,10 @@ fn wait(reader: &mut Option<Reader>, time: Option<Duration>) -> io::Result<bool>
 }
 
 /// Waits for an event, as `crossterm::event::read` does. What crossterm's type can't say is left
-/// out. The first call opens the program's terminal, in raw mode; the program turns on what it wants
+/// out. Keys are read by Kitty's keyboard protocol too, and mouse reports in each form, whatever the
+/// program has turned on. So ESC `[1;5R` is the cursor's position, and no F3.
+///
+/// The first call opens the program's terminal, in raw mode; the program turns on what it wants
 /// of it by crossterm's commands, and calls `enable_raw_mode` before. A signal that ends or stops the
 /// program restores the settings from before that.
 ///

@@ -3,7 +3,7 @@ use crate::keys::key_text;
 use crate::modes::ChildModes;
 use crate::mouse::{gets_side_button, Mouse};
 use hedrugal::extended::{encode_cursor_position, ExtendedEvent, Protocol, Reading};
-use hedrugal::input::{encode_paste, InputEvent};
+use hedrugal::input::{encode_paste, InputEvent, KeyCode, KeyEvent};
 
 const PASTE_START: &str = "\x1b[200~";
 const PASTE_END: &str = "\x1b[201~";
@@ -35,6 +35,11 @@ impl Sender {
         match event {
             ExtendedEvent::Input(InputEvent::Mouse(mouse)) => self.mouse.bytes(mouse, modes),
             ExtendedEvent::Input(InputEvent::Paste(text)) => self.paste_end(text, modes.paste),
+            // The start of its paste came too slowly, and was passed on as keys.
+            ExtendedEvent::Input(InputEvent::Key(KeyEvent {
+                key: KeyCode::InternalPasteEnd,
+                ..
+            })) if modes.paste => PASTE_END.into(),
             ExtendedEvent::SideButton(button) if !gets_side_button(button, modes) => Vec::new(),
             ExtendedEvent::FocusGained | ExtendedEvent::FocusLost if !modes.focus => Vec::new(),
             ExtendedEvent::CursorPosition { row, column } => {
@@ -75,11 +80,9 @@ impl Sender {
         }
     }
 
-    /// Forgets what the terminal sent before. Returns what ends a paste of which a part was written.
-    pub fn reset(&mut self) -> Vec<u8> {
-        let end = self.is_in_paste().then(|| self.paste_end("", false));
-        *self = Sender::default();
-        end.unwrap_or_default()
+    /// Forgets which buttons are down.
+    pub fn forget_mouse(&mut self) {
+        self.mouse = Mouse::default();
     }
 
     /// Returns a reply or another sequence as the terminal sent it. One that was cut off, or is

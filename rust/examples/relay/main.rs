@@ -21,7 +21,9 @@ mod scanner;
 mod terminal;
 mod unix;
 
-use hedrugal::extended::{ExtendedEvent, ExtendedParser, Protocol, Reading};
+use hedrugal::extended::{
+    DeviceAttributes, ExtendedEvent, ExtendedParser, ExtendedWaiting, Protocol, Reading, Reply,
+};
 use hedrugal::terminal::Heeded;
 use input::Sender;
 use modes::Wanted;
@@ -44,6 +46,8 @@ Runs a program, or else $SHELL, on a terminal of its own, and passes keys, mouse
 reports, pastes and the focus on in the modes that the program set.";
 const O_NONBLOCK_NOCTTY: i32 = 0o4400;
 const PASTE_LIMIT: usize = 1 << 16;
+/// What was open when another program had the terminal ends once nothing came for so long.
+const LONGEST_GAP: Duration = Duration::from_secs(1);
 /// Nothing more is read for a side that hasn't taken so many bytes yet.
 const MOST_PENDING: usize = 1 << 16;
 /// A child that asks on and on, and reads nothing, gets no more replies than that.
@@ -77,6 +81,8 @@ enum Next {
 
 struct Relay {
     parser: ExtendedParser,
+    /// When a paste or a string ends where it is that was open while another program had the terminal.
+    cut_at: Option<Instant>,
     sender: Sender,
     output: Output,
     child: PtyChild,
@@ -113,6 +119,7 @@ impl Relay {
         })?;
         Ok(Relay {
             parser,
+            cut_at: None,
             sender: Sender::default(),
             output: Output::default(),
             child,
@@ -127,6 +134,7 @@ impl Relay {
     }
 
     fn run(&mut self) -> io::Result<u8> {
+        self.terminal.ask(&mut self.to_terminal);
         loop {
             match self.step()? {
                 Next::Step => {}
@@ -145,7 +153,8 @@ impl Relay {
         }
         let reads_keys = self.ended.is_none() && self.to_child.len() < MOST_PENDING;
         let reads_child = self.to_terminal.len() < MOST_PENDING;
-        let time = self.time(reads_keys, reads_child);
+        let now = Instant::now();
+        let time = self.time(now, reads_keys, reads_child);
         let if_any = |waits: bool, events| if waits { events } else { 0 };
         let from_child = if_any(reads_child, POLLIN);
         let to_child = if_any(!self.to_child.is_empty(), POLLOUT);
@@ -177,7 +186,7 @@ impl Relay {
         if keys != 0 {
             self.read_keys()?;
         } else if reads_keys {
-            self.expire()?;
+            self.expire(now)?;
         }
         if child & POLLOUT != 0 {
             write_some(&mut self.child.terminal, &mut self.to_child)?;
@@ -193,11 +202,12 @@ impl Relay {
 
     /// Returns how long to wait. What may be completed by keys that aren't read yet has no limit, and
     /// what a child has left is there at once.
-    fn time(&mut self, reads_keys: bool, reads_child: bool) -> Option<Duration> {
+    fn time(&mut self, now: Instant, reads_keys: bool, reads_child: bool) -> Option<Duration> {
         if self.ended.is_some() && reads_child {
             Some(Duration::ZERO)
         } else if reads_keys {
-            self.parser.timeout(Instant::now())
+            let cut = self.cut_at.map(|at| at.saturating_duration_since(now));
+            [self.parser.timeout(now), cut].into_iter().flatten().min()
         } else {
             None
         }
@@ -211,8 +221,7 @@ impl Relay {
                 return Ok(Next::Signal);
             }
             Heeded::Resumed => {
-                self.parser.reset();
-                self.to_child.append(&mut self.sender.reset());
+                self.resume();
                 self.child.resize(self.terminal.size()?)?;
                 self.child.redraw();
             }
@@ -220,6 +229,22 @@ impl Relay {
             Heeded::Nothing => {}
         }
         Ok(Next::Step)
+    }
+
+    /// Goes on after another program had the terminal. A paste or a string stays open, and a reply
+    /// would be a part of it. Nothing else that came before counts.
+    fn resume(&mut self) {
+        self.sender.forget_mouse();
+        match self.parser.waiting() {
+            ExtendedWaiting::Paste | ExtendedWaiting::String => {
+                self.parser.forget_positions();
+                self.cut_at = Some(Instant::now() + LONGEST_GAP);
+            }
+            _ => {
+                self.parser.reset();
+                self.terminal.ask(&mut self.to_terminal);
+            }
+        }
     }
 
     fn read_keys(&mut self) -> io::Result<()> {
@@ -230,6 +255,7 @@ impl Relay {
         }
         let fed = self.parser.try_feed(&bytes[..count]);
         fed.map_err(io::Error::other)?;
+        self.cut_at = self.cut_at.map(|_| Instant::now() + LONGEST_GAP);
         // One at a time, since an event may change how the next is read.
         while let Some(event) = self.parser.try_next_event(true).map_err(io::Error::other)? {
             self.handle(&event);
@@ -243,22 +269,34 @@ impl Relay {
         Ok(())
     }
 
-    /// Handles what no byte has completed in time.
-    fn expire(&mut self) -> io::Result<()> {
+    /// Handles what no byte has completed in time. All that came before that time was read.
+    fn expire(&mut self, now: Instant) -> io::Result<()> {
         let mut events = Vec::new();
-        let expired = self
-            .parser
-            .expire(Instant::now(), |event| events.push(event));
+        if self.cut_at.is_some_and(|at| at <= now) {
+            self.cut_at = None;
+            let cut = match self.parser.waiting() {
+                ExtendedWaiting::Paste => self.parser.try_end_paste(),
+                _ => self.parser.try_next_event(false),
+            };
+            events.extend(cut.map_err(io::Error::other)?);
+        }
+        let expired = self.parser.expire(now, |event| events.push(event));
         events.iter().for_each(|event| self.handle(event));
         expired.map_err(io::Error::other)
     }
 
     fn handle(&mut self, event: &ExtendedEvent) {
+        if !matches!(event, ExtendedEvent::StringPart { .. }) {
+            self.cut_at = None; // what was open comes before all else
+        }
         if let ExtendedEvent::KeyboardFlags(_) = event {
             self.parser.set_reading(Reading {
                 protocol: Protocol::Kitty,
                 ..self.parser.reading()
             });
+        }
+        if is_attributes(event) && !self.terminal.note_attributes() {
+            return;
         }
         let protocol = self.parser.protocol();
         let mut bytes = self.sender.bytes(event, &self.output.modes, protocol);
@@ -300,6 +338,11 @@ impl Relay {
             self.to_child.append(&mut self.replies);
         }
     }
+}
+
+fn is_attributes(event: &ExtendedEvent) -> bool {
+    let primary = DeviceAttributes::Primary;
+    matches!(event.reply(), Some(Reply::DeviceAttributes { report, .. }) if report == primary)
 }
 
 /// Writes what is taken without a wait.

@@ -1,7 +1,6 @@
 //! What the child writes, on its way to the terminal, and the modes that the terminal is in.
 use crate::modes::{ChildModes, Effect, Wanted};
 use crate::scanner::{Piece, Scanner};
-use hedrugal::input::KittyKeyboardFlags;
 use hedrugal::terminal::Modes;
 
 /// The modes in which a terminal tells most of keys and pastes: the keypad's own codes, bracketed
@@ -13,9 +12,11 @@ const KEYS: Modes = Modes {
     also_off: "\x1b>",
     ..Modes::NONE
 };
-/// These, and all of Kitty's flags, of which each screen has a stack.
+/// These, and all of Kitty's flags, of which each screen has a stack. They aren't those of the guard,
+/// which would ask for them anew within a paste.
 pub const MODES: Modes = Modes {
-    keyboard: KittyKeyboardFlags::all(),
+    also_on: "\x1b=\x1b[>31u",
+    also_off: "\x1b[<u\x1b>",
     ..KEYS
 };
 const PUSH: &str = "\x1b[>31u";

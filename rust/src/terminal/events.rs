@@ -133,6 +133,11 @@ impl Events {
         })
     }
 
+    #[cfg(feature = "crossterm")]
+    pub fn parser(&mut self) -> &mut ExtendedParser {
+        &mut self.parser
+    }
+
     pub fn set_policy(&mut self, policy: Policy) -> Result<(), AllocError> {
         self.parser.set_policy(policy)
     }

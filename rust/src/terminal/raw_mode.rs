@@ -371,7 +371,7 @@ pub enum Heeded {
 /// again. SIGALRM is handled too. A signal that was ignored before stays ignored.
 ///
 /// What was typed ahead is left for the shell. Only what comes with mouse reports is discarded, or
-/// with the reply about Kitty's flags: nobody tells the guard whether that came.
+/// with the reply about Kitty's flags, unless the program tells what is owed: [`RawMode::set_owed`].
 ///
 /// A program has one guard at a time. A child of fork has a copy, which leaves the terminal to the
 /// parent. Nothing is restored by other signals that end the program, by `abort` or by
@@ -652,9 +652,22 @@ impl RawMode {
         Ok(done)
     }
 
-    // Tells the guard how many replies to a question for the attributes are owed, and the longest
-    // time that one took.
-    pub(super) fn set_owed(&self, owed: usize, longest: Option<Duration>) {
+    /// Tells the guard how many replies to ESC `[c` are owed, and how long the slowest took so far. A
+    /// program that reads by itself tells it after each such question and each reply. Where the guard
+    /// leaves the terminal it waits for the last of them, so that the shell gets none.
+    ///
+    /// A [`Terminal`](super::Terminal) does it itself, after a question and whenever it reads.
+    ///
+    /// ```no_run
+    /// use hedrugal::terminal::{Modes, RawMode};
+    /// use std::io::Write;
+    ///
+    /// let guard = RawMode::new(Modes::default())?;
+    /// guard.output().write_all(b"\x1b]11;?\x1b\\\x1b[c")?;
+    /// guard.set_owed(1, None);
+    /// # Ok::<(), std::io::Error>(())
+    /// ```
+    pub fn set_owed(&self, owed: usize, longest: Option<Duration>) {
         self.entered().leftover.set(owed, longest);
     }
 }

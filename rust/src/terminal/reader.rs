@@ -73,6 +73,11 @@ pub struct Terminal {
 }
 
 impl Terminal {
+    #[cfg(feature = "crossterm")]
+    pub(crate) fn parser(&mut self) -> &mut crate::extended::ExtendedParser {
+        self.events.parser()
+    }
+
     /// Sets the program's terminal to raw mode with bracketed paste.
     ///
     /// ```no_run
