@@ -5,6 +5,7 @@ Errors of the file are told before the terminal is touched. On a pseudo-terminal
 print the right lines, restore the terminal's settings, and switch its modes off again."""
 import re
 import signal
+import termios
 import time
 
 import pytest
@@ -13,7 +14,8 @@ from terminal import END, ENDING_SIGNALS, PAUSE, START, Terminal
 from terminal_data import FOLDER, load
 
 KEYS = TOP / "docs/edit.keys"
-ENTER, LEAVE = b"\033[?2004h\033[>4;2m\033[>5u\033[?u", b"\033[<u\033[>4m\033[?2004l"
+ENTER = b"\033[?2004h\033[>4;2m\033[>5u\033[?u"
+LEAVE = b"\033[<u\033[>4m\033[?2004l"
 # How long the rest of a chord may take, in seconds, and a pause that is shorter.
 CHORD_PAUSE, SHORT_PAUSE = 1.0, 0.6
 PASTE_LIMIT = 1 << 20
@@ -279,14 +281,15 @@ def test_signal_while_nobody_reads(program):
 
 @pytest.mark.parametrize("number", [signal.SIGTSTP, signal.SIGSTOP], ids=lambda it: it.name)
 def test_stop(start, number):
-    """What was buffered before no longer counts. Modes that nest are switched on once."""
+    """What was begun before no longer counts. Modes that nest are switched on once."""
     edit = start()
-    edit.play([b"ab" + START + b"c", "text: ab|\r\n"])
+    edit.play([b"ab\xc3", "text: ab|\r\n"])
     if number == signal.SIGTSTP:
         edit.stop()
     else:
         edit.kill(number)
         edit.wait_for_stop()
+        termios.tcsetattr(edit.child_fd, termios.TCSANOW, edit.settings_before)
     edit.continue_in_foreground()
     edit.wait_for(lambda: edit.output.count(ENTER) == 2, "modes")
     assert edit.is_raw() and edit.output.count(LEAVE) == 1

@@ -147,10 +147,10 @@ def test_signal(start, number):
 
 
 def test_sigtstp_and_sigcont_twice(start):
-    """What was buffered before the stop no longer counts."""
+    """What was begun before the stop no longer counts."""
     live = start("--mouse")
     for _ in range(2):
-        live.play([START + b"a" + END + START + b"b", "paste of 1 bytes"])
+        live.play([START + b"a" + END + b"\xc3", "paste of 1 bytes"])
         live.stop()
         live.continue_in_foreground()
         live.wait_for_raw_again()

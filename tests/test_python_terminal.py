@@ -8,10 +8,11 @@ import select
 import signal
 import subprocess
 import sys
+import time
 
 import pytest
 from pexpect import TIMEOUT
-from terminal import END, ENDING_SIGNALS, START, Terminal
+from terminal import END, ENDING_SIGNALS, LONG_PAUSE, START, Terminal
 
 PROGRAM = """
 import asyncio, errno, fcntl, os, signal, subprocess, sys, threading, time
@@ -71,6 +72,37 @@ def test_limits(run):
     program = run(SHOW)
     program.play([b"\033", "KeyCode.ESCAPE\r\n", b"\033[1;", 0.2, b"5Aq"])
     program.ends_with("KeyCode.ESCAPE", "KeyCode.UP_ARROW", "q")
+
+
+@pytest.mark.timed
+def test_limit_that_passes_in_a_handler(run):
+    """What came meanwhile is read first."""
+    program = run(
+        """
+signal.signal(signal.SIGUSR1, lambda *_: time.sleep(0.3))
+"""
+        + SHOW
+    )
+    for _ in range(2):
+        program.play([b"\033", 0.02])
+        program.kill(signal.SIGUSR1)
+        program.play([0.1, b"[A", "UP_ARROW\r\n"])
+    program.send(b"q")
+    program.ends_with("KeyCode.UP_ARROW", "KeyCode.UP_ARROW", "q")
+
+
+@pytest.mark.timed
+def test_limit_that_passes_while_it_is_stopped(run):
+    program = run(SHOW)
+    for _ in range(2):
+        program.play([b"\033", 0.02])
+        program.kill(signal.SIGSTOP)
+        program.wait_for_stop()
+        program.play([b"[A", 0.2])
+        program.continue_in_foreground()
+        program.play(["UP_ARROW\r\n"])
+    program.send(b"q")
+    program.ends_with("KeyCode.UP_ARROW", "KeyCode.UP_ARROW", "q")
 
 
 def test_no_modes(run):
@@ -436,6 +468,55 @@ def test_child_in_a_pause(run):
     program.ends_with("a", "child", "typed", "b", "q")
 
 
+PAUSED = """
+with Terminal() as terminal:
+    if {limit}:
+        terminal.parser.policy = Policy(paste=0.3)
+    ready()
+    for event in terminal:
+        show(event)
+        if event in (KeyEvent("p"), Q):
+            if event == Q:
+                break
+            while terminal.parser.waiting is Waiting.NOTHING:
+                terminal.read(0)
+            with terminal.paused():
+                subprocess.run(["sh", "-c", "stty -echo; echo child; read line"])
+            show("again")
+"""
+
+
+def test_beginning_before_a_pause(run):
+    """It counts no more."""
+    program = run(PAUSED.format(limit=False))
+    for begun in (b"\033[", b"\xc3"):
+        program.play([b"p" + begun, "child\r\n", b"\n", "again\r\n", b"A", "A\r\n"])
+    program.send(b"q")
+    program.ends_with(*["p", "child", "again", "A"] * 2, "q")
+
+
+def test_paste_over_a_pause(run):
+    """None of it is typed."""
+    program = run(PAUSED.format(limit=False))
+    for _ in range(2):
+        program.play([b"p" + START + b"b\r", "child\r\n", b"\n", "again\r\n"])
+        program.play([b"c\r" + END, "Paste("])
+    program.send(b"q")
+    program.ends_with(*["p", "child", "again", r"Paste(text='b\rc\r')"] * 2, "q")
+
+
+@pytest.mark.timed
+@pytest.mark.parametrize("limit", [False, True], ids=["a second", "the program's limit"])
+def test_paste_that_ends_with_a_pause(run, limit):
+    """The earlier limit holds."""
+    program = run(PAUSED.format(limit=limit))
+    program.play([b"p" + START + b"b\r", "child\r\n", b"\n", "again\r\n"])
+    begin = time.monotonic()
+    program.play(["Paste(", b"q"])
+    program.ends_with("p", "child", "again", r"Paste(text='b\r')", "q")
+    assert (time.monotonic() - begin < 0.9) == limit
+
+
 def test_child_that_changes_the_modes(run):
     """Without a pause it gets lines, and the program too. At the end the settings are those from
     before."""
@@ -604,6 +685,26 @@ def test_asyncio(run):
     program.ends_with("a", "KeyCode.ESCAPE", "KeyCode.UP_ARROW", size, "q", "True")
 
 
+@pytest.mark.timed
+def test_asyncio_that_is_blocked(run):
+    """A task computes while the limit passes and the rest comes."""
+    program = run(
+        """
+async def main():
+    with Terminal() as terminal:
+        asyncio.get_running_loop().call_later(0.3, time.sleep, 0.3)
+        ready()
+        async for event in terminal:
+            show(event)
+            if event == Q:
+                break
+asyncio.run(main())
+"""
+    )
+    program.play([0.28, b"\033", 0.15, b"[200~a\r" + END, "Paste", b"q"])
+    program.ends_with(r"Paste(text='a\r')", "q")
+
+
 def test_asyncio_and_the_end(run):
     program = run(ASYNC)
     program.let_end_input()
@@ -654,18 +755,136 @@ with Terminal() as terminal:
     program.ends_with("KeyCode.ESCAPE", "a", "q")
 
 
-@pytest.mark.parametrize("program", [SHOW, ASYNC], ids=["loop", "asyncio"])
-def test_stop(run, program):
-    """While it is stopped a shell has the terminal. Then all is to be drawn again."""
-    program = run(program)
-    program.play([b"a" + START + b"b", "a\r\n"])
-    program.stop()
+@pytest.fixture(params=[SHOW, ASYNC], ids=["loop", "asyncio"])
+def shows(run, request):
+    """A program that shows its events."""
+    return run(request.param)
+
+
+RESUMED = ["Resumed()", "Resize(rows=24, columns=80, height=0, width=0)"]
+
+
+def shown_lines(program):
+    """The events that a program showed, up to q."""
+    lines = program.lines()
+    return lines[1 : lines.index("q") + 1]
+
+
+def stop_and_continue(program, number):
+    """SIGTSTP gives the terminal to another program, SIGSTOP to one that leaves it alone."""
+    if number == signal.SIGTSTP:
+        program.stop()
+    else:
+        program.kill(number)
+        if number != signal.SIGCONT:
+            program.wait_for_stop()
     program.continue_in_foreground()
-    program.play(["Resumed()\r\nResize(rows=24, columns=80, height=0, width=0)\r\n"])
-    assert program.is_raw() and program.modes() == {2004}
-    program.send(b"q")
-    program.check_end(0)
-    assert program.lines()[:2] == ["ready", "a"] and "q" in program.lines()
+    if number == signal.SIGTSTP:
+        program.play(["Resumed()\r\n", "width=0)\r\n"])
+    else:
+        # Nothing tells that it goes on.
+        time.sleep(0.1)
+
+
+def test_stop(shows):
+    """While it is stopped a shell has the terminal. What was begun before counts no more."""
+    for _ in range(2):
+        shows.play([b"a\xc3", "a\r\n"])
+        stop_and_continue(shows, signal.SIGTSTP)
+        assert shows.is_raw() and shows.modes() == {2004}
+        shows.play([b"b", "b\r\n"])
+    shows.send(b"q")
+    shows.check_end(0)
+    assert shown_lines(shows) == [*["a", *RESUMED, "b"] * 2, "q"]
+
+
+@pytest.mark.timed
+def test_sequence_cut_by_a_stop(shows):
+    shows.play([b"a\033[1;", "a\r\n"])
+    stop_and_continue(shows, signal.SIGTSTP)
+    shows.send(b"Aq")
+    shows.check_end(0)
+    assert shown_lines(shows) == ["a", *RESUMED, "A", "q"]
+
+
+NOBODY = [signal.SIGCONT, signal.SIGSTOP]
+
+
+@pytest.mark.timed
+@pytest.mark.parametrize("number", NOBODY, ids=lambda it: it.name)
+@pytest.mark.parametrize(
+    "opened, closed, event",
+    [
+        (START + b"a\r", b"b\r" + END, r"Paste(text='a\rb\r')"),
+        (b"\033]11;rgb:0", b"/0/0\007", "Osc(data=b'11;rgb:0/0/0')"),
+        (b"\033[1;", b"5A", "KeyCode.UP_ARROW"),
+    ],
+    ids=["a paste", "a string", "a sequence"],
+)
+def test_stop_where_nobody_had_the_terminal(shows, number, opened, closed, event):
+    """Nothing happened."""
+    for _ in range(2):
+        shows.send(opened)
+        for _ in range(2):
+            stop_and_continue(shows, number)
+        shows.play([closed, f"{event}\r\n"])
+    shows.send(b"q")
+    shows.check_end(0)
+    assert shown_lines(shows) == [event, event, "q"]
+    assert shows.output.count(b"\033[?2004h") == 1
+
+
+def test_size_of_a_stop(shows):
+    """It is told although nobody had the terminal."""
+    shows.kill(signal.SIGSTOP)
+    shows.wait_for_stop()
+    shows.resize(100, 40)
+    shows.kill(signal.SIGWINCH)
+    shows.continue_in_foreground()
+    shows.play(["columns=100", b"q"])
+    shows.check_end(0)
+    assert shown_lines(shows) == ["Resize(rows=40, columns=100, height=0, width=0)", "q"]
+
+
+@pytest.mark.timed
+def test_paste_over_a_stop(shows):
+    """None of it is typed. A later one is itself, whatever pause it has."""
+    shows.play([b"a" + START + b"b\r", "a\r\n"])
+    stop_and_continue(shows, signal.SIGTSTP)
+    shows.play([0.7, b"c\r", 0.7, b"d\r" + END + START + b"e\r", LONG_PAUSE, b"f" + END + b"q"])
+    shows.check_end(0)
+    pastes = [r"Paste(text='b\rc\rd\r')", r"Paste(text='e\rf')"]
+    assert shown_lines(shows) == ["a", *RESUMED, *pastes, "q"]
+
+
+@pytest.mark.timed
+def test_paste_whose_rest_does_not_come(shows):
+    """It is told after a second. Then keys are keys, and another paste has no such limit."""
+    shows.play([b"a" + START + b"b\r", "a\r\n"])
+    begin = time.monotonic()
+    stop_and_continue(shows, signal.SIGTSTP)
+    shows.play(["Paste(", b"c" + START + b"d", LONG_PAUSE, b"e" + END + b"q"])
+    shows.check_end(0)
+    assert time.monotonic() - begin > 1.0 + LONG_PAUSE - 0.1
+    pastes = [r"Paste(text='b\r')", "c", "Paste(text='de')"]
+    assert shown_lines(shows) == ["a", *RESUMED, *pastes, "q"]
+
+
+@pytest.mark.timed
+@pytest.mark.parametrize(
+    "rest, event",
+    [
+        (b"/0/0\007", "Osc(data=b'11;rgb:0/0/0')"),
+        (b"", "StringCut(kind=StringKind.OSC, data=b'11;rgb:0')"),
+    ],
+    ids=["whole", "cut"],
+)
+def test_string_over_a_stop(shows, rest, event):
+    shows.play([b"a\033]11;rgb:0", "a\r\n"])
+    stop_and_continue(shows, signal.SIGTSTP)
+    shows.play([rest, f"{event}\r\n", b"bq"])
+    shows.check_end(0)
+    assert shown_lines(shows) == ["a", *RESUMED, event, "b", "q"]
 
 
 MEMORY = """

@@ -20,6 +20,7 @@ import contextlib
 import dataclasses
 import errno
 import fcntl
+import itertools
 import os
 import select
 import signal
@@ -59,6 +60,7 @@ from . import (
     Resize,
     StringCut,
     StringPart,
+    Waiting,
     reply,
 )
 
@@ -73,8 +75,8 @@ class PastePart(Paste):
 
 @dataclass(frozen=True)
 class Resumed:
-    """Another program had the terminal, while this one was stopped. All is to be drawn again. What
-    was buffered before doesn't count any more. A Resize follows, since the size may be new."""
+    """Another program had the terminal, while this one was stopped. All is to be drawn again. A
+    Resize follows, since the size may be new."""
 
 
 TerminalEvent = Union[ExtendedEvent, Resumed]
@@ -95,6 +97,9 @@ _NO_SIGNAL: FrozenSet[int] = frozenset()
 _READ = 4096
 # How many seconds the modes may take to be switched off, if nobody reads what is written.
 _LEAVING = 1.0
+# How many seconds a paste or a string goes on without bytes that was open when another program had
+# the terminal.
+_STALL, _OPEN = 1.0, (Waiting.PASTE, Waiting.STRING)
 
 # The Terminal that is entered.
 _entered: Optional[Terminal] = None
@@ -123,10 +128,15 @@ class Terminal:
     if the terminal is gone: what was buffered is flushed then.
 
     SIGHUP, SIGINT, SIGQUIT and SIGTERM restore the terminal and end the process as ever, SIGTSTP
-    restores it and stops the process, SIGCONT sets it again, and SIGWINCH brings a Resize. This is
-    so if the main thread enters the block, for each of these signals that isn't ignored and has no
-    handler. So Ctrl-C from another process still raises KeyboardInterrupt, and a handler of the
-    program's own is left alone. If a process is forked, only the parent restores the terminal.
+    restores it and stops the process, SIGCONT sets it again if another program had it, and SIGWINCH
+    brings a Resize. This is so if the main thread enters the block, for each of these signals that
+    isn't ignored and has no handler. So Ctrl-C from another process still raises KeyboardInterrupt,
+    and a handler of the program's own is left alone. If a process is forked, only the parent
+    restores the terminal.
+
+    After another program had the terminal, half a sequence from before is forgotten. A paste or a
+    string that was open goes on, so that its rest isn't typed. Once no byte of it came for a
+    second, it ends where it is.
 
     A process enters one Terminal at a time, and one thread or task reads its events. The same
     Terminal may be entered again. To enter raises OSError if there is no terminal, and RuntimeError
@@ -168,6 +178,8 @@ class Terminal:
         self._unread, self._is_refused = b"", False
         # Whether `ask` waits for the last reply.
         self._is_asking = False
+        # When a paste or a string ends that was open when another program had the terminal.
+        self._stalls: Optional[float] = None
         # Signals that came, those that have to wait, and those that are handled here.
         self._noted: Set[int] = set()
         self._held = _NO_SIGNAL
@@ -279,8 +291,7 @@ class Terminal:
     @contextlib.contextmanager
     def paused(self) -> Iterator[None]:
         """Restores the terminal for another program, such as an editor that is started, and sets it
-        again at the end of the `with` block, whatever that program made of it. What was buffered
-        before doesn't count any more."""
+        again at the end of the `with` block, whatever that program made of it."""
         self._is_paused = True
         self._leave()
         try:
@@ -298,7 +309,10 @@ class Terminal:
 
     def timeout(self) -> Optional[float]:
         """Returns for how many seconds such a loop may wait, None for ever."""
-        return 0.0 if self._is_refused else self.parser.timeout()
+        if self._is_refused:
+            return 0.0
+        left = None if self._stalls is None else max(0.0, self._stalls - time.monotonic())
+        return _earliest(self.parser.timeout(), left)
 
     # What was read.
 
@@ -308,15 +322,17 @@ class Terminal:
         if self._is_refused:
             self._parse(b"")
             return True
-        ready = [fd for fd, _ in self._epoll.poll(_earliest(limit, self.timeout()))]
+        self._epoll.poll(_earliest(limit, self.timeout()))
+        # A wait that ends in a signal's handler doesn't look again. So what is due now is due only
+        # if nothing has come.
+        now = time.monotonic()
+        ready = [fd for fd, _ in self._epoll.poll(0)]
         if self._wake in ready:
             self._take_signals()
         elif ready:
             self._take_input()
         else:
-            expired = self.parser.expire()
-            self._add(expired)
-            return bool(expired)
+            return self._expire(now)
         return True
 
     async def _wait(self, limit: Optional[float]) -> None:
@@ -362,9 +378,7 @@ class Terminal:
         if data:
             self._parse(data)
             return
-        self._add(self.parser.flush())
-        paste = self.parser.end_paste()
-        self._add([paste] if paste else [])
+        self._end()
         self._is_ended = True
 
     def _parse(self, data: bytes) -> None:
@@ -373,6 +387,7 @@ class Terminal:
         self._is_refused = True
         self.parser.feed(self._unread)
         self._unread = b""
+        before = len(self._events)
         if self._awaits_flags:
             # One by one, since an event may change how the next is read.
             for event in self.parser:
@@ -380,8 +395,10 @@ class Terminal:
                 self._read_by_flags(event)
         else:
             self._add(self.parser.parse(b""))
-        part = self.parser.take_paste(self._paste_limit)
-        self._add([PastePart(part)] if part else [])
+        if self._stalls is not None:
+            self._put_off(before)
+        if part := self.parser.take_paste(self._paste_limit):
+            self._events.append(PastePart(part))
         self._is_refused = False
 
     def _read_by_flags(self, event: ExtendedEvent) -> None:
@@ -389,10 +406,42 @@ class Terminal:
             self._awaits_flags = False
             self.parser.reading = dataclasses.replace(self.parser.reading, protocol=Protocol.KITTY)
 
+    def _put_off(self, count: int) -> None:
+        """Has a paste or a string go on that was open when another program had the terminal, unless
+        an event behind so many ends it."""
+        came = itertools.islice(self._events, count, None)
+        is_open = all(isinstance(event, StringPart) for event in came)
+        self._stalls = time.monotonic() + _STALL if is_open else None
+
+    def _expire(self, now: float) -> bool:
+        """Adds the events of what has waited for too long by then, and returns whether anything
+        has. Nothing could be read since."""
+        count = len(self._events)
+        self._add(self.parser.expire(now))
+        if len(self._events) > count:
+            self._stalls = None
+        elif self._stalls is not None and self._stalls <= now:
+            self._end()
+        return len(self._events) > count
+
+    def _end(self) -> None:
+        """Adds the events of all that is buffered, and ends an open paste where it is."""
+        self._add(self.parser.flush())
+        paste = self.parser.end_paste()
+        self._add([paste] if paste else [])
+        self._stalls = None
+
     def _forget(self) -> None:
-        """Forgets what is buffered: another program had the terminal."""
+        """Forgets what is buffered, since another program had the terminal. A paste or a string
+        stays open, or the rest of it would be typed."""
+        if self.parser.waiting in _OPEN:
+            self._stalls = time.monotonic() + _STALL
+        else:
+            self._reset()
+
+    def _reset(self) -> None:
         self.parser.reset()
-        self._unread, self._is_refused = b"", False
+        self._unread, self._is_refused, self._stalls = b"", False, None
 
     def _add(self, events: List[ExtendedEvent]) -> None:
         self._events.extend(events)
@@ -441,7 +490,7 @@ class Terminal:
         self._input, self._output = (
             _found(chosen, standard, stack) for standard, chosen in enumerate(self._descriptors)
         )
-        self._saved = _call(termios.tcgetattr, self._input)
+        self._saved = self._ours = _call(termios.tcgetattr, self._input)
         self._wake, self._wakes = os.pipe2(os.O_NONBLOCK | os.O_CLOEXEC)
         stack.callback(os.close, self._wake)
         stack.callback(os.close, self._wakes)
@@ -452,7 +501,7 @@ class Terminal:
         self._is_ended = False
         self._events.clear()
         self._signalled.clear()
-        self._forget()
+        self._reset()
 
     def _enter(self) -> None:
         """Sets raw mode, and switches the modes on. If they were never left, as around SIGSTOP,
@@ -460,6 +509,7 @@ class Terminal:
         with self._holding(_OTHERS):
             self._is_raw = True
             _set(self._input, _raw(self._saved))
+            self._ours = _call(termios.tcgetattr, self._input)
             self._switch_off()
             # From the first byte on, since a signal may end the write.
             self._is_switched = True
@@ -558,6 +608,9 @@ class Terminal:
             return
         # If the terminal is gone, the next read tells.
         with contextlib.suppress(OSError):
+            if self._is_raw and _call(termios.tcgetattr, self._input) == self._ours:
+                # Nobody else had it.
+                return
             self._enter()
             self._tell(Resumed(), self.size())
 
