@@ -14,7 +14,7 @@ from terminal import END, ENDING_SIGNALS, PAUSE, START, Terminal
 from terminal_data import FOLDER, load
 
 KEYS = TOP / "docs/edit.keys"
-ENTER = b"\033[?2004h\033[>4;2m\033[>5u\033[?u"
+ENTER = b"\033[?2004h\033[>4;2m\033[>5u\033[?u\033[c"
 LEAVE = b"\033[<u\033[>4m\033[?2004l"
 # How long the rest of a chord may take, in seconds, and a pause that is shorter.
 CHORD_PAUSE, SHORT_PAUSE = 1.0, 0.6

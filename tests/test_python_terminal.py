@@ -152,6 +152,53 @@ with Terminal(kitty=flags, modify_other_keys=2, enter=enter, leave=leave) as ter
     assert program.output.endswith(off + b"\033[?1049l")
 
 
+KITTY = """
+with Terminal(kitty=KittyKeyboardFlags.DISAMBIGUATE_ESCAPE_CODES) as terminal:
+    ready()
+    for event in terminal:
+        show(event)
+        if event == KeyEvent("l"):
+            terminal.parser.reading = Reading(Protocol.LEGACY)
+        if event == KeyEvent("n"):
+            show("replies", *terminal.ask(b"\\033[?u", 60), "asked")
+        if event == Q:
+            break
+"""
+FLAGS = "KeyboardFlags(flags=KittyKeyboardFlags.DISAMBIGUATE_ESCAPE_CODES, unnamed=0)"
+
+
+def test_reading_that_the_program_sets(run):
+    """It stays, whatever is reported later."""
+    program = run(KITTY)
+    program.play([b"\033[?1u\033[?62cl", "l\r\n", b"\033[?1u\033[1;5Rq"])
+    program.ends_with(FLAGS, "l", FLAGS, "Function(number=3)", "q")
+
+
+def test_reply_behind_the_flags(run):
+    """The program gets that to its own question alone."""
+    program = run(KITTY)
+    program.send(b"\033[?1u\033[?62;1c\033[?62;2cn")
+    program.play(["Csi", "\033[?u\033[c", b"\033[?1u\033[?62;3c\033[?62;4cq"])
+    replies = ["replies", FLAGS, "Csi(data=b'?62;3c')", "asked"]
+    program.ends_with(FLAGS, "Csi(data=b'?62;2c')", "n", *replies, "Csi(data=b'?62;4c')", "q")
+
+
+def test_question_behind_the_flags(run):
+    """What belongs to the flags are events."""
+    program = run(KITTY)
+    program.play([b"n", "\033[c", b"\033[?1u\033[?62;1c\033[?2u\033[?62;2cq"])
+    other = FLAGS.replace("DISAMBIGUATE_ESCAPE_CODES", "REPORT_EVENT_TYPES")
+    program.ends_with("n", "replies", other, "Csi(data=b'?62;2c')", "asked", FLAGS, "q")
+
+
+@pytest.mark.timed
+def test_late_reply_behind_the_flags(run):
+    """After two seconds none is owed any more."""
+    program = run(KITTY)
+    program.play([2.2, b"\033[?1u\033[?62cq"])
+    program.ends_with(FLAGS, "Csi(data=b'?62c')", "q")
+
+
 def test_sizes(run):
     program = run(
         """
@@ -600,6 +647,106 @@ def test_ask(asking):
     program.ends_with(*ANSWERS, "asked", *typed, "Csi(data=b'?1;2c')", "Function(number=3)", "q")
 
 
+def test_question_that_is_over(asking):
+    """It counts no more once the last one is answered."""
+    program = asking(60)
+    program.play(["\033[c", b"\033[?62;22c\033[1;5Rq"])
+    program.ends_with(ANSWERS[2], "asked", "Function(number=3)", "q")
+
+
+ASK_AGAIN = {
+    "": """
+    show(*terminal.ask(b"\\033[6n", 0.2), "asked")
+    for event in terminal:
+        show(event)
+        if event == KeyEvent("n"):
+            show("replies", *terminal.ask(b"\\033]11;?\\033\\\\", 60), "asked")
+        if event == Q:
+            break""",
+    "async ": """
+    async def main():
+        show(*await terminal.ask_async(b"\\033[6n", 0.2), "asked")
+        async for event in terminal:
+            show(event)
+            if event == KeyEvent("n"):
+                show("replies", *await terminal.ask_async(b"\\033]11;?\\033\\\\", 60), "asked")
+            if event == Q:
+                break
+    asyncio.run(main())""",
+}
+
+
+@pytest.fixture(params=ASK_AGAIN.values(), ids=["ask", "ask_async"])
+def asking_again(run, request):
+    """Asks for the cursor for 0.2 seconds, and for the background at each n."""
+    return run(f"with Terminal() as terminal:\n    ready()\n    {request.param.strip()}")
+
+
+CURSOR, BACKGROUND = b"\033[1;5R\033[?62;1c", b"\033]11;rgb:0/0/0\007\033[?62;2c"
+LATE = [ANSWERS[0], "Csi(data=b'?62;1c')"]
+IN_TIME = [ANSWERS[1], "Csi(data=b'?62;2c')"]
+
+
+def test_late_replies(asking_again):
+    """They are events, also while others are awaited. Behind them the cursor isn't expected."""
+    program = asking_again
+    program.play(["\033[c", "asked\r\n", b"n", "\033[c", 0.4, CURSOR, 0.1, BACKGROUND])
+    program.play(["asked\r\n", b"\033[1;5Rn", "\033[c", BACKGROUND, "asked\r\n", b"q"])
+    again = ["replies", *IN_TIME, "asked"]
+    program.ends_with("asked", "n", *again, *LATE, "Function(number=3)", "n", *again, "q")
+
+
+def test_late_replies_before_another_question(asking_again):
+    program = asking_again
+    program.play(["\033[c", "asked\r\n", 0.4, CURSOR + b"\033[1;5Rn", "\033[c", BACKGROUND])
+    program.play(["asked\r\n", b"q"])
+    again = ["n", "replies", *IN_TIME, "asked"]
+    program.ends_with("asked", *LATE, "Function(number=3)", *again, "q")
+
+
+@pytest.mark.timed
+def test_replies_that_are_too_late(asking_again):
+    """After two seconds they count for no question, and end none."""
+    program = asking_again
+    program.play(["\033[c", "asked\r\n", 2.1, CURSOR + b"n", "\033[c", BACKGROUND])
+    program.play(["asked\r\n", b"q"])
+    again = ["n", "replies", *IN_TIME, "asked"]
+    program.ends_with("asked", "Function(number=3)", LATE[1], *again, "q")
+
+
+def test_questions_before_a_stop(asking_again):
+    """Another program may have got the replies. So none is awaited."""
+    program = asking_again
+    program.play(["\033[c", "asked\r\n", b"n", "\033[c"])
+    stop_and_continue(program, signal.SIGTSTP)
+    program.play([b"\033[1;5Rn", "\033[c", BACKGROUND, "asked\r\n", b"q"])
+    program.check_end(0)
+    again = ["n", "replies", *IN_TIME, "asked"]
+    lines = [line for line in program.lines()[1:] if line not in RESUMED]
+    assert lines == ["asked", "n", "replies", "asked", "Function(number=3)", *again, "q"]
+
+
+def test_flood(run):
+    """It is given up once so much was typed. The rest stays unread, and nothing is lost."""
+    program = run(
+        """
+with Terminal() as terminal:
+    ready()
+    for _ in range(2):
+        replies = terminal.ask(b"", 600)
+        count = 0
+        while terminal.read() == KeyEvent("a"):
+            count += 1
+        show(len(replies), count)
+    show_until_q(terminal)
+"""
+    )
+    for _ in range(2):
+        program.play(["\033[c", b"a" * 100000 + b"b", "0\r\n100000\r\n"])
+    program.send(b"q")
+    program.ends_with(*["0", "100000"] * 2, "q")
+
+
 def test_ask_in_vain(asking):
     """What came in time is returned."""
     program = asking(1.0)
@@ -627,6 +774,26 @@ with Terminal() as terminal:
     program.kill(signal.SIGUSR1)
     program.play(["interrupted\r\n", END + b"q"])
     program.ends_with("interrupted", "Csi(data=b'?1;2$y')", "a", "Paste(text='')", "q")
+
+
+def test_replies_and_refused_memory(run):
+    """What the list can't hold are events, in their order."""
+    program = run(
+        """
+from collections import deque
+from unittest import mock
+with Terminal() as terminal:
+    ready()
+    with mock.patch("hedrugal.terminal.collections.deque", side_effect=MemoryError):
+        try:
+            show(*terminal.ask(b"", 60))
+        except MemoryError:
+            show("refused")
+    show_until_q(terminal)
+"""
+    )
+    program.play(["\033[c", b"a\033[?1;2$yb\033[?62cq"])
+    program.ends_with("refused", "a", "Csi(data=b'?1;2$y')", "b", "Csi(data=b'?62c')", "q")
 
 
 def test_ask_and_refused_memory(run):

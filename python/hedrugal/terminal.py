@@ -34,6 +34,7 @@ from typing import (
     AsyncIterator,
     Callable,
     Deque,
+    Dict,
     FrozenSet,
     Iterator,
     List,
@@ -83,7 +84,7 @@ TerminalEvent = Union[ExtendedEvent, Resumed]
 
 # What a terminal replies.
 _REPLIES = (CursorPosition, KeyboardFlags, Csi, Osc, Dcs, Apc, StringPart, StringCut)
-# The question for the cursor's position, and the one that every terminal answers (DA1).
+# The question for the cursor's position, and the one that is asked last (DA1).
 _POSITION, _ATTRIBUTES = b"\x1b[6n", b"\x1b[c"
 _TRACKING = {
     MouseTracking.X10: 9,
@@ -97,12 +98,29 @@ _NO_SIGNAL: FrozenSet[int] = frozenset()
 _READ = 4096
 # How many seconds the modes may take to be switched off, if nobody reads what is written.
 _LEAVING = 1.0
+# For how many seconds a reply is owed. Some terminals never answer.
+_OWED = 2.0
 # How many seconds a paste or a string goes on without bytes that was open when another program had
 # the terminal.
 _STALL, _OPEN = 1.0, (Waiting.PASTE, Waiting.STRING)
+# `ask` reads no more once so many events are there.
+_MOST_EVENTS = 65536
 
 # The Terminal that is entered.
 _entered: Optional[Terminal] = None
+
+
+class _Question:
+    """The question that is asked last, whose reply the terminal owes."""
+
+    def __init__(self, seconds: float = 0.0, positions: int = 0, is_told: bool = True) -> None:
+        now = time.monotonic()
+        # Until when `ask` waits, and until when the reply is owed.
+        self.end, self.until = now + seconds, now + max(_OWED, seconds)
+        # How many questions for the cursor's position went with it.
+        self.positions = positions
+        # Whether the reply is an event.
+        self.is_told = is_told
 
 
 class Terminal:
@@ -165,10 +183,11 @@ class Terminal:
             self._on += b"\x1b[>4;%dm" % modify_other_keys
             self._off = b"\x1b[>4m" + self._off
         if kitty:
-            self._on += b"\x1b[>%du\x1b[?u" % kitty.value
+            self._on += b"\x1b[>%du\x1b[?u" % kitty.value + _ATTRIBUTES
             self._off = b"\x1b[<u" + self._off
-        # Whether keys are to be read by Kitty's protocol once its flags are reported.
-        self._awaits_flags = bool(kitty)
+        # Whether the flags are asked for, and whether keys are to be read by Kitty's protocol once
+        # they are reported.
+        self._asks_flags = self._awaits_flags = bool(kitty)
         self._paste_limit = paste_limit
         self._descriptors = input, output
         # Events that were read, and those that came of signals.
@@ -176,10 +195,13 @@ class Terminal:
         self._signalled: Deque[TerminalEvent] = collections.deque()
         # Bytes that memory was refused for, and whether it was refused for them or their events.
         self._unread, self._is_refused = b"", False
-        # Whether `ask` waits for the last reply.
-        self._is_asking = False
         # When a paste or a string ends that was open when another program had the terminal.
         self._stalls: Optional[float] = None
+        # The questions whose replies are owed, the oldest first.
+        self._owed: Deque[_Question] = collections.deque()
+        # That of the call of `ask`, and its replies by their places among the events.
+        self._asked: Optional[_Question] = None
+        self._replies: Dict[int, ExtendedEvent] = {}
         # Signals that came, those that have to wait, and those that are handled here.
         self._noted: Set[int] = set()
         self._held = _NO_SIGNAL
@@ -253,21 +275,26 @@ class Terminal:
         replies that came within so many seconds. Several questions may be asked at once.
         `hedrugal.reply` says what a reply tells.
 
-        The question for the terminal's attributes (DA1) is written last. Every terminal answers it,
-        after the others, so the wait ends with that reply, which is the last of the list. If it
-        isn't there, the time was too short. What is replied later is an event, and so is what is
-        typed meanwhile. If the call raises an exception, the replies so far are events too."""
-        end = time.monotonic() + timeout
-        with self._asking(question) as replies:
-            while left := self._left(end):
+        The question for the terminal's attributes (DA1) is written last. Terminals answer in order,
+        so the wait ends with that reply, which is the last of the list. If it isn't there, the list
+        isn't whole. The time was too short, or another program had the terminal, or 65536 events
+        are there, which are to be read first. A few terminals never answer, as dvtm and Emacs'
+        ansi-term.
+
+        What is typed meanwhile is an event, and so is the reply to an earlier question. If the call
+        raises an exception, the replies so far are events too.
+
+        A reply is awaited for two seconds, or for `timeout` if that is longer. One that comes later
+        is an event, but within a later call it is taken for the reply to that one."""
+        with self._asking(question, timeout) as replies:
+            while left := self._left():
                 self._advance(left)
         return replies
 
     async def ask_async(self, question: bytes, timeout: float = 1.0) -> List[ExtendedEvent]:
         """Does what `ask` does, in the running loop of asyncio."""
-        end = time.monotonic() + timeout
-        with self._asking(question) as replies:
-            while left := self._left(end):
+        with self._asking(question, timeout) as replies:
+            while left := self._left():
                 await self._wait(_earliest(left, self.timeout()))
                 self._advance(0)
         return replies
@@ -311,8 +338,10 @@ class Terminal:
         """Returns for how many seconds such a loop may wait, None for ever."""
         if self._is_refused:
             return 0.0
-        left = None if self._stalls is None else max(0.0, self._stalls - time.monotonic())
-        return _earliest(self.parser.timeout(), left)
+        now = time.monotonic()
+        times = [self._stalls, *(it.until for it in self._owed)]
+        left = (max(0.0, it - now) for it in times if it is not None)
+        return _earliest(self.parser.timeout(), *left)
 
     # What was read.
 
@@ -388,23 +417,17 @@ class Terminal:
         self.parser.feed(self._unread)
         self._unread = b""
         before = len(self._events)
-        if self._awaits_flags:
+        if self._owed or self._awaits_flags:
             # One by one, since an event may change how the next is read.
             for event in self.parser:
-                self._add([event])
-                self._read_by_flags(event)
+                self._add(event)
         else:
-            self._add(self.parser.parse(b""))
+            self._events.extend(self.parser.parse(b""))
         if self._stalls is not None:
             self._put_off(before)
         if part := self.parser.take_paste(self._paste_limit):
             self._events.append(PastePart(part))
         self._is_refused = False
-
-    def _read_by_flags(self, event: ExtendedEvent) -> None:
-        if isinstance(event, KeyboardFlags):
-            self._awaits_flags = False
-            self.parser.reading = dataclasses.replace(self.parser.reading, protocol=Protocol.KITTY)
 
     def _put_off(self, count: int) -> None:
         """Has a paste or a string go on that was open when another program had the terminal, unless
@@ -417,18 +440,26 @@ class Terminal:
         """Adds the events of what has waited for too long by then, and returns whether anything
         has. Nothing could be read since."""
         count = len(self._events)
-        self._add(self.parser.expire(now))
+        for event in self.parser.expire(now):
+            self._add(event)
         if len(self._events) > count:
             self._stalls = None
         elif self._stalls is not None and self._stalls <= now:
             self._end()
-        return len(self._events) > count
+        owed = self._owed
+        overdue = [it for it in owed if it.until <= now]
+        for question in overdue:
+            owed.remove(question)
+        if overdue:
+            self._expect_positions()
+        return len(self._events) > count or bool(overdue)
 
     def _end(self) -> None:
         """Adds the events of all that is buffered, and ends an open paste where it is."""
-        self._add(self.parser.flush())
-        paste = self.parser.end_paste()
-        self._add([paste] if paste else [])
+        for event in self.parser.flush():
+            self._add(event)
+        if paste := self.parser.end_paste():
+            self._add(paste)
         self._stalls = None
 
     def _forget(self) -> None:
@@ -438,50 +469,70 @@ class Terminal:
             self._stalls = time.monotonic() + _STALL
         else:
             self._reset()
+        self._expect_positions()
 
     def _reset(self) -> None:
         self.parser.reset()
         self._unread, self._is_refused, self._stalls = b"", False, None
 
-    def _add(self, events: List[ExtendedEvent]) -> None:
-        self._events.extend(events)
-        if self._is_asking and any(map(_is_attributes, events)):
-            self._is_asking = False
+    # Replies.
+
+    def _add(self, event: ExtendedEvent) -> None:
+        """Adds an event, which may be a reply."""
+        if self._awaits_flags and isinstance(event, KeyboardFlags):
+            self._awaits_flags = False
+            self.parser.reading = dataclasses.replace(self.parser.reading, protocol=Protocol.KITTY)
+        # The same to its end, whatever a signal's handler does.
+        owed = self._owed
+        if not owed:
+            self._events.append(event)
+            return
+        question, is_last = owed[0], _is_attributes(event)
+        if question.is_told or not is_last:
+            self._events.append(event)
+        if question is self._asked and isinstance(event, _REPLIES):
+            self._replies[len(self._events) - 1] = event
+        if is_last:
+            owed.popleft()
+            self._expect_positions()
+
+    def _expect_positions(self) -> None:
+        """Expects a position of the cursor for each question that is open."""
+        self.parser.forget_positions()
+        for question in self._owed:
+            for _ in range(question.positions):
+                self.parser.expect_position()
 
     @contextlib.contextmanager
-    def _asking(self, question: bytes) -> Iterator[List[ExtendedEvent]]:
+    def _asking(self, question: bytes, seconds: float) -> Iterator[List[ExtendedEvent]]:
         """Writes questions. At the end of the block their replies are moved to the list, up to the
         last one. If it ends by an exception they stay events, since nobody gets the list."""
         replies: List[ExtendedEvent] = []
-        for _ in range(question.count(_POSITION)):
+        self._asked = _Question(seconds, question.count(_POSITION))
+        self._replies.clear()
+        self._owed.append(self._asked)
+        for _ in range(self._asked.positions):
             self.parser.expect_position()
-        before, self._events = self._events, collections.deque()
-        self._is_asking = True
         try:
             self.write(question + _ATTRIBUTES)
             yield replies
             self._move_replies(replies)
         finally:
-            self._events.extendleft(reversed(before))
-            self._is_asking = False
-            self.parser.forget_positions()
+            self._asked = None
 
     def _move_replies(self, replies: List[ExtendedEvent]) -> None:
-        others: Deque[TerminalEvent] = collections.deque()
-        is_open = True
-        for event in self._events:
-            if is_open and isinstance(event, _REPLIES):
-                replies.append(event)
-                is_open = not _is_attributes(event)
-            else:
-                others.append(event)
-        self._events = others
+        replies.extend(self._replies.values())
+        others = (it for place, it in enumerate(self._events) if place not in self._replies)
+        self._events = collections.deque(others)
 
-    def _left(self, end: float) -> float:
-        """How many seconds are left, 0 once the last question is answered."""
-        if self._is_ended or not self._is_asking:
+    def _left(self) -> float:
+        """How many seconds `ask` still waits, 0 once the last question is answered."""
+        asked = self._asked
+        if asked is None or asked not in self._owed or self._is_ended:
             return 0.0
-        return max(0.0, end - time.monotonic())
+        if len(self._events) >= _MOST_EVENTS:
+            return 0.0
+        return max(0.0, asked.end - time.monotonic())
 
     # The terminal's modes.
 
@@ -513,6 +564,9 @@ class Terminal:
             self._switch_off()
             # From the first byte on, since a signal may end the write.
             self._is_switched = True
+            # Another program may have got the reply to any other question.
+            asked = [_Question(is_told=False)] if self._asks_flags else []
+            self._owed = collections.deque(asked)
             self.write(self._on)
 
     def _leave(self) -> None:
