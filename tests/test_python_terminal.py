@@ -487,10 +487,173 @@ with terminal:
     show_until_q(terminal)
 """
     )
-    # What is typed before the first block ends is discarded at its end.
-    program.play([b"aq", "again\r\n", b"bq"])
+    program.play([b"a", b"q", "again\r\n", b"bq"])
     refused = "a Terminal is entered already"
     program.ends_with(refused, refused, "a", "q", "again", "b", "q")
+
+
+# Runs a program, and prints what is left to be read after it, up to a full stop.
+SHELL = """
+import os, subprocess, sys, termios
+before = termios.tcgetattr(0)
+status = subprocess.call([sys.executable, "-W", "error", "-c", *sys.argv[1:]])
+raw = termios.tcgetattr(0)
+assert raw == before
+raw[3] &= ~(termios.ICANON | termios.ECHO)
+termios.tcsetattr(0, termios.TCSANOW, raw)
+print("shell", flush=True)
+left = b""
+while not left.endswith(b"."):
+    left += os.read(0, 1)
+termios.tcsetattr(0, termios.TCSANOW, before)
+print(status, left)
+"""
+
+
+@pytest.fixture
+def run_below_shell(on_terminal):
+    def start(text):
+        return on_terminal(Program([sys.executable, "-c", SHELL, PROGRAM + text]))
+
+    return start
+
+
+def left_for_shell(program, status=0):
+    """What is left to be read after a program that ended so."""
+    program.play(["shell\r\n", b"."])
+    program.check_end(0)
+    printed, left = program.lines()[-1].split(" ", 1)
+    assert int(printed) == status
+    return left
+
+
+ENDS = {"the block's end": ("pass", 0), "SIGTERM": ("os.kill(os.getpid(), 15)", -15)}
+each_end = pytest.mark.parametrize("end, status", ENDS.values(), ids=ENDS)
+
+
+@pytest.mark.timed
+@each_end
+def test_typed_ahead(run_below_shell, end, status):
+    """It is left for the shell."""
+    program = run_below_shell(
+        f"""
+with Terminal(focus=True) as terminal:
+    ready()
+    show(terminal.read())
+    time.sleep(0.3)
+    {end}
+"""
+    )
+    program.play([b"q", "q\r\n", b"ls\r"])
+    assert left_for_shell(program, status) == r"b'ls\r.'"
+
+
+@pytest.mark.timed
+@each_end
+@pytest.mark.parametrize("mouse", [False, True], ids=["", "mouse"])
+def test_replies_at_the_end(run_below_shell, end, status, mouse):
+    """They are awaited as long as the slowest took, twice, and no byte behind them is read."""
+    program = run_below_shell(
+        f"""
+mouse = MouseTracking.ANY if {mouse} else None
+flags = KittyKeyboardFlags.DISAMBIGUATE_ESCAPE_CODES
+with Terminal(kitty=flags, mouse=mouse) as terminal:
+    ready()
+    show(*terminal.ask(b"", 60))
+    for _ in range(2):
+        terminal.ask(b"\033[6n", 0.1)
+    {end}
+"""
+    )
+    program.play(["\033[c", 0.4, b"\033[?1u\033[?62c\033[?62c", "62c"])
+    program.play(["\033[6n\033[c", "\033[6n\033[c", "\033[?2004l", 0.4, b"a\033[<35;3;4M"])
+    program.play([CURSOR, 0.1, CURSOR + b"ls\r"])
+    assert left_for_shell(program, status) == r"b'ls\r.'"
+
+
+@pytest.mark.timed
+@each_end
+def test_mouse_at_the_end(run_below_shell, end, status):
+    """A report that is on its way reaches no shell. What is typed behind it does."""
+    program = run_below_shell(
+        f"""
+with Terminal(mouse=MouseTracking.ANY) as terminal:
+    ready()
+    show(*terminal.ask(b"", 60))
+    show(terminal.read())
+    {end}
+"""
+    )
+    program.play(["\033[c", 0.2, b"\033[?62cq", "q\r\n", "\033[?1003l", "\033[?2004l\033[c"])
+    program.play([0.2, b"\033[<35;3;4M\033[?62cls\r"])
+    assert left_for_shell(program, status) == r"b'ls\r.'"
+
+
+SILENT = {
+    "mouse": ("mouse=MouseTracking.ANY", ""),
+    "a question": ("", "terminal.ask(b'', 0.01)"),
+    "flags": ("kitty=KittyKeyboardFlags.DISAMBIGUATE_ESCAPE_CODES", ""),
+}
+
+
+@pytest.mark.timed
+@each_end
+@pytest.mark.parametrize("how, asks", SILENT.values(), ids=SILENT)
+def test_terminal_that_never_answers(run_below_shell, end, status, how, asks):
+    """It ends soon. What came until then is discarded, since it may be for the program."""
+    program = run_below_shell(
+        f"""
+with Terminal({how}) as terminal:
+    ready()
+    show(terminal.read())
+    time.sleep(0.3)
+    {asks or 'pass'}
+    {end}
+"""
+    )
+    program.play([b"q", "q\r\n", b"\033[<35;3;4M"])
+    begin = time.monotonic()
+    assert left_for_shell(program, status) == "b'.'"
+    assert time.monotonic() - begin < 1.3
+
+
+@pytest.mark.timed
+def test_terminal_that_did_not_answer(run_below_shell):
+    """After two seconds nothing is owed, so what is typed ahead is kept."""
+    program = run_below_shell(
+        """
+with Terminal() as terminal:
+    ready()
+    show(*terminal.ask(b"", 0.1), "asked")
+    terminal.read(2.2)
+    show("over")
+    time.sleep(0.3)
+"""
+    )
+    program.play(["over\r\n", b"ls\r"])
+    assert left_for_shell(program) == r"b'ls\r.'"
+
+
+@pytest.mark.timed
+def test_replies_at_a_pause(run):
+    """They are for no other program."""
+    program = run(
+        """
+with Terminal() as terminal:
+    ready()
+    for _ in range(2):
+        show(*terminal.ask(b"", 60))
+        terminal.ask(b"", 0.01)
+        with terminal.paused():
+            print("child", ascii(input()))
+    show_until_q(terminal)
+"""
+    )
+    for _ in range(2):
+        program.play(["\033[c", b"\033[?62c", "\033[c", "2004l", 0.1, b"\033[?62cone\n", "one"])
+    program.send(b"q")
+    program.check_end(0)
+    assert [line for line in program.lines() if "child" in line] == ["child 'one'"] * 2
 
 
 CHILD = """

@@ -96,8 +96,8 @@ _ENDING = frozenset((signal.SIGHUP, signal.SIGINT, signal.SIGQUIT, signal.SIGTER
 _OTHERS = frozenset((signal.SIGTSTP, signal.SIGCONT, signal.SIGWINCH))
 _NO_SIGNAL: FrozenSet[int] = frozenset()
 _READ = 4096
-# How many seconds the modes may take to be switched off, if nobody reads what is written.
-_LEAVING = 1.0
+# How many seconds it may take to leave the terminal, and a reply is awaited then at least.
+_LEAVING, _LATE = 1.0, 0.2
 # For how many seconds a reply is owed. Some terminals never answer.
 _OWED = 2.0
 # How many seconds a paste or a string goes on without bytes that was open when another program had
@@ -114,9 +114,9 @@ class _Question:
     """The question that is asked last, whose reply the terminal owes."""
 
     def __init__(self, seconds: float = 0.0, positions: int = 0, is_told: bool = True) -> None:
-        now = time.monotonic()
+        self.asked = time.monotonic()
         # Until when `ask` waits, and until when the reply is owed.
-        self.end, self.until = now + seconds, now + max(_OWED, seconds)
+        self.end, self.until = self.asked + seconds, self.asked + max(_OWED, seconds)
         # How many questions for the cursor's position went with it.
         self.positions = positions
         # Whether the reply is an event.
@@ -156,6 +156,11 @@ class Terminal:
     string that was open goes on, so that its rest isn't typed. Once no byte of it came for a
     second, it ends where it is.
 
+    What is typed ahead is left for the next program. But if a reply is still to come, or mouse
+    reports were on, all that comes up to the last reply is lost. It is awaited for 0.2 seconds, or
+    for twice as long as the slowest one took, and for a second at most. If it doesn't come, all
+    that came by then is lost.
+
     A process enters one Terminal at a time, and one thread or task reads its events. The same
     Terminal may be entered again. To enter raises OSError if there is no terminal, and RuntimeError
     if one is entered already. Then nothing was changed."""
@@ -188,6 +193,7 @@ class Terminal:
         # Whether the flags are asked for, and whether keys are to be read by Kitty's protocol once
         # they are reported.
         self._asks_flags = self._awaits_flags = bool(kitty)
+        self._has_mouse = bool(mouse)
         self._paste_limit = paste_limit
         self._descriptors = input, output
         # Events that were read, and those that came of signals.
@@ -197,8 +203,9 @@ class Terminal:
         self._unread, self._is_refused = b"", False
         # When a paste or a string ends that was open when another program had the terminal.
         self._stalls: Optional[float] = None
-        # The questions whose replies are owed, the oldest first.
+        # The questions whose replies are owed, the oldest first, and how long the slowest took.
         self._owed: Deque[_Question] = collections.deque()
+        self._slowest: Optional[float] = None
         # That of the call of `ask`, and its replies by their places among the events.
         self._asked: Optional[_Question] = None
         self._replies: Dict[int, ExtendedEvent] = {}
@@ -307,7 +314,7 @@ class Terminal:
             try:
                 rest = rest[os.write(self._output, rest) :]
             except BlockingIOError:
-                _has_room(self._output, None)
+                _is_ready(self._output, select.POLLOUT, None)
 
     def size(self) -> Resize:
         """Returns the terminal's size, in characters and in pixels. What isn't known is 0."""
@@ -494,6 +501,7 @@ class Terminal:
             self._replies[len(self._events) - 1] = event
         if is_last:
             owed.popleft()
+            self._slowest = max(self._slowest or 0.0, time.monotonic() - question.asked)
             self._expect_positions()
 
     def _expect_positions(self) -> None:
@@ -561,7 +569,7 @@ class Terminal:
             self._is_raw = True
             _set(self._input, _raw(self._saved))
             self._ours = _call(termios.tcgetattr, self._input)
-            self._switch_off()
+            self._switch_off(time.monotonic() + _LEAVING)
             # From the first byte on, since a signal may end the write.
             self._is_switched = True
             # Another program may have got the reply to any other question.
@@ -570,23 +578,49 @@ class Terminal:
             self.write(self._on)
 
     def _leave(self) -> None:
-        """Switches the modes off, restores the settings, and discards what the terminal sent too
-        late. A terminal that is gone can't be restored."""
+        """Switches the modes off, takes what the terminal sends too late, and restores the
+        settings. A terminal that is gone can't be restored."""
         if not self._is_raw or self._is_forked():
             return
         with self._holding(_ENDING | _OTHERS):
+            end = time.monotonic() + _LEAVING
+            is_all = False
             try:
-                self._switch_off()
+                self._switch_off(end)
+                with contextlib.suppress(OSError):
+                    is_all = self._take_late(end)
             finally:
                 with contextlib.suppress(OSError):
                     _set(self._input, self._saved)
-                    _call(termios.tcflush, self._input, termios.TCIFLUSH)
+                    if not is_all:
+                        _call(termios.tcflush, self._input, termios.TCIFLUSH)
                 self._is_raw = False
 
-    def _switch_off(self) -> None:
+    def _switch_off(self, end: float) -> None:
         if self._is_switched:
             self._is_switched = False
-            _write_at_once(self._output, self._off)
+            _write_at_once(self._output, self._off, end)
+
+    def _take_late(self, end: float) -> bool:
+        """Reads what the terminal still sends for this program, and no byte behind it. Returns
+        whether nothing of it is left for the next program."""
+        count = len(self._owed)
+        if not count and self._has_mouse and self._slowest is not None:
+            # The reply comes behind all mouse reports.
+            _write_at_once(self._output, _ATTRIBUTES, end)
+            count = 1
+        elif not count:
+            return not self._has_mouse
+        end = min(end, time.monotonic() + max(_LATE, 2 * (self._slowest or 0.0)))
+        with ExtendedParser() as parser:
+            while count and (left := end - time.monotonic()) > 0:
+                if not _is_ready(self._input, select.POLLIN, left):
+                    break
+                byte = os.read(self._input, 1)
+                if not byte:
+                    break
+                count -= sum(map(_is_attributes, parser.parse(byte)))
+        return not count
 
     def _restore(self) -> None:
         """Does at the end of the block, or else of the process, what undoes its beginning."""
@@ -700,20 +734,20 @@ def _found(chosen: Optional[int], standard: int, stack: contextlib.ExitStack) ->
     return chosen
 
 
-def _has_room(terminal: int, seconds: Optional[float]) -> bool:
-    """Waits until a byte can be written, at most so many seconds, and returns whether it can."""
-    room = select.poll()
-    room.register(terminal, select.POLLOUT)
-    return bool(room.poll(None if seconds is None else 1000 * seconds))
+def _is_ready(terminal: int, for_what: int, seconds: Optional[float]) -> bool:
+    """Waits until a byte can be read or written, at most so many seconds, and returns whether it
+    can."""
+    poll = select.poll()
+    poll.register(terminal, for_what)
+    return bool(poll.poll(None if seconds is None else 1000 * seconds))
 
 
-def _write_at_once(terminal: int, data: bytes) -> None:
+def _write_at_once(terminal: int, data: bytes, end: float) -> None:
     """Writes bytes one by one as soon as there is room: so no write blocks. What can't be written
-    in time is left out."""
-    end = time.monotonic() + _LEAVING
+    by then is left out."""
     with contextlib.suppress(OSError):
         for at in range(len(data)):
-            if not _has_room(terminal, max(0.0, end - time.monotonic())):
+            if not _is_ready(terminal, select.POLLOUT, max(0.0, end - time.monotonic())):
                 return
             os.write(terminal, data[at : at + 1])
 
