@@ -2,12 +2,15 @@
 
 Whatever goes wrong, no event is lost, and the terminal's settings and modes are restored. What the
 examples over the module do is in test_live.py, test_edit.py and python/test_terminal.py."""
+import fcntl
 import os
 import re
 import select
 import signal
+import struct
 import subprocess
 import sys
+import termios
 import time
 
 import pytest
@@ -218,6 +221,35 @@ with Terminal() as terminal:
     program.ends_with(*sizes, "q")
 
 
+def test_size_in_pixels(run):
+    program = run("with Terminal() as terminal: ready(); terminal.read(); show(terminal.size())")
+    size = struct.pack("HHHH", 40, 100, 640, 480)
+    fcntl.ioctl(program.child_fd, termios.TIOCSWINSZ, size)
+    program.ends_with("Resize(rows=40, columns=100, height=480, width=640)")
+
+
+def test_settings_that_change_bytes(run):
+    """Raw mode has none of them."""
+    program = run(
+        """
+import termios
+before = termios.tcgetattr(0)
+changed = termios.tcgetattr(0)
+changed[0] |= termios.ISTRIP | termios.INPCK | termios.IGNCR | termios.INLCR | termios.IXON
+termios.tcsetattr(0, termios.TCSANOW, changed)
+with Terminal() as terminal:
+    ready()
+    for event in terminal:
+        show(KeyPress.of_event(event))
+        if event == Q:
+            break
+termios.tcsetattr(0, termios.TCSANOW, before)
+"""
+    )
+    program.send("é\r\n\x13\x11q".encode())
+    program.ends_with("é", "enter", "enter", "ctrl+s", "ctrl+q", "q")
+
+
 def test_long_paste(run):
     """It comes in parts, each of which is a Paste too."""
     program = run(
@@ -285,6 +317,43 @@ finally:
     )
     program.kill(number)
     program.ends_with("True SIG_DFL", status=7)
+
+
+def test_handler_that_is_set_inside(run):
+    """It stays."""
+    program = run(
+        """
+def end(*_):
+    sys.exit(7)
+with Terminal() as terminal:
+    ready()
+    signal.signal(signal.SIGTERM, end)
+    show_until_q(terminal)
+show(signal.getsignal(signal.SIGTERM) is end, signal.getsignal(signal.SIGHUP).name)
+"""
+    )
+    program.send(b"q")
+    program.ends_with("q", "True", "SIG_DFL")
+
+
+def test_sigtstp_and_sigterm(run):
+    """Both come while the terminal is left. It ends, and doesn't stop before."""
+    program = run(
+        """
+with Terminal() as terminal:
+    ready()
+    terminal.read()
+    with terminal.paused():
+        show_until_q(terminal)
+"""
+    )
+    program.stop_output()
+    program.play([b"a", 0.2])
+    program.kill(signal.SIGTSTP)
+    program.kill(signal.SIGTERM)
+    assert os.waitstatus_to_exitcode(program.next_status()) == -signal.SIGTERM
+    program.is_running = False
+    assert program.settings() == program.settings_before
 
 
 def test_ignored_signal(run):
@@ -705,6 +774,32 @@ def test_beginning_before_a_pause(run):
     program.ends_with(*["p", "child", "again", "A"] * 2, "q")
 
 
+def test_refused_memory_before_a_pause(run):
+    """What it was refused for counts no more."""
+    program = run(
+        """
+from unittest import mock
+with Terminal() as terminal:
+    ready()
+    for name in ("feed", "take_paste"):
+        with mock.patch.object(terminal.parser, name, side_effect=MemoryError):
+            try:
+                terminal.read()
+            except MemoryError:
+                show("refused")
+        with terminal.paused():
+            pass
+        show("again")
+        show(terminal.read())
+    show_until_q(terminal)
+"""
+    )
+    for _ in range(2):
+        program.play([b"\033[", "refused\r\n", "again\r\n", b"A", "A\r\n"])
+    program.send(b"q")
+    program.ends_with(*["refused", "again", "A"] * 2, "q")
+
+
 def test_paste_over_a_pause(run):
     """None of it is typed."""
     program = run(PAUSED.format(limit=False))
@@ -887,6 +982,16 @@ def test_questions_before_a_stop(asking_again):
     again = ["n", "replies", *IN_TIME, "asked"]
     lines = [line for line in program.lines()[1:] if line not in RESUMED]
     assert lines == ["asked", "n", "replies", "asked", "Function(number=3)", *again, "q"]
+
+
+@pytest.mark.timed
+def test_question_and_paste_before_a_stop(asking_again):
+    """The paste goes on, and the question is forgotten."""
+    program = asking_again
+    program.play(["\033[c", "asked\r\n", START + b"a", 0.1])
+    stop_and_continue(program, signal.SIGTSTP)
+    program.send(END + b"\033[1;5Rq")
+    program.ends_with("asked", *RESUMED, "Paste(text='a')", "Function(number=3)", "q")
 
 
 def test_flood(run):
