@@ -82,14 +82,14 @@ def test_limit_that_passes_in_a_handler(run):
     """What came meanwhile is read first."""
     program = run(
         """
-signal.signal(signal.SIGUSR1, lambda *_: time.sleep(0.3))
+signal.signal(signal.SIGUSR1, lambda *_: time.sleep(1.5))
 """
         + SHOW
     )
     for _ in range(2):
-        program.play([b"\033", 0.02])
+        program.play([b"\033[1;", 0.2])
         program.kill(signal.SIGUSR1)
-        program.play([0.1, b"[A", "UP_ARROW\r\n"])
+        program.play([0.2, b"5A", "UP_ARROW\r\n"])
     program.send(b"q")
     program.ends_with("KeyCode.UP_ARROW", "KeyCode.UP_ARROW", "q")
 
@@ -98,10 +98,10 @@ signal.signal(signal.SIGUSR1, lambda *_: time.sleep(0.3))
 def test_limit_that_passes_while_it_is_stopped(run):
     program = run(SHOW)
     for _ in range(2):
-        program.play([b"\033", 0.02])
+        program.play([b"\033[1;", 0.2])
         program.kill(signal.SIGSTOP)
         program.wait_for_stop()
-        program.play([b"[A", 0.2])
+        program.play([b"5A", LONG_PAUSE])
         program.continue_in_foreground()
         program.play(["UP_ARROW\r\n"])
     program.send(b"q")
@@ -653,7 +653,7 @@ with Terminal(mouse=MouseTracking.ANY) as terminal:
     {end}
 """
     )
-    program.play(["\033[c", 0.2, b"\033[?62cq", "q\r\n", "\033[?1003l", "\033[?2004l\033[c"])
+    program.play(["\033[c", 0.4, b"\033[?62cq", "q\r\n", "\033[?1003l", "\033[?2004l\033[c"])
     program.play([0.2, b"\033[<35;3;4M\033[?62cls\r"])
     assert left_for_shell(program, status) == r"b'ls\r.'"
 
@@ -701,6 +701,24 @@ with Terminal() as terminal:
     )
     program.play(["over\r\n", b"ls\r"])
     assert left_for_shell(program) == r"b'ls\r.'"
+
+
+@pytest.mark.parametrize("_", range(5))
+def test_replies_that_another_thread_reads(run, _):
+    """It may get a byte for which the end would wait."""
+    program = run(
+        """
+with Terminal(kitty=KittyKeyboardFlags.DISAMBIGUATE_ESCAPE_CODES) as terminal:
+    thread = threading.Thread(target=show_until_q, args=[terminal], daemon=True)
+    thread.start()
+    ready()
+    thread.join()
+"""
+    )
+    program.play([b"a", "a\r\n"])
+    program.kill(signal.SIGTERM)
+    program.play(["\033[?2004l", b"\033[?62;"])
+    program.check_end(-signal.SIGTERM)
 
 
 @pytest.mark.timed

@@ -159,7 +159,7 @@ class Terminal:
     What is typed ahead is left for the next program. But if a reply is still to come, or mouse
     reports were on, all that comes up to the last reply is lost. It is awaited for 0.2 seconds, or
     for twice as long as the slowest one took, and for a second at most. If it doesn't come, all
-    that came by then is lost.
+    that came by then is lost. So it is if another thread reads the events.
 
     A process enters one Terminal at a time, and one thread or task reads its events. The same
     Terminal may be entered again. To enter raises OSError if there is no terminal, and RuntimeError
@@ -355,6 +355,7 @@ class Terminal:
     def _advance(self, limit: Optional[float]) -> bool:
         """Waits for bytes or a signal, for so many seconds or as long as the parser says, and
         handles what came. Returns whether something came or was due."""
+        self._reader = threading.current_thread()
         if self._is_refused:
             self._parse(b"")
             return True
@@ -557,6 +558,7 @@ class Terminal:
         self._epoll.register(self._input, select.EPOLLIN)
         self._epoll.register(self._wake, select.EPOLLIN)
         self._pid = os.getpid()
+        self._reader = threading.current_thread()
         self._is_ended = False
         self._events.clear()
         self._signalled.clear()
@@ -605,12 +607,17 @@ class Terminal:
         """Reads what the terminal still sends for this program, and no byte behind it. Returns
         whether nothing of it is left for the next program."""
         count = len(self._owed)
-        if not count and self._has_mouse and self._slowest is not None:
+        if not count and not self._has_mouse:
+            return True
+        if not count and self._slowest is None:
+            return False
+        if self._reader is not threading.current_thread() and self._reader.is_alive():
+            # It may read first, and this thread would wait for another byte.
+            return False
+        if not count:
             # The reply comes behind all mouse reports.
             _write_at_once(self._output, _ATTRIBUTES, end)
             count = 1
-        elif not count:
-            return not self._has_mouse
         end = min(end, time.monotonic() + max(_LATE, 2 * (self._slowest or 0.0)))
         with ExtendedParser() as parser:
             while count and (left := end - time.monotonic()) > 0:
