@@ -1062,15 +1062,15 @@ with Terminal() as terminal:
     program.ends_with("interrupted", "Csi(data=b'?1;2$y')", "a", "Paste(text='')", "q")
 
 
-def test_replies_and_refused_memory(run):
+@pytest.mark.parametrize("name", ["collections.deque", "Terminal._add"])
+def test_replies_and_refused_memory(run, name):
     """What the list can't hold are events, in their order."""
     program = run(
-        """
-from collections import deque
+        f"""
 from unittest import mock
 with Terminal() as terminal:
     ready()
-    with mock.patch("hedrugal.terminal.collections.deque", side_effect=MemoryError):
+    with mock.patch("hedrugal.terminal.{name}", side_effect=MemoryError):
         try:
             show(*terminal.ask(b"", 60))
         except MemoryError:

@@ -199,8 +199,9 @@ class Terminal:
         # Events that were read, and those that came of signals.
         self._events: Deque[TerminalEvent] = collections.deque()
         self._signalled: Deque[TerminalEvent] = collections.deque()
-        # Bytes that memory was refused for, and whether it was refused for them or their events.
+        # Bytes that memory was refused for, and an event, and whether it was refused for any.
         self._unread, self._is_refused = b"", False
+        self._front: Optional[ExtendedEvent] = None
         # When a paste or a string ends that was open when another program had the terminal.
         self._stalls: Optional[float] = None
         # The questions whose replies are owed, the oldest first, and how long the slowest took.
@@ -425,10 +426,12 @@ class Terminal:
         self.parser.feed(self._unread)
         self._unread = b""
         before = len(self._events)
-        if self._owed or self._awaits_flags:
+        if self._owed or self._awaits_flags or self._front:
             # One by one, since an event may change how the next is read.
-            for event in self.parser:
+            while event := self._front or self.parser.next_event():
+                self._front = event
                 self._add(event)
+                self._front = None
         else:
             self._events.extend(self.parser.parse(b""))
         if self._stalls is not None:
@@ -481,7 +484,8 @@ class Terminal:
 
     def _reset(self) -> None:
         self.parser.reset()
-        self._unread, self._is_refused, self._stalls = b"", False, None
+        self._unread, self._is_refused = b"", False
+        self._front, self._stalls = None, None
 
     # Replies.
 
@@ -496,10 +500,10 @@ class Terminal:
             self._events.append(event)
             return
         question, is_last = owed[0], _is_attributes(event)
+        if question is self._asked and isinstance(event, _REPLIES):
+            self._replies[len(self._events)] = event
         if question.is_told or not is_last:
             self._events.append(event)
-        if question is self._asked and isinstance(event, _REPLIES):
-            self._replies[len(self._events) - 1] = event
         if is_last:
             owed.popleft()
             self._slowest = max(self._slowest or 0.0, time.monotonic() - question.asked)
