@@ -1,6 +1,10 @@
 """The parser for prompt_toolkit: its keys are those of prompt_toolkit's own table, but where
 docs/python.md says why not."""
+import os
 import re
+import termios
+import time
+import tty
 
 import pytest
 
@@ -11,7 +15,7 @@ from prompt_toolkit.input.vt100_parser import Vt100Parser  # noqa: E402
 from prompt_toolkit.keys import Keys  # noqa: E402
 
 from hedrugal import prompt_toolkit as for_prompt_toolkit  # noqa: E402
-from hedrugal.prompt_toolkit import Parser  # noqa: E402
+from hedrugal.prompt_toolkit import Input, Parser  # noqa: E402
 from helpers import assert_documented, read  # noqa: E402
 
 
@@ -78,6 +82,73 @@ def test_beyond_the_table(text, wanted):
     assert keys(Parser, *text) == wanted
 
 
+PRINTABLE = [*map(chr, range(0x20, 0x7F)), "é", "世"]
+# The last characters of ESC O that are those of a keypad.
+KEYPAD = dict(zip("jklmnopqrstuvwxyX", "*+,-./0123456789="))
+SHIFT, ALT, CTRL = 1, 2, 4
+
+
+def reports(character, held=0):
+    """A key of a character with modifiers, in the forms CSI u and modifyOtherKeys."""
+    code, number = ord(character), 1 + held
+    return f"\x1b[{code};{number}u", f"\x1b[27;{number};{code}~"
+
+
+@pytest.mark.parametrize("character", [*map(chr, range(0x20)), "\x7f"], ids=ascii)
+def test_control_characters(character):
+    assert key_presses(Parser, character) == key_presses(Vt100Parser, character)
+
+
+@pytest.mark.parametrize("character", PRINTABLE)
+def test_characters_as_sequences(character):
+    """They are inserted as the characters are, and not as sequences."""
+    for text in (f"\x1b[{ord(character)}u", *reports(character)):
+        assert key_presses(Parser, text) == key_presses(Vt100Parser, character), repr(text)
+    for text in reports(character, ALT):
+        assert key_presses(Parser, text) == key_presses(Vt100Parser, f"\x1b{character}")
+    if "a" <= character <= "z":
+        for text in reports(character, SHIFT):
+            assert key_presses(Parser, text) == key_presses(Vt100Parser, character.upper())
+
+
+@pytest.mark.parametrize("last, character", KEYPAD.items())
+def test_characters_of_the_keypad(last, character):
+    assert key_presses(Parser, f"\x1bO{last}") == key_presses(Vt100Parser, character)
+
+
+@pytest.mark.parametrize("character", PRINTABLE)
+def test_characters_with_ctrl(character):
+    """Where one byte is Ctrl with a character, it is the same key. prompt_toolkit has names for
+    digits with Ctrl. It has none for the others."""
+    wanted = [Keys.Ignore]
+    if character.isdigit():
+        wanted = [Keys(f"c-{character}")]
+    elif character.isascii() and (character.isalpha() or character in " @\\]^_"):
+        wanted = keys(Vt100Parser, chr(ord(character) & 0x1F))
+    for text in reports(character, CTRL):
+        assert keys(Parser, text) == wanted
+
+
+# Kitty's protocol sends these keys by their control characters.
+CONTROLS = {
+    "\x1b[9u": [Keys.ControlI],
+    "\x1b[9;2u": [Keys.BackTab],
+    "\x1b[13u": [Keys.ControlM],
+    "\x1b[13;5u": [Keys.ControlM],
+    "\x1b[27u": [Keys.Escape],
+    "\x1b[27;2u": [Keys.ShiftEscape],
+    "\x1b[27;3u": [Keys.Escape, Keys.Escape],
+    "\x1b[127u": [Keys.ControlH],
+    # It is in prompt_toolkit's table, since mintty sends it.
+    "\x1b[1;5u": [Keys.Control5],
+}
+
+
+@pytest.mark.parametrize("text, wanted", CONTROLS.items())
+def test_keys_of_kitty(text, wanted):
+    assert keys(Parser, text) == wanted
+
+
 def test_texts_of_reports():
     """prompt_toolkit reads them."""
     for text in ("\x1b[24;80R", "\x1b[<0;3;4M", "\x1b[<64;85;12m", "\x1b[M !\udcff"):
@@ -91,9 +162,9 @@ def test_pastes():
         *(text[at : at + 1000] for at in range(0, len(text), 1000)),
         "\x1b[201~b",
     ]
-    pressed = key_presses(Parser, *parts)
-    assert [it.key for it in pressed] == ["a", Keys.BracketedPaste, "b"]
-    assert pressed[1].data == text
+    pressed = key_presses(Parser, *parts, *parts)
+    assert [it.key for it in pressed] == ["a", Keys.BracketedPaste, "b"] * 2
+    assert pressed[1].data == pressed[4].data == text
 
 
 def test_reset():
@@ -111,5 +182,42 @@ def test_typed(text):
     assert key_presses(Parser, *text) == key_presses(Parser, text)
 
 
+@pytest.fixture
+def terminal():
+    """The end of a pseudo-terminal where keys are typed, and an input that reads them."""
+    ours, theirs = os.openpty()
+    tty.setraw(theirs)
+    with open(ours, "wb", buffering=0) as typing, open(theirs) as stdin:
+        yield typing, Input(stdin)
+
+
+def test_keys_that_are_due(terminal):
+    """What came meanwhile is read first."""
+    typing, reader = terminal
+    for call in (reader.flush_keys, reader.read_keys) * 2:
+        typing.write(b"\x1b")
+        assert reader.read_keys() == []
+        time.sleep(0.1)
+        typing.write(b"[A")
+        assert [it.key for it in call()] == [Keys.Up]
+    typing.write(b"\x1b")
+    assert reader.read_keys() == []
+    time.sleep(0.1)
+    assert [it.key for it in reader.flush_keys()] == [Keys.Escape]
+
+
+def test_end_of_the_input(terminal):
+    """What is buffered is flushed."""
+    typing, reader = terminal
+    settings = termios.tcgetattr(typing)
+    settings[3] |= termios.ICANON
+    settings[6][termios.VEOF] = b"\x04"
+    termios.tcsetattr(typing, termios.TCSANOW, settings)
+    # The first ^D ends a read, and the second the input.
+    typing.write(b"a\x1b[1;\x04\x04")
+    assert [it.key for it in reader.read_keys()] == ["a"] and not reader.closed
+    assert [it.key for it in reader.read_keys()] == [Keys.Escape, *"[1;"] and reader.closed
+
+
 def test_every_call_says_what_it_does():
-    assert_documented(for_prompt_toolkit, Parser, for_prompt_toolkit.Input)
+    assert_documented(for_prompt_toolkit, Parser, Input)

@@ -9,7 +9,7 @@ import pytest
 from conftest import run_without_terminal
 from terminal import Terminal
 
-# The question that every terminal answers, and so the last.
+# The last question, which nearly every terminal answers.
 LAST_QUESTION = b"\033[c"
 POSITION, FLAGS, ATTRIBUTES = b"\033[12;40R", b"\033[?5u", b"\033[?62;22c"
 TEXT, GROUND = b"\033]10;rgb:dada/dada/dada\033\\", b"\033]11;rgb:1e1e/1e1e/1e1e\007"

@@ -14,7 +14,8 @@ from terminal import END, ENDING_SIGNALS, PAUSE, START, Terminal
 from terminal_data import FOLDER, load
 
 KEYS = TOP / "docs/edit.keys"
-ENTER, LEAVE = b"\033[?2004h\033[>4;2m\033[>5u\033[?u\033[c", b"\033[<u\033[>4m\033[?2004l"
+ENTER, LEAVE = b"\033[?2004h\033[>4;2m\033[>5u", b"\033[<u\033[>4m\033[?2004l"
+QUESTIONS = b"\033[?u\033[c"
 # How long the rest of a chord may take, in seconds, and a pause that is shorter.
 CHORD_PAUSE, SHORT_PAUSE = 1.0, 0.6
 PASTE_LIMIT = 1 << 20
@@ -32,14 +33,17 @@ class Edit(Terminal):
 
     def lines(self):
         """The lines that the program printed, in which there is no control character."""
-        text = self.output.replace(ENTER, b"").replace(LEAVE, b"").decode()
+        text = self.output
+        for it in (ENTER, QUESTIONS, LEAVE):
+            text = text.replace(it, b"")
+        text = text.decode()
         assert not re.search(r"[^\r\n -~\u00a0-\U0010ffff]", text), text
         return text.split("\r\n")[:-1]
 
     def check_end(self, status, *lines):
         super().check_end(status)
         assert self.lines() == [*filter(None, [self.FIRST]), *lines]
-        assert self.output.startswith(ENTER) and self.output.endswith(LEAVE)
+        assert self.output.startswith(ENTER + QUESTIONS) and self.output.endswith(LEAVE)
         assert self.output.count(ENTER) == self.output.count(LEAVE) == self.entered
 
     def quit(self, *lines):
@@ -254,7 +258,7 @@ def test_without_quit(program, write_keys):
     """No line says how it ends."""
     with Edit([*program, write_keys(b"save x")]) as edit:
         edit.FIRST = None
-        edit.play([ENTER.decode(), b"x", "saved 0 characters\r\n"])
+        edit.play([(ENTER + QUESTIONS).decode(), b"x", "saved 0 characters\r\n"])
         edit.kill(signal.SIGTERM)
         edit.check_end(-signal.SIGTERM, "saved 0 characters")
 
@@ -280,7 +284,8 @@ def test_signal_while_nobody_reads(program):
 
 @pytest.mark.parametrize("number", [signal.SIGTSTP, signal.SIGSTOP], ids=lambda it: it.name)
 def test_stop(start, number):
-    """A paste stays open. Modes that nest are switched on once."""
+    """A paste stays open, and nothing is asked, since the replies would be text of it. Modes that
+    nest are switched on once."""
     edit = start()
     edit.play([b"ab" + START + b"c", "text: ab|\r\n"])
     if number == signal.SIGTSTP:
@@ -291,7 +296,7 @@ def test_stop(start, number):
         termios.tcsetattr(edit.child_fd, termios.TCSANOW, edit.settings_before)
     edit.continue_in_foreground()
     edit.wait_for(lambda: edit.output.count(ENTER) == 2, "modes")
-    assert edit.is_raw() and edit.output.count(LEAVE) == 1
+    assert edit.is_raw() and edit.output.count(LEAVE) == edit.output.count(QUESTIONS) == 1
     edit.entered = 2
     edit.send(b"\r" + END + b"x")
     edit.quit(*AB, "text: abc\\x0d|", "text: abc\\x0dx|")

@@ -42,6 +42,11 @@ EMACS = {
     "an arrow, cut by a pause": ([b"ab\033[1;", 0.7, b"5Dc"], ["cab"]),
     "a position of the cursor": ([b"a\033[1;5Rb"], ["ab"]),
     "undo": ([b"a b\027\037"], ["a b"]),
+    "characters as sequences": ([b"a\033[98u\033[27;1;99~\033Oq"], ["abc1"]),
+    "pastes in parts": (
+        [START + b"on", 0.1, b"e" + END + START + b" t", 0.1, b"wo" + END],
+        ["one two"],
+    ),
     "focus and mouse": ([b"a\033[I\033[<0;3;4M\033[<0;3;4mb"], ["ab"]),
 }
 VI = {
@@ -53,6 +58,7 @@ VI = {
     "replace": ([b"abc", ESCAPE, 0.3, b"r\xc3\xa9"], ["abé"]),
     "history": ([ESCAPE, 0.3, b"kk"], ["first"]),
     "a paste": ([START + b"one\rtwo" + END], ["one\ntwo"]),
+    "Escape of Kitty's protocol": ([b"abc\033[27u0x"], ["bc"]),
     "Escape and an arrow at once": ([b"abc\033[D\033[Dx"], ["axbc"]),
 }
 
@@ -112,6 +118,19 @@ def test_emacs(prompt, steps, lines):
 @pytest.mark.parametrize("steps, lines", VI.values(), ids=VI)
 def test_vi(prompt, steps, lines):
     check(prompt(PROGRAM.format(how={"vi_mode": True})), steps, lines)
+
+
+@pytest.mark.parametrize("number", [signal.SIGCONT, signal.SIGSTOP], ids=lambda it: it.name)
+def test_paste_over_a_stop(prompt, number):
+    """None of it is typed."""
+    program = prompt(PROGRAM.format(how={}))
+    for part in (START + b"one\r", b"two\r"):
+        program.play([part, 0.1])
+        program.kill(number)
+        if number == signal.SIGSTOP:
+            program.wait_for_stop()
+        program.continue_in_foreground()
+    check(program, [0.1, b"three" + END], ["one\ntwo\nthree"])
 
 
 def test_listing(prompt):

@@ -2,16 +2,20 @@
 
 Whatever goes wrong, no event is lost, and the terminal's settings and modes are restored. What the
 examples over the module do is in test_live.py, test_edit.py and python/test_terminal.py."""
+import fcntl
 import os
 import re
 import select
 import signal
+import struct
 import subprocess
 import sys
+import termios
+import time
 
 import pytest
 from pexpect import TIMEOUT
-from terminal import END, ENDING_SIGNALS, START, Terminal
+from terminal import END, ENDING_SIGNALS, LONG_PAUSE, START, Terminal
 
 PROGRAM = """
 import asyncio, errno, fcntl, os, signal, subprocess, sys, threading, time
@@ -73,6 +77,37 @@ def test_limits(run):
     program.ends_with("KeyCode.ESCAPE", "KeyCode.UP_ARROW", "q")
 
 
+@pytest.mark.timed
+def test_limit_that_passes_in_a_handler(run):
+    """What came meanwhile is read first."""
+    program = run(
+        """
+signal.signal(signal.SIGUSR1, lambda *_: time.sleep(1.5))
+"""
+        + SHOW
+    )
+    for _ in range(2):
+        program.play([b"\033[1;", 0.2])
+        program.kill(signal.SIGUSR1)
+        program.play([0.2, b"5A", "UP_ARROW\r\n"])
+    program.send(b"q")
+    program.ends_with("KeyCode.UP_ARROW", "KeyCode.UP_ARROW", "q")
+
+
+@pytest.mark.timed
+def test_limit_that_passes_while_it_is_stopped(run):
+    program = run(SHOW)
+    for _ in range(2):
+        program.play([b"\033[1;", 0.2])
+        program.kill(signal.SIGSTOP)
+        program.wait_for_stop()
+        program.play([b"5A", LONG_PAUSE])
+        program.continue_in_foreground()
+        program.play(["UP_ARROW\r\n"])
+    program.send(b"q")
+    program.ends_with("KeyCode.UP_ARROW", "KeyCode.UP_ARROW", "q")
+
+
 def test_no_modes(run):
     program = run("with Terminal(paste=False) as terminal: ready(); show_until_q(terminal)")
     program.send(b"q")
@@ -120,6 +155,53 @@ with Terminal(kitty=flags, modify_other_keys=2, enter=enter, leave=leave) as ter
     assert program.output.endswith(off + b"\033[?1049l")
 
 
+KITTY = """
+with Terminal(kitty=KittyKeyboardFlags.DISAMBIGUATE_ESCAPE_CODES) as terminal:
+    ready()
+    for event in terminal:
+        show(event)
+        if event == KeyEvent("l"):
+            terminal.parser.reading = Reading(Protocol.LEGACY)
+        if event == KeyEvent("n"):
+            show("replies", *terminal.ask(b"\\033[?u", 60), "asked")
+        if event == Q:
+            break
+"""
+FLAGS = "KeyboardFlags(flags=KittyKeyboardFlags.DISAMBIGUATE_ESCAPE_CODES, unnamed=0)"
+
+
+def test_reading_that_the_program_sets(run):
+    """It stays, whatever is reported later."""
+    program = run(KITTY)
+    program.play([b"\033[?1u\033[?62cl", "l\r\n", b"\033[?1u\033[1;5Rq"])
+    program.ends_with(FLAGS, "l", FLAGS, "Function(number=3)", "q")
+
+
+def test_reply_behind_the_flags(run):
+    """The program gets that to its own question alone."""
+    program = run(KITTY)
+    program.send(b"\033[?1u\033[?62;1c\033[?62;2cn")
+    program.play(["Csi", "\033[?u\033[c", b"\033[?1u\033[?62;3c\033[?62;4cq"])
+    replies = ["replies", FLAGS, "Csi(data=b'?62;3c')", "asked"]
+    program.ends_with(FLAGS, "Csi(data=b'?62;2c')", "n", *replies, "Csi(data=b'?62;4c')", "q")
+
+
+def test_question_behind_the_flags(run):
+    """What belongs to the flags are events."""
+    program = run(KITTY)
+    program.play([b"n", "\033[c", b"\033[?1u\033[?62;1c\033[?2u\033[?62;2cq"])
+    other = FLAGS.replace("DISAMBIGUATE_ESCAPE_CODES", "REPORT_EVENT_TYPES")
+    program.ends_with("n", "replies", other, "Csi(data=b'?62;2c')", "asked", FLAGS, "q")
+
+
+@pytest.mark.timed
+def test_late_reply_behind_the_flags(run):
+    """After two seconds none is owed any more."""
+    program = run(KITTY)
+    program.play([2.2, b"\033[?1u\033[?62cq"])
+    program.ends_with(FLAGS, "Csi(data=b'?62c')", "q")
+
+
 def test_sizes(run):
     program = run(
         """
@@ -137,6 +219,35 @@ with Terminal() as terminal:
         for rows, columns in ((24, 80), (40, 100))
     ]
     program.ends_with(*sizes, "q")
+
+
+def test_size_in_pixels(run):
+    program = run("with Terminal() as terminal: ready(); terminal.read(); show(terminal.size())")
+    size = struct.pack("HHHH", 40, 100, 640, 480)
+    fcntl.ioctl(program.child_fd, termios.TIOCSWINSZ, size)
+    program.ends_with("Resize(rows=40, columns=100, height=480, width=640)")
+
+
+def test_settings_that_change_bytes(run):
+    """Raw mode has none of them."""
+    program = run(
+        """
+import termios
+before = termios.tcgetattr(0)
+changed = termios.tcgetattr(0)
+changed[0] |= termios.ISTRIP | termios.INPCK | termios.IGNCR | termios.INLCR | termios.IXON
+termios.tcsetattr(0, termios.TCSANOW, changed)
+with Terminal() as terminal:
+    ready()
+    for event in terminal:
+        show(KeyPress.of_event(event))
+        if event == Q:
+            break
+termios.tcsetattr(0, termios.TCSANOW, before)
+"""
+    )
+    program.send("é\r\n\x13\x11q".encode())
+    program.ends_with("é", "enter", "enter", "ctrl+s", "ctrl+q", "q")
 
 
 def test_long_paste(run):
@@ -206,6 +317,43 @@ finally:
     )
     program.kill(number)
     program.ends_with("True SIG_DFL", status=7)
+
+
+def test_handler_that_is_set_inside(run):
+    """It stays."""
+    program = run(
+        """
+def end(*_):
+    sys.exit(7)
+with Terminal() as terminal:
+    ready()
+    signal.signal(signal.SIGTERM, end)
+    show_until_q(terminal)
+show(signal.getsignal(signal.SIGTERM) is end, signal.getsignal(signal.SIGHUP).name)
+"""
+    )
+    program.send(b"q")
+    program.ends_with("q", "True", "SIG_DFL")
+
+
+def test_sigtstp_and_sigterm(run):
+    """Both come while the terminal is left. It ends, and doesn't stop before."""
+    program = run(
+        """
+with Terminal() as terminal:
+    ready()
+    terminal.read()
+    with terminal.paused():
+        show_until_q(terminal)
+"""
+    )
+    program.stop_output()
+    program.play([b"a", 0.2])
+    program.kill(signal.SIGTSTP)
+    program.kill(signal.SIGTERM)
+    assert os.waitstatus_to_exitcode(program.next_status()) == -signal.SIGTERM
+    program.is_running = False
+    assert program.settings() == program.settings_before
 
 
 def test_ignored_signal(run):
@@ -408,10 +556,191 @@ with terminal:
     show_until_q(terminal)
 """
     )
-    # What is typed before the first block ends is discarded at its end.
-    program.play([b"aq", "again\r\n", b"bq"])
+    program.play([b"a", b"q", "again\r\n", b"bq"])
     refused = "a Terminal is entered already"
     program.ends_with(refused, refused, "a", "q", "again", "b", "q")
+
+
+# Runs a program, and prints what is left to be read after it, up to a full stop.
+SHELL = """
+import os, subprocess, sys, termios
+before = termios.tcgetattr(0)
+status = subprocess.call([sys.executable, "-W", "error", "-c", *sys.argv[1:]])
+raw = termios.tcgetattr(0)
+assert raw == before
+raw[3] &= ~(termios.ICANON | termios.ECHO)
+termios.tcsetattr(0, termios.TCSANOW, raw)
+print("shell", flush=True)
+left = b""
+while not left.endswith(b"."):
+    left += os.read(0, 1)
+termios.tcsetattr(0, termios.TCSANOW, before)
+print(status, left)
+"""
+
+
+@pytest.fixture
+def run_below_shell(on_terminal):
+    def start(text):
+        return on_terminal(Program([sys.executable, "-c", SHELL, PROGRAM + text]))
+
+    return start
+
+
+def left_for_shell(program, status=0):
+    """What is left to be read after a program that ended so."""
+    program.play(["shell\r\n", b"."])
+    program.check_end(0)
+    printed, left = program.lines()[-1].split(" ", 1)
+    assert int(printed) == status
+    return left
+
+
+ENDS = {"the block's end": ("pass", 0), "SIGTERM": ("os.kill(os.getpid(), 15)", -15)}
+each_end = pytest.mark.parametrize("end, status", ENDS.values(), ids=ENDS)
+
+
+@pytest.mark.timed
+@each_end
+def test_typed_ahead(run_below_shell, end, status):
+    """It is left for the shell."""
+    program = run_below_shell(
+        f"""
+with Terminal(focus=True) as terminal:
+    ready()
+    show(terminal.read())
+    time.sleep(0.3)
+    {end}
+"""
+    )
+    program.play([b"q", "q\r\n", b"ls\r"])
+    assert left_for_shell(program, status) == r"b'ls\r.'"
+
+
+@pytest.mark.timed
+@each_end
+@pytest.mark.parametrize("mouse", [False, True], ids=["", "mouse"])
+def test_replies_at_the_end(run_below_shell, end, status, mouse):
+    """They are awaited as long as the slowest took, twice, and no byte behind them is read."""
+    program = run_below_shell(
+        f"""
+mouse = MouseTracking.ANY if {mouse} else None
+flags = KittyKeyboardFlags.DISAMBIGUATE_ESCAPE_CODES
+with Terminal(kitty=flags, mouse=mouse) as terminal:
+    ready()
+    show(*terminal.ask(b"", 60))
+    for _ in range(2):
+        terminal.ask(b"\033[6n", 0.1)
+    {end}
+"""
+    )
+    program.play(["\033[c", 0.4, b"\033[?1u\033[?62c\033[?62c", "62c"])
+    program.play(["\033[6n\033[c", "\033[6n\033[c", "\033[?2004l", 0.4, b"a\033[<35;3;4M"])
+    program.play([CURSOR, 0.1, CURSOR + b"ls\r"])
+    assert left_for_shell(program, status) == r"b'ls\r.'"
+
+
+@pytest.mark.timed
+@each_end
+def test_mouse_at_the_end(run_below_shell, end, status):
+    """A report that is on its way reaches no shell. What is typed behind it does."""
+    program = run_below_shell(
+        f"""
+with Terminal(mouse=MouseTracking.ANY) as terminal:
+    ready()
+    show(*terminal.ask(b"", 60))
+    show(terminal.read())
+    {end}
+"""
+    )
+    program.play(["\033[c", 0.4, b"\033[?62cq", "q\r\n", "\033[?1003l", "\033[?2004l\033[c"])
+    program.play([0.2, b"\033[<35;3;4M\033[?62cls\r"])
+    assert left_for_shell(program, status) == r"b'ls\r.'"
+
+
+SILENT = {
+    "mouse": ("mouse=MouseTracking.ANY", ""),
+    "a question": ("", "terminal.ask(b'', 0.01)"),
+    "flags": ("kitty=KittyKeyboardFlags.DISAMBIGUATE_ESCAPE_CODES", ""),
+}
+
+
+@pytest.mark.timed
+@each_end
+@pytest.mark.parametrize("how, asks", SILENT.values(), ids=SILENT)
+def test_terminal_that_never_answers(run_below_shell, end, status, how, asks):
+    """It ends soon. What came until then is discarded, since it may be for the program."""
+    program = run_below_shell(
+        f"""
+with Terminal({how}) as terminal:
+    ready()
+    show(terminal.read())
+    time.sleep(0.3)
+    {asks or 'pass'}
+    {end}
+"""
+    )
+    program.play([b"q", "q\r\n", b"\033[<35;3;4M"])
+    begin = time.monotonic()
+    assert left_for_shell(program, status) == "b'.'"
+    assert time.monotonic() - begin < 1.3
+
+
+@pytest.mark.timed
+def test_terminal_that_did_not_answer(run_below_shell):
+    """After two seconds nothing is owed, so what is typed ahead is kept."""
+    program = run_below_shell(
+        """
+with Terminal() as terminal:
+    ready()
+    show(*terminal.ask(b"", 0.1), "asked")
+    terminal.read(2.2)
+    show("over")
+    time.sleep(0.3)
+"""
+    )
+    program.play(["over\r\n", b"ls\r"])
+    assert left_for_shell(program) == r"b'ls\r.'"
+
+
+@pytest.mark.parametrize("_", range(5))
+def test_replies_that_another_thread_reads(run, _):
+    """It may get a byte for which the end would wait."""
+    program = run(
+        """
+with Terminal(kitty=KittyKeyboardFlags.DISAMBIGUATE_ESCAPE_CODES) as terminal:
+    thread = threading.Thread(target=show_until_q, args=[terminal], daemon=True)
+    thread.start()
+    ready()
+    thread.join()
+"""
+    )
+    program.play([b"a", "a\r\n"])
+    program.kill(signal.SIGTERM)
+    program.play(["\033[?2004l", b"\033[?62;"])
+    program.check_end(-signal.SIGTERM)
+
+
+@pytest.mark.timed
+def test_replies_at_a_pause(run):
+    """They are for no other program."""
+    program = run(
+        """
+with Terminal() as terminal:
+    ready()
+    for _ in range(2):
+        show(*terminal.ask(b"", 60))
+        terminal.ask(b"", 0.01)
+        with terminal.paused():
+            print("child", ascii(input()))
+    show_until_q(terminal)
+"""
+    )
+    for _ in range(2):
+        program.play(["\033[c", b"\033[?62c", "\033[c", "2004l", 0.1, b"\033[?62cone\n", "one"])
+    program.send(b"q")
+    program.check_end(0)
+    assert [line for line in program.lines() if "child" in line] == ["child 'one'"] * 2
 
 
 CHILD = """
@@ -434,6 +763,81 @@ def test_child_in_a_pause(run):
     assert program.is_raw()
     program.send(b"bq")
     program.ends_with("a", "child", "typed", "b", "q")
+
+
+PAUSED = """
+with Terminal() as terminal:
+    if {limit}:
+        terminal.parser.policy = Policy(paste=0.3)
+    ready()
+    for event in terminal:
+        show(event)
+        if event in (KeyEvent("p"), Q):
+            if event == Q:
+                break
+            while terminal.parser.waiting is Waiting.NOTHING:
+                terminal.read(0)
+            with terminal.paused():
+                subprocess.run(["sh", "-c", "stty -echo; echo child; read line"])
+            show("again")
+"""
+
+
+def test_beginning_before_a_pause(run):
+    """It counts no more."""
+    program = run(PAUSED.format(limit=False))
+    for begun in (b"\033[", b"\xc3"):
+        program.play([b"p" + begun, "child\r\n", b"\n", "again\r\n", b"A", "A\r\n"])
+    program.send(b"q")
+    program.ends_with(*["p", "child", "again", "A"] * 2, "q")
+
+
+def test_refused_memory_before_a_pause(run):
+    """What it was refused for counts no more."""
+    program = run(
+        """
+from unittest import mock
+with Terminal() as terminal:
+    ready()
+    for name in ("feed", "take_paste"):
+        with mock.patch.object(terminal.parser, name, side_effect=MemoryError):
+            try:
+                terminal.read()
+            except MemoryError:
+                show("refused")
+        with terminal.paused():
+            pass
+        show("again")
+        show(terminal.read())
+    show_until_q(terminal)
+"""
+    )
+    for _ in range(2):
+        program.play([b"\033[", "refused\r\n", "again\r\n", b"A", "A\r\n"])
+    program.send(b"q")
+    program.ends_with(*["refused", "again", "A"] * 2, "q")
+
+
+def test_paste_over_a_pause(run):
+    """None of it is typed."""
+    program = run(PAUSED.format(limit=False))
+    for _ in range(2):
+        program.play([b"p" + START + b"b\r", "child\r\n", b"\n", "again\r\n"])
+        program.play([b"c\r" + END, "Paste("])
+    program.send(b"q")
+    program.ends_with(*["p", "child", "again", r"Paste(text='b\rc\r')"] * 2, "q")
+
+
+@pytest.mark.timed
+@pytest.mark.parametrize("limit", [False, True], ids=["a second", "the program's limit"])
+def test_paste_that_ends_with_a_pause(run, limit):
+    """The earlier limit holds."""
+    program = run(PAUSED.format(limit=limit))
+    program.play([b"p" + START + b"b\r", "child\r\n", b"\n", "again\r\n"])
+    begin = time.monotonic()
+    program.play(["Paste(", b"q"])
+    program.ends_with("p", "child", "again", r"Paste(text='b\r')", "q")
+    assert (time.monotonic() - begin < 0.9) == limit
 
 
 def test_child_that_changes_the_modes(run):
@@ -519,6 +923,116 @@ def test_ask(asking):
     program.ends_with(*ANSWERS, "asked", *typed, "Csi(data=b'?1;2c')", "Function(number=3)", "q")
 
 
+def test_question_that_is_over(asking):
+    """It counts no more once the last one is answered."""
+    program = asking(60)
+    program.play(["\033[c", b"\033[?62;22c\033[1;5Rq"])
+    program.ends_with(ANSWERS[2], "asked", "Function(number=3)", "q")
+
+
+ASK_AGAIN = {
+    "": """
+    show(*terminal.ask(b"\\033[6n", 0.2), "asked")
+    for event in terminal:
+        show(event)
+        if event == KeyEvent("n"):
+            show("replies", *terminal.ask(b"\\033]11;?\\033\\\\", 60), "asked")
+        if event == Q:
+            break""",
+    "async ": """
+    async def main():
+        show(*await terminal.ask_async(b"\\033[6n", 0.2), "asked")
+        async for event in terminal:
+            show(event)
+            if event == KeyEvent("n"):
+                show("replies", *await terminal.ask_async(b"\\033]11;?\\033\\\\", 60), "asked")
+            if event == Q:
+                break
+    asyncio.run(main())""",
+}
+
+
+@pytest.fixture(params=ASK_AGAIN.values(), ids=["ask", "ask_async"])
+def asking_again(run, request):
+    """Asks for the cursor for 0.2 seconds, and for the background at each n."""
+    return run(f"with Terminal() as terminal:\n    ready()\n    {request.param.strip()}")
+
+
+CURSOR, BACKGROUND = b"\033[1;5R\033[?62;1c", b"\033]11;rgb:0/0/0\007\033[?62;2c"
+LATE = [ANSWERS[0], "Csi(data=b'?62;1c')"]
+IN_TIME = [ANSWERS[1], "Csi(data=b'?62;2c')"]
+
+
+def test_late_replies(asking_again):
+    """They are events, also while others are awaited. Behind them the cursor isn't expected."""
+    program = asking_again
+    program.play(["\033[c", "asked\r\n", b"n", "\033[c", 0.4, CURSOR, 0.1, BACKGROUND])
+    program.play(["asked\r\n", b"\033[1;5Rn", "\033[c", BACKGROUND, "asked\r\n", b"q"])
+    again = ["replies", *IN_TIME, "asked"]
+    program.ends_with("asked", "n", *again, *LATE, "Function(number=3)", "n", *again, "q")
+
+
+def test_late_replies_before_another_question(asking_again):
+    program = asking_again
+    program.play(["\033[c", "asked\r\n", 0.4, CURSOR + b"\033[1;5Rn", "\033[c", BACKGROUND])
+    program.play(["asked\r\n", b"q"])
+    again = ["n", "replies", *IN_TIME, "asked"]
+    program.ends_with("asked", *LATE, "Function(number=3)", *again, "q")
+
+
+@pytest.mark.timed
+def test_replies_that_are_too_late(asking_again):
+    """After two seconds they count for no question, and end none."""
+    program = asking_again
+    program.play(["\033[c", "asked\r\n", 2.1, CURSOR + b"n", "\033[c", BACKGROUND])
+    program.play(["asked\r\n", b"q"])
+    again = ["n", "replies", *IN_TIME, "asked"]
+    program.ends_with("asked", "Function(number=3)", LATE[1], *again, "q")
+
+
+def test_questions_before_a_stop(asking_again):
+    """Another program may have got the replies. So none is awaited."""
+    program = asking_again
+    program.play(["\033[c", "asked\r\n", b"n", "\033[c"])
+    stop_and_continue(program, signal.SIGTSTP)
+    program.play([b"\033[1;5Rn", "\033[c", BACKGROUND, "asked\r\n", b"q"])
+    program.check_end(0)
+    again = ["n", "replies", *IN_TIME, "asked"]
+    lines = [line for line in program.lines()[1:] if line not in RESUMED]
+    assert lines == ["asked", "n", "replies", "asked", "Function(number=3)", *again, "q"]
+
+
+@pytest.mark.timed
+def test_question_and_paste_before_a_stop(asking_again):
+    """The paste goes on, and the question is forgotten."""
+    program = asking_again
+    program.play(["\033[c", "asked\r\n", START + b"a", 0.1])
+    stop_and_continue(program, signal.SIGTSTP)
+    program.send(END + b"\033[1;5Rq")
+    program.ends_with("asked", *RESUMED, "Paste(text='a')", "Function(number=3)", "q")
+
+
+def test_flood(run):
+    """It is given up once so much was typed. The rest stays unread, and nothing is lost."""
+    program = run(
+        """
+with Terminal() as terminal:
+    ready()
+    for _ in range(2):
+        replies = terminal.ask(b"", 600)
+        count = 0
+        while terminal.read() == KeyEvent("a"):
+            count += 1
+        show(len(replies), count)
+    show_until_q(terminal)
+"""
+    )
+    for _ in range(2):
+        program.play(["\033[c", b"a" * 100000 + b"b", "0\r\n100000\r\n"])
+    program.send(b"q")
+    program.ends_with(*["0", "100000"] * 2, "q")
+
+
 def test_ask_in_vain(asking):
     """What came in time is returned."""
     program = asking(1.0)
@@ -546,6 +1060,26 @@ with Terminal() as terminal:
     program.kill(signal.SIGUSR1)
     program.play(["interrupted\r\n", END + b"q"])
     program.ends_with("interrupted", "Csi(data=b'?1;2$y')", "a", "Paste(text='')", "q")
+
+
+@pytest.mark.parametrize("name", ["collections.deque", "Terminal._add"])
+def test_replies_and_refused_memory(run, name):
+    """What the list can't hold are events, in their order."""
+    program = run(
+        f"""
+from unittest import mock
+with Terminal() as terminal:
+    ready()
+    with mock.patch("hedrugal.terminal.{name}", side_effect=MemoryError):
+        try:
+            show(*terminal.ask(b"", 60))
+        except MemoryError:
+            show("refused")
+    show_until_q(terminal)
+"""
+    )
+    program.play(["\033[c", b"a\033[?1;2$yb\033[?62cq"])
+    program.ends_with("refused", "a", "Csi(data=b'?1;2$y')", "b", "Csi(data=b'?62c')", "q")
 
 
 def test_ask_and_refused_memory(run):
@@ -604,6 +1138,26 @@ def test_asyncio(run):
     program.ends_with("a", "KeyCode.ESCAPE", "KeyCode.UP_ARROW", size, "q", "True")
 
 
+@pytest.mark.timed
+def test_asyncio_that_is_blocked(run):
+    """A task computes while the limit passes and the rest comes."""
+    program = run(
+        """
+async def main():
+    with Terminal() as terminal:
+        asyncio.get_running_loop().call_later(0.3, time.sleep, 0.3)
+        ready()
+        async for event in terminal:
+            show(event)
+            if event == Q:
+                break
+asyncio.run(main())
+"""
+    )
+    program.play([0.28, b"\033", 0.15, b"[200~a\r" + END, "Paste", b"q"])
+    program.ends_with(r"Paste(text='a\r')", "q")
+
+
 def test_asyncio_and_the_end(run):
     program = run(ASYNC)
     program.let_end_input()
@@ -654,18 +1208,136 @@ with Terminal() as terminal:
     program.ends_with("KeyCode.ESCAPE", "a", "q")
 
 
-@pytest.mark.parametrize("program", [SHOW, ASYNC], ids=["loop", "asyncio"])
-def test_stop(run, program):
-    """While it is stopped a shell has the terminal. Then all is to be drawn again."""
-    program = run(program)
-    program.play([b"a" + START + b"b", "a\r\n"])
-    program.stop()
+@pytest.fixture(params=[SHOW, ASYNC], ids=["loop", "asyncio"])
+def shows(run, request):
+    """A program that shows its events."""
+    return run(request.param)
+
+
+RESUMED = ["Resumed()", "Resize(rows=24, columns=80, height=0, width=0)"]
+
+
+def shown_lines(program):
+    """The events that a program showed, up to q."""
+    lines = program.lines()
+    return lines[1 : lines.index("q") + 1]
+
+
+def stop_and_continue(program, number):
+    """SIGTSTP gives the terminal to another program, SIGSTOP to one that leaves it alone."""
+    if number == signal.SIGTSTP:
+        program.stop()
+    else:
+        program.kill(number)
+        if number != signal.SIGCONT:
+            program.wait_for_stop()
     program.continue_in_foreground()
-    program.play(["Resumed()\r\nResize(rows=24, columns=80, height=0, width=0)\r\n"])
-    assert program.is_raw() and program.modes() == {2004}
-    program.send(b"q")
-    program.check_end(0)
-    assert program.lines()[:2] == ["ready", "a"] and "q" in program.lines()
+    if number == signal.SIGTSTP:
+        program.play(["Resumed()\r\n", "width=0)\r\n"])
+    else:
+        # Nothing tells that it goes on.
+        time.sleep(0.1)
+
+
+def test_stop(shows):
+    """While it is stopped a shell has the terminal. What was begun before counts no more."""
+    for _ in range(2):
+        shows.play([b"a\xc3", "a\r\n"])
+        stop_and_continue(shows, signal.SIGTSTP)
+        assert shows.is_raw() and shows.modes() == {2004}
+        shows.play([b"b", "b\r\n"])
+    shows.send(b"q")
+    shows.check_end(0)
+    assert shown_lines(shows) == [*["a", *RESUMED, "b"] * 2, "q"]
+
+
+@pytest.mark.timed
+def test_sequence_cut_by_a_stop(shows):
+    shows.play([b"a\033[1;", "a\r\n"])
+    stop_and_continue(shows, signal.SIGTSTP)
+    shows.send(b"Aq")
+    shows.check_end(0)
+    assert shown_lines(shows) == ["a", *RESUMED, "A", "q"]
+
+
+NOBODY = [signal.SIGCONT, signal.SIGSTOP]
+
+
+@pytest.mark.timed
+@pytest.mark.parametrize("number", NOBODY, ids=lambda it: it.name)
+@pytest.mark.parametrize(
+    "opened, closed, event",
+    [
+        (START + b"a\r", b"b\r" + END, r"Paste(text='a\rb\r')"),
+        (b"\033]11;rgb:0", b"/0/0\007", "Osc(data=b'11;rgb:0/0/0')"),
+        (b"\033[1;", b"5A", "KeyCode.UP_ARROW"),
+    ],
+    ids=["a paste", "a string", "a sequence"],
+)
+def test_stop_where_nobody_had_the_terminal(shows, number, opened, closed, event):
+    """Nothing happened."""
+    for _ in range(2):
+        shows.send(opened)
+        for _ in range(2):
+            stop_and_continue(shows, number)
+        shows.play([closed, f"{event}\r\n"])
+    shows.send(b"q")
+    shows.check_end(0)
+    assert shown_lines(shows) == [event, event, "q"]
+    assert shows.output.count(b"\033[?2004h") == 1
+
+
+def test_size_of_a_stop(shows):
+    """It is told although nobody had the terminal."""
+    shows.kill(signal.SIGSTOP)
+    shows.wait_for_stop()
+    shows.resize(100, 40)
+    shows.kill(signal.SIGWINCH)
+    shows.continue_in_foreground()
+    shows.play(["columns=100", b"q"])
+    shows.check_end(0)
+    assert shown_lines(shows) == ["Resize(rows=40, columns=100, height=0, width=0)", "q"]
+
+
+@pytest.mark.timed
+def test_paste_over_a_stop(shows):
+    """None of it is typed. A later one is itself, whatever pause it has."""
+    shows.play([b"a" + START + b"b\r", "a\r\n"])
+    stop_and_continue(shows, signal.SIGTSTP)
+    shows.play([0.7, b"c\r", 0.7, b"d\r" + END + START + b"e\r", LONG_PAUSE, b"f" + END + b"q"])
+    shows.check_end(0)
+    pastes = [r"Paste(text='b\rc\rd\r')", r"Paste(text='e\rf')"]
+    assert shown_lines(shows) == ["a", *RESUMED, *pastes, "q"]
+
+
+@pytest.mark.timed
+def test_paste_whose_rest_does_not_come(shows):
+    """It is told after a second. Then keys are keys, and another paste has no such limit."""
+    shows.play([b"a" + START + b"b\r", "a\r\n"])
+    begin = time.monotonic()
+    stop_and_continue(shows, signal.SIGTSTP)
+    shows.play(["Paste(", b"c" + START + b"d", LONG_PAUSE, b"e" + END + b"q"])
+    shows.check_end(0)
+    assert time.monotonic() - begin > 1.0 + LONG_PAUSE - 0.1
+    pastes = [r"Paste(text='b\r')", "c", "Paste(text='de')"]
+    assert shown_lines(shows) == ["a", *RESUMED, *pastes, "q"]
+
+
+@pytest.mark.timed
+@pytest.mark.parametrize(
+    "rest, event",
+    [
+        (b"/0/0\007", "Osc(data=b'11;rgb:0/0/0')"),
+        (b"", "StringCut(kind=StringKind.OSC, data=b'11;rgb:0')"),
+    ],
+    ids=["whole", "cut"],
+)
+def test_string_over_a_stop(shows, rest, event):
+    shows.play([b"a\033]11;rgb:0", "a\r\n"])
+    stop_and_continue(shows, signal.SIGTSTP)
+    shows.play([rest, f"{event}\r\n", b"bq"])
+    shows.check_end(0)
+    assert shown_lines(shows) == ["a", *RESUMED, event, "b", "q"]
 
 
 MEMORY = """

@@ -6,8 +6,8 @@ keyboard protocol are set, and prints what it replies:
 Every terminal that was recorded answers ESC [6n, and few ESC [?6n. A reply from the first row looks
 like F3 with modifiers. So the program says that it expects one.
 
-The last question is the one for the terminal's attributes (DA1). Every terminal answers it, and
-answers in order, so what wasn't answered before won't be. The program ends with that answer, or
+The last question is the one for the terminal's attributes (DA1). Nearly every terminal answers it,
+and answers in order, so what wasn't answered before won't be. The program ends with that answer, or
 after so many seconds, one if none are named. What is typed meanwhile is counted, and what is pasted
 forgotten."""
 import sys

@@ -1307,9 +1307,12 @@ class _EventParser(_Closable, Generic[_AnyEvent]):
 
             >>> import os, select
             >>> def run(terminal, handle):
+            ...     def is_ready(seconds):
+            ...         return bool(select.select([terminal], [], [], seconds)[0])
             ...     with InputParser() as parser:
             ...         while True:
-            ...             if select.select([terminal], [], [], parser.timeout())[0]:
+            ...             # A wait that ends in a signal's handler doesn't look again.
+            ...             if is_ready(parser.timeout()) or is_ready(0):
             ...                 data = os.read(terminal, 4096)
             ...                 events = parser.parse(data, bool(data))
             ...             else:

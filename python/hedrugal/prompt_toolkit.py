@@ -9,8 +9,8 @@ Its keys are those of prompt_toolkit: Keys.ControlUp, or a character; Alt with a
 and that key. Ten sequences are the opposite key in its table, and aren't here: those of Up and Down
 with two modifiers or more, and of Page Up with Ctrl and Alt.
 
-A lone ESC is the Escape key after 50 ms, and not after half a second (`ttimeoutlen`). The beginning
-of a sequence waits a second, so a slow line breaks no key."""
+A lone ESC is the Escape key after 50 ms, and not after half a second (`ttimeoutlen`). ESC and one
+byte that begin a sequence wait 100 ms for its end, and a longer beginning waits a second."""
 from __future__ import annotations
 
 import contextlib
@@ -129,13 +129,18 @@ def _names(press: Press) -> Iterator[str]:
         yield from (f"{ctrl}{shift}{name}", f"{ctrl}{name}")
 
 
-def _is_no_key(event: ExtendedEvent) -> bool:
-    """Whether an event is a control sequence that is no key to the library, and may be one of
-    prompt_toolkit's, as those that mintty sends for Ctrl with digits. Of these ESC [1;5u is a
-    control character to the library."""
-    return isinstance(event, Csi) or (
+def _data(key: AnyKey, sent: str) -> str:
+    """What goes with a key, and is inserted by one that is a character."""
+    return sent if isinstance(key, Keys) else key
+
+
+def _is_other_key(event: ExtendedEvent, sent: str) -> bool:
+    """Whether a control sequence is a key of prompt_toolkit and none to the library, as those that
+    mintty sends for Ctrl with digits. Of these ESC [1;5u is a control character to the library."""
+    is_none = isinstance(event, Csi) or (
         isinstance(event, KeyEvent) and isinstance(event.key, str) and event.key < " "
     )
+    return is_none and sent in ANSI_SEQUENCES
 
 
 class Parser(Vt100Parser):
@@ -228,13 +233,12 @@ class Parser(Vt100Parser):
             return [KeyPress(it, it) for it in event.text]
         keys = self._keys(event, sent)
         if len(keys) == 2 and sent not in ANSI_SEQUENCES:
-            alone = sent[1:] if isinstance(keys[1], Keys) else keys[1]
-            return [KeyPress(keys[0], "\x1b"), KeyPress(keys[1], alone)]
-        return [KeyPress(key, "" if at else sent) for at, key in enumerate(keys)]
+            return [KeyPress(keys[0], "\x1b"), KeyPress(keys[1], _data(keys[1], sent[1:]))]
+        return [KeyPress(key, "" if at else _data(key, sent)) for at, key in enumerate(keys)]
 
     def _keys(self, event: ExtendedEvent, sent: str) -> Tuple[AnyKey, ...]:
-        if _is_no_key(event):
-            found = ANSI_SEQUENCES.get(sent, ())
+        if _is_other_key(event, sent):
+            found = ANSI_SEQUENCES[sent]
             return found if isinstance(found, tuple) else (found,)
         if not isinstance(event, (KeyEvent, KeyReport)):
             return ()
@@ -266,10 +270,9 @@ class Input(Vt100Input):
         return keys
 
     def flush_keys(self) -> List[KeyPress]:
-        """Returns the keys that are due. It doesn't break what may still become another key."""
-        self._parser.expire()
-        keys, self._buffer = self._buffer, []
-        return keys
+        """Does what `read_keys` does: what came completes what is due. It doesn't break what may
+        still become another key."""
+        return self.read_keys()
 
     @contextlib.contextmanager
     def attach(self, input_ready_callback: Callable[[], None]) -> Iterator[None]:

@@ -20,6 +20,7 @@ import contextlib
 import dataclasses
 import errno
 import fcntl
+import itertools
 import os
 import select
 import signal
@@ -33,6 +34,7 @@ from typing import (
     AsyncIterator,
     Callable,
     Deque,
+    Dict,
     FrozenSet,
     Iterator,
     List,
@@ -59,6 +61,7 @@ from . import (
     Resize,
     StringCut,
     StringPart,
+    Waiting,
     reply,
 )
 
@@ -73,15 +76,15 @@ class PastePart(Paste):
 
 @dataclass(frozen=True)
 class Resumed:
-    """Another program had the terminal, while this one was stopped. All is to be drawn again. What
-    was buffered before doesn't count any more. A Resize follows, since the size may be new."""
+    """Another program had the terminal, while this one was stopped. All is to be drawn again. A
+    Resize follows, since the size may be new."""
 
 
 TerminalEvent = Union[ExtendedEvent, Resumed]
 
 # What a terminal replies.
 _REPLIES = (CursorPosition, KeyboardFlags, Csi, Osc, Dcs, Apc, StringPart, StringCut)
-# The question for the cursor's position, and the one that every terminal answers (DA1).
+# The question for the cursor's position, and the one that is asked last (DA1).
 _POSITION, _ATTRIBUTES = b"\x1b[6n", b"\x1b[c"
 _TRACKING = {
     MouseTracking.X10: 9,
@@ -93,11 +96,31 @@ _ENDING = frozenset((signal.SIGHUP, signal.SIGINT, signal.SIGQUIT, signal.SIGTER
 _OTHERS = frozenset((signal.SIGTSTP, signal.SIGCONT, signal.SIGWINCH))
 _NO_SIGNAL: FrozenSet[int] = frozenset()
 _READ = 4096
-# How many seconds the modes may take to be switched off, if nobody reads what is written.
-_LEAVING = 1.0
+# How many seconds it may take to leave the terminal, and a reply is awaited then at least.
+_LEAVING, _LATE = 1.0, 0.2
+# For how many seconds a reply is owed. Some terminals never answer.
+_OWED = 2.0
+# How many seconds a paste or a string goes on without bytes that was open when another program had
+# the terminal.
+_STALL, _OPEN = 1.0, (Waiting.PASTE, Waiting.STRING)
+# `ask` reads no more once so many events are there.
+_MOST_EVENTS = 65536
 
 # The Terminal that is entered.
 _entered: Optional[Terminal] = None
+
+
+class _Question:
+    """The question that is asked last, whose reply the terminal owes."""
+
+    def __init__(self, seconds: float = 0.0, positions: int = 0, is_told: bool = True) -> None:
+        self.asked = time.monotonic()
+        # Until when `ask` waits, and until when the reply is owed.
+        self.end, self.until = self.asked + seconds, self.asked + max(_OWED, seconds)
+        # How many questions for the cursor's position went with it.
+        self.positions = positions
+        # Whether the reply is an event.
+        self.is_told = is_told
 
 
 class Terminal:
@@ -123,10 +146,20 @@ class Terminal:
     if the terminal is gone: what was buffered is flushed then.
 
     SIGHUP, SIGINT, SIGQUIT and SIGTERM restore the terminal and end the process as ever, SIGTSTP
-    restores it and stops the process, SIGCONT sets it again, and SIGWINCH brings a Resize. This is
-    so if the main thread enters the block, for each of these signals that isn't ignored and has no
-    handler. So Ctrl-C from another process still raises KeyboardInterrupt, and a handler of the
-    program's own is left alone. If a process is forked, only the parent restores the terminal.
+    restores it and stops the process, SIGCONT sets it again if another program had it, and SIGWINCH
+    brings a Resize. This is so if the main thread enters the block, for each of these signals that
+    isn't ignored and has no handler. So Ctrl-C from another process still raises KeyboardInterrupt,
+    and a handler of the program's own is left alone. If a process is forked, only the parent
+    restores the terminal.
+
+    After another program had the terminal, half a sequence from before is forgotten. A paste or a
+    string that was open goes on, so that its rest isn't typed. Once no byte of it came for a
+    second, it ends where it is.
+
+    What is typed ahead is left for the next program. But if a reply is still to come, or mouse
+    reports were on, all that comes up to the last reply is lost. It is awaited for 0.2 seconds, or
+    for twice as long as the slowest one took, and for a second at most. If it doesn't come, all
+    that came by then is lost. So it is if another thread reads the events.
 
     A process enters one Terminal at a time, and one thread or task reads its events. The same
     Terminal may be entered again. To enter raises OSError if there is no terminal, and RuntimeError
@@ -155,19 +188,28 @@ class Terminal:
             self._on += b"\x1b[>4;%dm" % modify_other_keys
             self._off = b"\x1b[>4m" + self._off
         if kitty:
-            self._on += b"\x1b[>%du\x1b[?u" % kitty.value
+            self._on += b"\x1b[>%du\x1b[?u" % kitty.value + _ATTRIBUTES
             self._off = b"\x1b[<u" + self._off
-        # Whether keys are to be read by Kitty's protocol once its flags are reported.
-        self._awaits_flags = bool(kitty)
+        # Whether the flags are asked for, and whether keys are to be read by Kitty's protocol once
+        # they are reported.
+        self._asks_flags = self._awaits_flags = bool(kitty)
+        self._has_mouse = bool(mouse)
         self._paste_limit = paste_limit
         self._descriptors = input, output
         # Events that were read, and those that came of signals.
         self._events: Deque[TerminalEvent] = collections.deque()
         self._signalled: Deque[TerminalEvent] = collections.deque()
-        # Bytes that memory was refused for, and whether it was refused for them or their events.
+        # Bytes that memory was refused for, and an event, and whether it was refused for any.
         self._unread, self._is_refused = b"", False
-        # Whether `ask` waits for the last reply.
-        self._is_asking = False
+        self._front: Optional[ExtendedEvent] = None
+        # When a paste or a string ends that was open when another program had the terminal.
+        self._stalls: Optional[float] = None
+        # The questions whose replies are owed, the oldest first, and how long the slowest took.
+        self._owed: Deque[_Question] = collections.deque()
+        self._slowest: Optional[float] = None
+        # That of the call of `ask`, and its replies by their places among the events.
+        self._asked: Optional[_Question] = None
+        self._replies: Dict[int, ExtendedEvent] = {}
         # Signals that came, those that have to wait, and those that are handled here.
         self._noted: Set[int] = set()
         self._held = _NO_SIGNAL
@@ -241,21 +283,26 @@ class Terminal:
         replies that came within so many seconds. Several questions may be asked at once.
         `hedrugal.reply` says what a reply tells.
 
-        The question for the terminal's attributes (DA1) is written last. Every terminal answers it,
-        after the others, so the wait ends with that reply, which is the last of the list. If it
-        isn't there, the time was too short. What is replied later is an event, and so is what is
-        typed meanwhile. If the call raises an exception, the replies so far are events too."""
-        end = time.monotonic() + timeout
-        with self._asking(question) as replies:
-            while left := self._left(end):
+        The question for the terminal's attributes (DA1) is written last. Terminals answer in order,
+        so the wait ends with that reply, which is the last of the list. If it isn't there, the list
+        isn't whole. The time was too short, or another program had the terminal, or 65536 events
+        are there, which are to be read first. A few terminals never answer, as dvtm and Emacs'
+        ansi-term.
+
+        What is typed meanwhile is an event, and so is the reply to an earlier question. If the call
+        raises an exception, the replies so far are events too.
+
+        A reply is awaited for two seconds, or for `timeout` if that is longer. One that comes later
+        is an event, but within a later call it is taken for the reply to that one."""
+        with self._asking(question, timeout) as replies:
+            while left := self._left():
                 self._advance(left)
         return replies
 
     async def ask_async(self, question: bytes, timeout: float = 1.0) -> List[ExtendedEvent]:
         """Does what `ask` does, in the running loop of asyncio."""
-        end = time.monotonic() + timeout
-        with self._asking(question) as replies:
-            while left := self._left(end):
+        with self._asking(question, timeout) as replies:
+            while left := self._left():
                 await self._wait(_earliest(left, self.timeout()))
                 self._advance(0)
         return replies
@@ -268,7 +315,7 @@ class Terminal:
             try:
                 rest = rest[os.write(self._output, rest) :]
             except BlockingIOError:
-                _has_room(self._output, None)
+                _is_ready(self._output, select.POLLOUT, None)
 
     def size(self) -> Resize:
         """Returns the terminal's size, in characters and in pixels. What isn't known is 0."""
@@ -279,8 +326,7 @@ class Terminal:
     @contextlib.contextmanager
     def paused(self) -> Iterator[None]:
         """Restores the terminal for another program, such as an editor that is started, and sets it
-        again at the end of the `with` block, whatever that program made of it. What was buffered
-        before doesn't count any more."""
+        again at the end of the `with` block, whatever that program made of it."""
         self._is_paused = True
         self._leave()
         try:
@@ -298,25 +344,33 @@ class Terminal:
 
     def timeout(self) -> Optional[float]:
         """Returns for how many seconds such a loop may wait, None for ever."""
-        return 0.0 if self._is_refused else self.parser.timeout()
+        if self._is_refused:
+            return 0.0
+        now = time.monotonic()
+        times = [self._stalls, *(it.until for it in self._owed)]
+        left = (max(0.0, it - now) for it in times if it is not None)
+        return _earliest(self.parser.timeout(), *left)
 
     # What was read.
 
     def _advance(self, limit: Optional[float]) -> bool:
         """Waits for bytes or a signal, for so many seconds or as long as the parser says, and
         handles what came. Returns whether something came or was due."""
+        self._reader = threading.current_thread()
         if self._is_refused:
             self._parse(b"")
             return True
-        ready = [fd for fd, _ in self._epoll.poll(_earliest(limit, self.timeout()))]
+        self._epoll.poll(_earliest(limit, self.timeout()))
+        # A wait that ends in a signal's handler doesn't look again. So what is due now is due only
+        # if nothing has come.
+        now = time.monotonic()
+        ready = [fd for fd, _ in self._epoll.poll(0)]
         if self._wake in ready:
             self._take_signals()
         elif ready:
             self._take_input()
         else:
-            expired = self.parser.expire()
-            self._add(expired)
-            return bool(expired)
+            return self._expire(now)
         return True
 
     async def _wait(self, limit: Optional[float]) -> None:
@@ -362,9 +416,7 @@ class Terminal:
         if data:
             self._parse(data)
             return
-        self._add(self.parser.flush())
-        paste = self.parser.end_paste()
-        self._add([paste] if paste else [])
+        self._end()
         self._is_ended = True
 
     def _parse(self, data: bytes) -> None:
@@ -373,66 +425,127 @@ class Terminal:
         self._is_refused = True
         self.parser.feed(self._unread)
         self._unread = b""
-        if self._awaits_flags:
+        before = len(self._events)
+        if self._owed or self._awaits_flags or self._front:
             # One by one, since an event may change how the next is read.
-            for event in self.parser:
-                self._add([event])
-                self._read_by_flags(event)
+            while event := self._front or self.parser.next_event():
+                self._front = event
+                self._add(event)
+                self._front = None
         else:
-            self._add(self.parser.parse(b""))
-        part = self.parser.take_paste(self._paste_limit)
-        self._add([PastePart(part)] if part else [])
+            self._events.extend(self.parser.parse(b""))
+        if self._stalls is not None:
+            self._put_off(before)
+        if part := self.parser.take_paste(self._paste_limit):
+            self._events.append(PastePart(part))
         self._is_refused = False
 
-    def _read_by_flags(self, event: ExtendedEvent) -> None:
-        if isinstance(event, KeyboardFlags):
-            self._awaits_flags = False
-            self.parser.reading = dataclasses.replace(self.parser.reading, protocol=Protocol.KITTY)
+    def _put_off(self, count: int) -> None:
+        """Has a paste or a string go on that was open when another program had the terminal, unless
+        an event behind so many ends it."""
+        came = itertools.islice(self._events, count, None)
+        is_open = all(isinstance(event, StringPart) for event in came)
+        self._stalls = time.monotonic() + _STALL if is_open else None
+
+    def _expire(self, now: float) -> bool:
+        """Adds the events of what has waited for too long by then, and returns whether anything
+        has. Nothing could be read since."""
+        count = len(self._events)
+        for event in self.parser.expire(now):
+            self._add(event)
+        if len(self._events) > count:
+            self._stalls = None
+        elif self._stalls is not None and self._stalls <= now:
+            self._end()
+        owed = self._owed
+        overdue = [it for it in owed if it.until <= now]
+        for question in overdue:
+            owed.remove(question)
+        if overdue:
+            self._expect_positions()
+        return len(self._events) > count or bool(overdue)
+
+    def _end(self) -> None:
+        """Adds the events of all that is buffered, and ends an open paste where it is."""
+        for event in self.parser.flush():
+            self._add(event)
+        if paste := self.parser.end_paste():
+            self._add(paste)
+        self._stalls = None
 
     def _forget(self) -> None:
-        """Forgets what is buffered: another program had the terminal."""
+        """Forgets what is buffered, since another program had the terminal. A paste or a string
+        stays open, or the rest of it would be typed."""
+        if self.parser.waiting in _OPEN:
+            self._stalls = time.monotonic() + _STALL
+        else:
+            self._reset()
+        self._expect_positions()
+
+    def _reset(self) -> None:
         self.parser.reset()
         self._unread, self._is_refused = b"", False
+        self._front, self._stalls = None, None
 
-    def _add(self, events: List[ExtendedEvent]) -> None:
-        self._events.extend(events)
-        if self._is_asking and any(map(_is_attributes, events)):
-            self._is_asking = False
+    # Replies.
+
+    def _add(self, event: ExtendedEvent) -> None:
+        """Adds an event, which may be a reply."""
+        if self._awaits_flags and isinstance(event, KeyboardFlags):
+            self._awaits_flags = False
+            self.parser.reading = dataclasses.replace(self.parser.reading, protocol=Protocol.KITTY)
+        # The same to its end, whatever a signal's handler does.
+        owed = self._owed
+        if not owed:
+            self._events.append(event)
+            return
+        question, is_last = owed[0], _is_attributes(event)
+        if question is self._asked and isinstance(event, _REPLIES):
+            self._replies[len(self._events)] = event
+        if question.is_told or not is_last:
+            self._events.append(event)
+        if is_last:
+            owed.popleft()
+            self._slowest = max(self._slowest or 0.0, time.monotonic() - question.asked)
+            self._expect_positions()
+
+    def _expect_positions(self) -> None:
+        """Expects a position of the cursor for each question that is open."""
+        self.parser.forget_positions()
+        for question in self._owed:
+            for _ in range(question.positions):
+                self.parser.expect_position()
 
     @contextlib.contextmanager
-    def _asking(self, question: bytes) -> Iterator[List[ExtendedEvent]]:
+    def _asking(self, question: bytes, seconds: float) -> Iterator[List[ExtendedEvent]]:
         """Writes questions. At the end of the block their replies are moved to the list, up to the
         last one. If it ends by an exception they stay events, since nobody gets the list."""
         replies: List[ExtendedEvent] = []
-        for _ in range(question.count(_POSITION)):
+        self._asked = _Question(seconds, question.count(_POSITION))
+        self._replies.clear()
+        self._owed.append(self._asked)
+        for _ in range(self._asked.positions):
             self.parser.expect_position()
-        before, self._events = self._events, collections.deque()
-        self._is_asking = True
         try:
             self.write(question + _ATTRIBUTES)
             yield replies
             self._move_replies(replies)
         finally:
-            self._events.extendleft(reversed(before))
-            self._is_asking = False
-            self.parser.forget_positions()
+            self._asked = None
 
     def _move_replies(self, replies: List[ExtendedEvent]) -> None:
-        others: Deque[TerminalEvent] = collections.deque()
-        is_open = True
-        for event in self._events:
-            if is_open and isinstance(event, _REPLIES):
-                replies.append(event)
-                is_open = not _is_attributes(event)
-            else:
-                others.append(event)
-        self._events = others
+        replies.extend(self._replies.values())
+        others = (it for place, it in enumerate(self._events) if place not in self._replies)
+        self._events = collections.deque(others)
 
-    def _left(self, end: float) -> float:
-        """How many seconds are left, 0 once the last question is answered."""
-        if self._is_ended or not self._is_asking:
+    def _left(self) -> float:
+        """How many seconds `ask` still waits, 0 once the last question is answered."""
+        asked = self._asked
+        if asked is None or asked not in self._owed or self._is_ended:
             return 0.0
-        return max(0.0, end - time.monotonic())
+        if len(self._events) >= _MOST_EVENTS:
+            return 0.0
+        return max(0.0, asked.end - time.monotonic())
 
     # The terminal's modes.
 
@@ -441,7 +554,7 @@ class Terminal:
         self._input, self._output = (
             _found(chosen, standard, stack) for standard, chosen in enumerate(self._descriptors)
         )
-        self._saved = _call(termios.tcgetattr, self._input)
+        self._saved = self._ours = _call(termios.tcgetattr, self._input)
         self._wake, self._wakes = os.pipe2(os.O_NONBLOCK | os.O_CLOEXEC)
         stack.callback(os.close, self._wake)
         stack.callback(os.close, self._wakes)
@@ -449,10 +562,11 @@ class Terminal:
         self._epoll.register(self._input, select.EPOLLIN)
         self._epoll.register(self._wake, select.EPOLLIN)
         self._pid = os.getpid()
+        self._reader = threading.current_thread()
         self._is_ended = False
         self._events.clear()
         self._signalled.clear()
-        self._forget()
+        self._reset()
 
     def _enter(self) -> None:
         """Sets raw mode, and switches the modes on. If they were never left, as around SIGSTOP,
@@ -460,29 +574,64 @@ class Terminal:
         with self._holding(_OTHERS):
             self._is_raw = True
             _set(self._input, _raw(self._saved))
-            self._switch_off()
+            self._ours = _call(termios.tcgetattr, self._input)
+            self._switch_off(time.monotonic() + _LEAVING)
             # From the first byte on, since a signal may end the write.
             self._is_switched = True
+            # Another program may have got the reply to any other question.
+            asked = [_Question(is_told=False)] if self._asks_flags else []
+            self._owed = collections.deque(asked)
             self.write(self._on)
 
     def _leave(self) -> None:
-        """Switches the modes off, restores the settings, and discards what the terminal sent too
-        late. A terminal that is gone can't be restored."""
+        """Switches the modes off, takes what the terminal sends too late, and restores the
+        settings. A terminal that is gone can't be restored."""
         if not self._is_raw or self._is_forked():
             return
         with self._holding(_ENDING | _OTHERS):
+            end = time.monotonic() + _LEAVING
+            is_all = False
             try:
-                self._switch_off()
+                self._switch_off(end)
+                with contextlib.suppress(OSError):
+                    is_all = self._take_late(end)
             finally:
                 with contextlib.suppress(OSError):
                     _set(self._input, self._saved)
-                    _call(termios.tcflush, self._input, termios.TCIFLUSH)
+                    if not is_all:
+                        _call(termios.tcflush, self._input, termios.TCIFLUSH)
                 self._is_raw = False
 
-    def _switch_off(self) -> None:
+    def _switch_off(self, end: float) -> None:
         if self._is_switched:
             self._is_switched = False
-            _write_at_once(self._output, self._off)
+            _write_at_once(self._output, self._off, end)
+
+    def _take_late(self, end: float) -> bool:
+        """Reads what the terminal still sends for this program, and no byte behind it. Returns
+        whether nothing of it is left for the next program."""
+        count = len(self._owed)
+        if not count and not self._has_mouse:
+            return True
+        if not count and self._slowest is None:
+            return False
+        if self._reader is not threading.current_thread() and self._reader.is_alive():
+            # It may read first, and this thread would wait for another byte.
+            return False
+        if not count:
+            # The reply comes behind all mouse reports.
+            _write_at_once(self._output, _ATTRIBUTES, end)
+            count = 1
+        end = min(end, time.monotonic() + max(_LATE, 2 * (self._slowest or 0.0)))
+        with ExtendedParser() as parser:
+            while count and (left := end - time.monotonic()) > 0:
+                if not _is_ready(self._input, select.POLLIN, left):
+                    break
+                byte = os.read(self._input, 1)
+                if not byte:
+                    break
+                count -= sum(map(_is_attributes, parser.parse(byte)))
+        return not count
 
     def _restore(self) -> None:
         """Does at the end of the block, or else of the process, what undoes its beginning."""
@@ -558,6 +707,9 @@ class Terminal:
             return
         # If the terminal is gone, the next read tells.
         with contextlib.suppress(OSError):
+            if self._is_raw and _call(termios.tcgetattr, self._input) == self._ours:
+                # Nobody else had it.
+                return
             self._enter()
             self._tell(Resumed(), self.size())
 
@@ -593,20 +745,20 @@ def _found(chosen: Optional[int], standard: int, stack: contextlib.ExitStack) ->
     return chosen
 
 
-def _has_room(terminal: int, seconds: Optional[float]) -> bool:
-    """Waits until a byte can be written, at most so many seconds, and returns whether it can."""
-    room = select.poll()
-    room.register(terminal, select.POLLOUT)
-    return bool(room.poll(None if seconds is None else 1000 * seconds))
+def _is_ready(terminal: int, for_what: int, seconds: Optional[float]) -> bool:
+    """Waits until a byte can be read or written, at most so many seconds, and returns whether it
+    can."""
+    poll = select.poll()
+    poll.register(terminal, for_what)
+    return bool(poll.poll(None if seconds is None else 1000 * seconds))
 
 
-def _write_at_once(terminal: int, data: bytes) -> None:
+def _write_at_once(terminal: int, data: bytes, end: float) -> None:
     """Writes bytes one by one as soon as there is room: so no write blocks. What can't be written
-    in time is left out."""
-    end = time.monotonic() + _LEAVING
+    by then is left out."""
     with contextlib.suppress(OSError):
         for at in range(len(data)):
-            if not _has_room(terminal, max(0.0, end - time.monotonic())):
+            if not _is_ready(terminal, select.POLLOUT, max(0.0, end - time.monotonic())):
                 return
             os.write(terminal, data[at : at + 1])
 
