@@ -308,7 +308,7 @@ static bool handle_key(edit *it, const hed_extended_event *event) {
   return true;
 }
 
-/* Asks for the flags of Kitty's protocol, anew where another program had the terminal. */
+/* Asks for the flags of Kitty's protocol. */
 static bool ask_flags(edit *it) {
   return hed_terminal_ask(&it->terminal, &it->parser, "\033[?u") || fail(it, it->terminal.failure);
 }
@@ -335,12 +335,18 @@ static bool handle_pause(edit *it) {
   return hed_timer_timeout(&it->timer, hed_terminal_now()) != 0 || take_outcomes(it, false, false);
 }
 
+/* Another program had the terminal. The reply would be a part of a paste or a string that is open. */
+static bool handle_resumed(edit *it) {
+  uint32_t waiting = hed_extended_waiting(&it->parser);
+  return waiting == HED_WAITING_PASTE || waiting == HED_WAITING_STRING || ask_flags(it);
+}
+
 static bool step(edit *it) {
   hed_extended_event event;
   switch (hed_terminal_next(&it->terminal, &it->parser, hed_timer_timeout(&it->timer, hed_terminal_now()), &event)) {
     case HED_TERMINAL_EVENT: return handle_event(it, &event);
     case HED_TERMINAL_NOTHING: return handle_pause(it);
-    case HED_TERMINAL_RESUMED: return ask_flags(it);
+    case HED_TERMINAL_RESUMED: return handle_resumed(it);
     case HED_TERMINAL_RESIZED: return true;
     case HED_TERMINAL_ENDED: take_outcomes(it, false, false); return false;
     case HED_TERMINAL_FAILED: return fail(it, it->terminal.failure);

@@ -188,7 +188,7 @@ class Terminal:
             self._on += b"\x1b[>4;%dm" % modify_other_keys
             self._off = b"\x1b[>4m" + self._off
         if kitty:
-            self._on += b"\x1b[>%du\x1b[?u" % kitty.value + _ATTRIBUTES
+            self._on += b"\x1b[>%du" % kitty.value
             self._off = b"\x1b[<u" + self._off
         # Whether the flags are asked for, and whether keys are to be read by Kitty's protocol once
         # they are reported.
@@ -230,6 +230,7 @@ class Terminal:
             stack.callback(self._restore)
             self._handle_signals()
             self._enter()
+            self._ask_flags()
             self._stack = stack.pop_all()
         return self
 
@@ -475,12 +476,16 @@ class Terminal:
 
     def _forget(self) -> None:
         """Forgets what is buffered, since another program had the terminal. A paste or a string
-        stays open, or the rest of it would be typed."""
+        stays open, or the rest of it would be typed. Nothing is asked then, since the reply would
+        be a part of it."""
+        self._expect_positions()
         if self.parser.waiting in _OPEN:
             self._stalls = time.monotonic() + _STALL
-        else:
-            self._reset()
-        self._expect_positions()
+            return
+        self._reset()
+        # If the terminal is gone, the next read tells.
+        with contextlib.suppress(OSError):
+            self._ask_flags()
 
     def _reset(self) -> None:
         self.parser.reset()
@@ -508,6 +513,12 @@ class Terminal:
             owed.popleft()
             self._slowest = max(self._slowest or 0.0, time.monotonic() - question.asked)
             self._expect_positions()
+
+    def _ask_flags(self) -> None:
+        """Asks for the flags of Kitty's protocol, if they are wanted."""
+        if self._asks_flags:
+            self._owed.append(_Question(is_told=False))
+            self.write(b"\x1b[?u" + _ATTRIBUTES)
 
     def _expect_positions(self) -> None:
         """Expects a position of the cursor for each question that is open."""
@@ -578,9 +589,8 @@ class Terminal:
             self._switch_off(time.monotonic() + _LEAVING)
             # From the first byte on, since a signal may end the write.
             self._is_switched = True
-            # Another program may have got the reply to any other question.
-            asked = [_Question(is_told=False)] if self._asks_flags else []
-            self._owed = collections.deque(asked)
+            # Another program may have got the replies.
+            self._owed.clear()
             self.write(self._on)
 
     def _leave(self) -> None:

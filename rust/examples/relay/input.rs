@@ -2,7 +2,7 @@
 use crate::keys::key_text;
 use crate::modes::ChildModes;
 use crate::mouse::{gets_side_button, Mouse};
-use hedrugal::extended::{encode_cursor_position, ExtendedEvent, Protocol, Reading};
+use hedrugal::extended::{encode_cursor_position, ExtendedEvent, ExtendedParser};
 use hedrugal::input::{encode_paste, InputEvent, KeyCode, KeyEvent};
 
 const PASTE_START: &str = "\x1b[200~";
@@ -25,12 +25,12 @@ pub struct Sender {
 }
 
 impl Sender {
-    /// Returns what the child gets for an event. The protocol is that of the terminal.
+    /// Returns what the child gets for an event of the terminal's parser.
     pub fn bytes(
         &mut self,
         event: &ExtendedEvent,
         modes: &ChildModes,
-        protocol: Protocol,
+        parser: &ExtendedParser,
     ) -> Vec<u8> {
         match event {
             ExtendedEvent::Input(InputEvent::Mouse(mouse)) => self.mouse.bytes(mouse, modes),
@@ -47,9 +47,9 @@ impl Sender {
             }
             // The reply to a question of this program's own.
             ExtendedEvent::KeyboardFlags(_) => Vec::new(),
-            event => match key_text(event, modes, protocol) {
+            event => match key_text(event, modes, parser.protocol()) {
                 Some(text) => text.into_bytes(),
-                None => self.reply(event, protocol),
+                None => self.reply(event, parser),
             },
         }
     }
@@ -87,13 +87,13 @@ impl Sender {
 
     /// Returns a reply or another sequence as the terminal sent it. One that was cut off, or is
     /// longer than the parser's limit, isn't passed on.
-    fn reply(&mut self, event: &ExtendedEvent, protocol: Protocol) -> Vec<u8> {
+    fn reply(&mut self, event: &ExtendedEvent, parser: &ExtendedParser) -> Vec<u8> {
         let is_part = matches!(event, ExtendedEvent::StringPart { .. });
         let is_rest = std::mem::replace(&mut self.is_rest, is_part);
         if is_rest {
             return Vec::new();
         }
-        event.encode(Reading::new(protocol)).unwrap_or_default()
+        event.encode(parser).unwrap_or_default()
     }
 }
 

@@ -298,8 +298,7 @@ impl Relay {
         if is_attributes(event) && !self.terminal.note_attributes() {
             return;
         }
-        let protocol = self.parser.protocol();
-        let mut bytes = self.sender.bytes(event, &self.output.modes, protocol);
+        let mut bytes = self.sender.bytes(event, &self.output.modes, &self.parser);
         self.to_child.append(&mut bytes);
         self.send_replies();
     }

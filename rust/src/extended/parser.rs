@@ -275,8 +275,7 @@ impl ExtendedParser {
         let mut reading = raw::Reading::default();
         // SAFETY: the pointer leads to a parser, which this thread alone has, and `reading` is
         // another value.
-        let is_read =
-            unsafe { raw::hed_extended_reading(&mut *self.locked(), &mut reading) };
+        let is_read = unsafe { raw::hed_extended_reading(&mut *self.locked(), &mut reading) };
         assert!(is_read, "{FAULT}");
         Reading {
             protocol: Protocol::of(reading.protocol),

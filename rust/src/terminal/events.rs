@@ -277,6 +277,11 @@ impl Events {
         };
     }
 
+    // Whether a paste or a string goes on that was open when another program had the terminal.
+    pub fn is_open(&self) -> bool {
+        self.cut_at.is_some()
+    }
+
     pub fn questions(&self) -> &Questions {
         &self.questions
     }

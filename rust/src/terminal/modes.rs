@@ -56,6 +56,20 @@ impl Modes {
     /// ```
     #[must_use]
     pub fn on(&self) -> String {
+        self.switched_on() + self.question()
+    }
+
+    // What asks for the flags of Kitty's protocol, where they are turned on.
+    pub(super) fn question(&self) -> &'static str {
+        if self.keyboard.is_empty() {
+            ""
+        } else {
+            "\x1b[?u"
+        }
+    }
+
+    // What turns the modes on, without that question.
+    pub(super) fn switched_on(&self) -> String {
         let switches = self.switches().into_iter().map(|(on, _)| on);
         self.also_on.to_string() + &switches.collect::<String>()
     }
@@ -88,7 +102,7 @@ impl Modes {
             switches.push(("\x1b[>4;2m".to_string(), "\x1b[>4m".to_string()));
         }
         if !self.keyboard.is_empty() {
-            let on = format!("\x1b[>{}u\x1b[?u", self.keyboard.bits());
+            let on = format!("\x1b[>{}u", self.keyboard.bits());
             switches.push((on, "\x1b[<u".to_string()));
         }
         switches

@@ -407,7 +407,7 @@ impl RawMode {
     /// If there is no terminal, if it can't be set, or if there is a guard already
     /// ([`AlreadyExists`](io::ErrorKind::AlreadyExists)). The terminal is unchanged then.
     pub fn new(modes: Modes) -> io::Result<RawMode> {
-        RawMode::begin(modes, false, None)
+        RawMode::begin(modes, modes.on(), false, None)
     }
 
     /// Does what [`RawMode::new`] does, and notes signals for the program's loop, SIGWINCH too.
@@ -429,7 +429,7 @@ impl RawMode {
     ///
     /// Those of [`RawMode::new`].
     pub fn noting(modes: Modes) -> io::Result<RawMode> {
-        RawMode::begin(modes, true, None)
+        RawMode::begin(modes, modes.on(), true, None)
     }
 
     // The terminal's settings as they are now.
@@ -438,14 +438,16 @@ impl RawMode {
         Settings::of(terminal_of(io::stdin())?.as_raw_fd())
     }
 
-    // `saved` has the settings to restore, if they aren't those of now.
+    // `on` is what turns the modes on. `saved` has the settings to restore, if they aren't those of
+    // now.
     pub(super) fn begin(
         modes: Modes,
+        on: String,
         has_loop: bool,
         saved: Option<Settings>,
     ) -> io::Result<RawMode> {
         let wake = wake()?;
-        claim(Entered::find(modes, has_loop, saved)?)?;
+        claim(Entered::find(modes, on, has_loop, saved)?)?;
         let guard = RawMode { wake };
         let turn = Turn::wait();
         HAS_LOOP.store(has_loop, SeqCst);
@@ -681,7 +683,12 @@ impl Drop for Entered {
 
 impl Entered {
     // The terminal of this program, as it is before raw mode.
-    fn find(modes: Modes, has_loop: bool, saved: Option<Settings>) -> io::Result<Entered> {
+    fn find(
+        modes: Modes,
+        on: String,
+        has_loop: bool,
+        saved: Option<Settings>,
+    ) -> io::Result<Entered> {
         let input = terminal_of(io::stdin())?;
         let output = terminal_of(io::stdout())?;
         let settings = Settings::of(input.as_raw_fd())?;
@@ -698,7 +705,7 @@ impl Entered {
             saved: saved.unwrap_or(settings),
             raw: settings.to_raw(),
             modes: Switches {
-                on: modes.on(),
+                on,
                 off: modes.off(),
             },
             own: AtomicPtr::new(Box::into_raw(Box::default())),

@@ -68,7 +68,8 @@ pub struct Terminal {
     events: Events,
     // What was read and refused memory by the parser. It never grows.
     unfed: Vec<u8>,
-    asks_for_flags: bool,
+    // What asks for the flags of Kitty's protocol, if they are wanted.
+    question: &'static str,
     raw_mode: RawMode,
 }
 
@@ -116,18 +117,17 @@ impl Terminal {
         let mut terminal = Terminal {
             events: Events::new(&modes).map_err(refused)?,
             unfed: Vec::with_capacity(READ),
-            asks_for_flags: !modes.keyboard.is_empty(),
-            raw_mode: RawMode::begin(modes, true, saved)?,
+            question: modes.question(),
+            raw_mode: RawMode::begin(modes, modes.switched_on(), true, saved)?,
         };
-        terminal.count_flags()?;
+        terminal.ask_for_flags()?;
         Ok(terminal)
     }
 
-    // The guard has asked for the flags of Kitty's protocol, if they are wanted. A question that is
-    // always answered tells when their reply is owed no longer.
-    fn count_flags(&mut self) -> io::Result<()> {
-        if self.asks_for_flags {
-            self.ask_attributes("", Duration::ZERO, true)?;
+    // In a paste or a string that goes on, the reply would be a part of it.
+    fn ask_for_flags(&mut self) -> io::Result<()> {
+        if !self.question.is_empty() && !self.events.is_open() {
+            self.ask_attributes(self.question, Duration::ZERO, true)?;
         }
         self.tell_owed();
         Ok(())
@@ -491,7 +491,7 @@ impl Terminal {
         let _ = self.events.feed(&self.unfed); // of a paste that is open
         self.unfed.clear();
         self.events.resume(Instant::now());
-        self.count_flags()
+        self.ask_for_flags()
     }
 
     // Has the guard know what the terminal still owes, for when it is left.

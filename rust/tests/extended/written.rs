@@ -117,7 +117,10 @@ fn long_texts_are_written() {
     assert!(long.len() >= 100_000);
     let wanted = format!("\x1b[200~{long}\x1b[201~");
     let event = paste(&long);
-    assert_eq!(event.encode(&parser(KITTY)).as_deref(), Ok(wanted.as_bytes()));
+    assert_eq!(
+        event.encode(&parser(KITTY)).as_deref(),
+        Ok(wanted.as_bytes())
+    );
     assert_eq!(read(wanted.as_bytes(), KITTY, true), event);
     for (introducer, opening, event) in [
         ("\x1b]", "52;c;", ExtendedEvent::Osc as fn(Vec<u8>) -> _),
