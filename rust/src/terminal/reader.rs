@@ -181,7 +181,7 @@ impl Terminal {
     /// Asks the terminal, and waits for its replies, at most for so long. Other events that come
     /// meanwhile stay for [`Terminal::read`].
     ///
-    /// A terminal doesn't reply to a question that it doesn't know. So ESC `[c`, to which all reply,
+    /// A terminal doesn't reply to a question that it doesn't know. So ESC `[c`, to which nearly all reply,
     /// is asked last, and the call returns as soon as that is answered. Each ESC `[6n` in the
     /// questions is expected to be answered by a position, whose bytes may be those of an F3.
     ///
