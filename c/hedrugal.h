@@ -132,7 +132,7 @@ enum hed_next {
 
 /* Makes a parser with an empty buffer. If there was one, it is freed. The caller owes a hed_parser_free.
  *
- * A parser takes some half a millisecond to make, and some 160 KB, most of it a table of sequences. So make one and keep it:
+ * A parser takes some half a millisecond to make, and some 170 KB, most of it a table of sequences. So make one and keep it:
  * hed_parser_reset empties its buffer, and further parsers share its table by hed_parser_init_sharing.
  *
  * Returns false if memory is refused: then the parser is unchanged. */

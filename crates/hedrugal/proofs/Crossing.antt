@@ -22,6 +22,8 @@ use Rattle.termwiz_keymap.specs.contracts.keymap.remembered.Remembered as Rememb
 use Rattle.termwiz_keymap.specs.contracts.keymap.row.Row as Row
 use Rattle.termwiz_keymap.specs.contracts.readbuf.ReadBuffer as ReadBuffer
 use Rattle.termwiz_input.specs.contracts.input.InputParser as InputParser
+use Rattle.termwiz_input.specs.contracts.sequence_table.Places as Places
+use Rattle.termwiz_input.specs.contracts.sequence_table.SequenceTable as SequenceTable
 use Rattle.termwiz_input.specs.contracts.time.Policy as Policy
 use Rattle.termwiz_input.specs.contracts.time.Timer as Timer
 use Rattle.termwiz_bindings.specs.contracts.bindings.Bindings as ChordMap
@@ -92,12 +94,25 @@ map_sync V d c s = search (sendable, crosses, row_sync, gap_sync, remembered_syn
 chord_map_send : (V : RattleType) (d : Debug V.Denot) (c : Clone V.Denot) → IsSend V → IsSend (ChordMap.the_row V d c)
 chord_map_send V d c s = search (sendable, crosses, map_send) depth 12
 
+-- the sequence table
+places_send : IsSend Places.the_row
+places_send = search (sendable, crosses) depth 10
+
+places_sync : IsSync Places.the_row
+places_sync = search (sendable, crosses) depth 10
+
+table_send : IsSend SequenceTable.the_row
+table_send = search (sendable, crosses, event_send, map_send, places_send) depth 12
+
+table_sync : IsSync SequenceTable.the_row
+table_sync = search (sendable, crosses, event_sync, map_sync, places_sync) depth 12
+
 -- the parsers, whose table is behind an `Arc`
 buffer_send : IsSend ReadBuffer.the_row
 buffer_send = search (sendable, crosses) depth 10
 
 parser_send : IsSend InputParser.the_row
-parser_send = search (sendable, crosses, event_send, event_sync, map_send, map_sync, buffer_send) depth 12
+parser_send = search (sendable, crosses, table_send, table_sync, buffer_send) depth 12
 
 extended_send : IsSend ExtendedParser.the_row
 extended_send = search (sendable, crosses, parser_send) depth 12

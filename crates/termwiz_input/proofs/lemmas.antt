@@ -1,3 +1,4 @@
+pub mod KeyChains
 pub mod heads
 pub mod items
 pub mod mouse

@@ -5,6 +5,8 @@ pub mod Fronts
 pub mod Bytes
 pub mod Callbacks
 pub mod HeldLengths
+pub mod KeyBuckets
+pub mod KeyPlaces
 pub mod MouseReportAnswers
 pub mod PasteSearch
 pub mod Pieces

@@ -1,6 +1,5 @@
 //! The parser: bytes of a terminal to events.
 ghost use Rattle.std.specs.Prelude.{◌≡◌, ◌≢◌, ◌++◌, ◌+◌, ◌^◌, ◌<◌, ◌≤◌, max, ℕ, Bool, List, [], ◌∷◌, length, take, drop, Contains, Some, true, false, OnErr, IfOk, IfErr, IfSome, IfNone, IsSome, IsTrue, ◌↔◌, ◌==◌, ◌⊎◌, slice_index_or, if◌then◌else◌, OnOk, IsOk, IsErrOf, vec_len, vec_capacity};
-ghost use Rattle.std.specs.Arc.{arc_value};
 ghost use Rattle.termwiz_keys.specs.declared.types.KeyEvent.{KeyEvent};
 ghost use Rattle.termwiz_keymap.specs.Bytes.{Begins};
 ghost use Rattle.termwiz_keys.specs.Introducers.{START};
@@ -9,6 +8,7 @@ ghost use Rattle.termwiz_grammar.specs.Table.{table};
 ghost use Rattle.termwiz_grammar.specs.WaitingKinds.{IsKind, IsOneOrTwoEscapes, IsOpenPaste, IsShortOrOpenPaste};
 ghost use Rattle.termwiz_grammar.specs.PasteParts.{HasPart, IsSkipped, IsTaken};
 ghost use Rattle.termwiz_input.specs.HeldLengths.{IsDecidedTo};
+ghost use Rattle.termwiz_input.specs.KeyPlaces.{IsNextPlaceOf};
 ghost use Rattle.termwiz_keymap.specs.Lookup.{LookupGives, found_copied};
 ghost use Rattle.termwiz_input.specs.PasteSearch.{IsPasteSoFar};
 ghost use Rattle.termwiz_grammar.specs.Grammar.{GivesNoPaste, HasItem, HasPaste, IsRest, Steps, Means};
@@ -33,19 +33,19 @@ pub use crate::paste::begins_paste;
 use crate::paste::{PASTE_START, lacks_end, lossy_text, next_search, paste_so_far};
 use crate::printable_ascii::append_printable_ascii;
 pub use crate::printable_ascii::is_printable_ascii;
+use crate::sequence_table::SequenceTable;
 use crate::waiting::kind_of;
 use std::alloc::{AllocError, Global};
 use std::marker::Model;
 use std::sync::Arc;
 pub use termwiz_base::{Flags, Modifiers};
 pub use termwiz_grammar::waiting::Waiting;
-use termwiz_keymap::keymap::{Found, KeyMap};
+use termwiz_keymap::keymap::Found;
 use termwiz_keymap::readbuf::ReadBuffer;
 pub use termwiz_keys::encode::{CSI, EncodeError, KeyCodeEncodeModes, KeyboardEncoding, SS3};
 pub use termwiz_keys::types::{
     InputEvent, KeyCode, KeyEvent, MouseButtons, MouseEvent, PastedText, PixelMouseEvent,
 };
-use termwiz_table::add_rows;
 
 // How many bytes a short text has: as many as a read of a keyboard seldom passes.
 const SHORT_TEXT: usize = 64;
@@ -58,24 +58,13 @@ fn more_after(number: usize, count: usize, maybe_more: bool) -> bool
     maybe_more || number + 1 < count
 }
 
-// The sequence table, in a key map that parsers may share.
-#[tactic(auto, unfolding(termwiz_grammar::specs::Table::table))]
-fn new_table(alloc: Global) -> Result<Arc<KeyMap<KeyEvent>, Global>, AllocError>
-    ensures { IfOk result (λ key_map. arc_value key_map ≡ table) }
-{
-    let mut key_map = KeyMap::new(alloc);
-    add_rows(alloc, &mut key_map)?;
-    key_map.remember()?;
-    Ok(Arc::new(alloc, key_map)?)
-}
-
 /// Reads events from the bytes that a terminal sends, however they are cut.
 ///
 /// Contracts see a parser as the text that waits: what it has taken and not turned into events.
 #[derive(Debug, Drop)]
 pub struct InputParser {
     // The parsers that were made from this one share it, and it is freed with the last of them.
-    key_map: Arc<KeyMap<KeyEvent>, Global>,
+    table: Arc<SequenceTable, Global>,
     buffer: ReadBuffer,
     // END begins nowhere in the buffer before this offset: a search of an open paste needn't start before it.
     searched: usize,
@@ -88,12 +77,10 @@ impl Model for InputParser {
     ghost Value = { List ℕ };
 
     ghost use Rattle.termwiz_input.specs.PasteSearch.{NoEndBefore};
-    ghost use Rattle.termwiz_grammar.specs.Table.{table};
-    ghost use Rattle.std.specs.Arc.{arc_value};
 
     ghost view = { λ p. p.buffer };
 
-    ghost invariant = { λ p. (arc_value p.key_map ≡ table) × NoEndBefore p.buffer p.searched };
+    ghost invariant = { λ p. NoEndBefore p.buffer p.searched };
 }
 
 impl InputParser {
@@ -103,21 +90,21 @@ impl InputParser {
     /// A parser whose key map is exactly the sequence table, and whose buffer is empty.
     ///
     /// The clause `exactly` says which rows the table has. That the parser's key map is this table, now and in every later state, is the
-    /// invariant of the type: [`InputParser::lookup`] answers from it, and every event is one that the table means.
+    /// invariant of the table's type: [`InputParser::lookup`] answers from it, and every event is one that the table means.
     pub fn new(alloc: Global) -> Result<InputParser, AllocError>
         ensures empty { IfOk result (λ parser. parser ≡ []) }
         ensures exactly { (text : List ℕ) (key : KeyEvent) → (map.get table text ≡ Some key) ↔ Contains rows (text, key) }
     {
-        Ok(InputParser::over(alloc, new_table(alloc)?))
+        let table = Arc::new(alloc, SequenceTable::new(alloc)?)?;
+        Ok(InputParser::over(alloc, table))
     }
 
     // A parser over this table, whose buffer is empty.
-    fn over(alloc: Global, key_map: Arc<KeyMap<KeyEvent>, Global>) -> InputParser
-        requires { arc_value key_map ≡ table }
+    fn over(alloc: Global, table: Arc<SequenceTable, Global>) -> InputParser
         ensures { result ≡ [] }
     {
         InputParser {
-            key_map,
+            table,
             buffer: ReadBuffer::new(alloc),
             searched: 0,
             alloc,
@@ -132,8 +119,8 @@ impl InputParser {
     pub fn sharing(&self) -> Result<InputParser, AllocError>
         ensures { IfOk result (λ parser. parser ≡ []) }
     {
-        let key_map = Arc::try_clone(&self.key_map)?;
-        Ok(InputParser::over(self.alloc, key_map))
+        let table = Arc::try_clone(&self.table)?;
+        Ok(InputParser::over(self.alloc, table))
     }
 
     /// Looks bytes up in the sequence table, as the parser does: finds the longest row that is a prefix of them. Nothing is buffered.
@@ -142,7 +129,7 @@ impl InputParser {
     pub fn lookup(&self, bytes: &[u8], maybe_more: bool) -> Found<&KeyEvent>
         ensures { LookupGives table bytes.now maybe_more (found_copied result) }
     {
-        self.key_map.lookup(bytes, maybe_more)
+        self.table.key_map().lookup(bytes, maybe_more)
     }
 
     /// The row of the sequence table at a place: the bytes of a sequence, and its key. Rows are in the order of their bytes; the first
@@ -154,7 +141,25 @@ impl InputParser {
         ensures row { IfSome result (λ row. IsRowAt place row.0.now row.1.now) }
         ensures none { IfNone result (map.len table ≤ place) }
     {
-        self.key_map.get_index(place)
+        self.table.key_map().get_index(place)
+    }
+
+    /// The place of the first row that has this key, or the number of rows if none has it. [`InputParser::row`] returns the row.
+    ///
+    /// Rows are found by their keys through places that are kept beside the table. So few rows of other keys are looked at, and no memory
+    /// is taken.
+    pub fn first_place(&self, key: &KeyEvent) -> usize
+        ensures { IsNextPlaceOf key.now 0 result }
+    {
+        self.table.first_place(key)
+    }
+
+    /// The place of the next row that has the key of the row at this place, or the number of rows if there is none. If no row is at this
+    /// place, nothing is said of the answer.
+    pub fn next_place(&self, place: usize) -> usize
+        ensures { (bytes : List ℕ) (key : KeyEvent) → IsRowAt place bytes key → IsNextPlaceOf key (place + 1) result }
+    {
+        self.table.next_place(place)
     }
 
     /// The rows of the sequence table that would complete what is buffered: those that begin with it and are longer. If there are none,
@@ -168,7 +173,7 @@ impl InputParser {
     pub fn completions(&self) -> Completions
         ensures { AreCompletions self.now result.with_alt result.rows.start result.rows.end }
     {
-        completions_of(&self.key_map, self.buffer.as_slice())
+        completions_of(self.table.key_map(), self.buffer.as_slice())
     }
 
     /// The number of buffered bytes.
@@ -211,7 +216,7 @@ impl InputParser {
         ensures { IsFront self.now maybe_more result }
     {
         let text = self.buffer.as_slice();
-        front(&self.key_map, text, self.searched, most, maybe_more)
+        front(self.table.key_map(), text, self.searched, most, maybe_more)
     }
 
     /// Whether an item is at the front of the buffer: whether [`InputParser::next_event`] emits an event, if memory is granted.

@@ -12,6 +12,7 @@ pub mod laws;
 mod mouse_report;
 mod paste;
 mod printable_ascii;
+mod sequence_table;
 pub mod time;
 mod waiting;
 

@@ -148,22 +148,6 @@ fn reads_key(
     reads(parser, reading, bytes, false, &event)
 }
 
-// Whether the row of a key is one of this key, and is read as it.
-fn is_row_of(
-    parser: &mut ExtendedParser,
-    reading: Reading,
-    row: &[u8],
-    own: &KeyEvent,
-    key: &KeyEvent,
-) -> Result<bool, AllocError>
-    ensures { IfOk result (λ is. IsTrue is ↔ ((own.now ≡ key.now) × IsReadAsKey reading key.now row.now)) }
-{
-    if !is_key(own, key) {
-        return Ok(false);
-    }
-    reads_key(parser, reading, row, key)
-}
-
 // The first row of a key that is read as it.
 fn first_row<'r>(
     rows: &'r InputParser,
@@ -174,12 +158,12 @@ fn first_row<'r>(
     ensures row { IfOk result (λ row. IfSome row (λ row. IsFirstRowOf reading key.now row.now)) }
     ensures none { IfOk result (λ row. IfNone row (¬ HasRow reading key.now)) }
 {
-    let mut place = 0;
-    while let Some((row, own)) = rows.row(place) {
-        if is_row_of(parser, reading, row, own, key)? {
+    let mut place = rows.first_place(key);
+    while let Some((row, _)) = rows.row(place) {
+        if reads_key(parser, reading, row, key)? {
             return Ok(Some(row));
         }
-        place += 1;
+        place = rows.next_place(place);
     }
     Ok(None)
 }

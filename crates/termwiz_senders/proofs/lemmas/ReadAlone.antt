@@ -1,11 +1,12 @@
 -- What is read of a text that is one event alone.
-use Rattle.std.proofs.Common.{◌≡◌, ◌↔◌, ℕ, suc, ◌-◌, ◌<◌, ◌≤◌, Bool, true, false, List, [], ◌∷◌, ◌++◌, length, take, drop, refl, sym, ap, ◌∙◌, subst, IsTrue, append-nil, Option, Some, None, Ok, Err, IfOk, IfSome, IfNone, ◌+◌, ◌⊎◌, ⊎_elim, arith, nat_lt, encode_utf8, Fits, w64}
+use Rattle.std.proofs.Common.{◌≡◌, ◌↔◌, ℕ, suc, ◌-◌, ◌<◌, ◌≤◌, Bool, true, false, List, [], ◌∷◌, ◌++◌, length, take, drop, refl, sym, ap, ◌∙◌, subst, IsTrue, append-nil, Option, Some, None, Ok, Err, IfOk, IfSome, IfNone, ◌+◌, ◌⊎◌, ⊎_elim, arith, nat_lt, encode_utf8}
 use Rattle.std.specs.Prelude.{Result, ◌==◌}
 use Rattle.std.proofs.lemmas.Bool.Decides.{nat_tests}
 use Rattle.std.proofs.lemmas.List.{append_cancel_left}
 use Rattle.memchr.specs.Find.{FindsNeedle}
 use Rattle.termwiz_keymap.specs.Bytes.{Occurs}
 use Rattle.termwiz_keys.specs.Introducers.{ESC, CSI, START, END}
+use Rattle.termwiz_input.specs.KeyPlaces.{IsNextPlaceOf}
 use Rattle.termwiz_input.proofs.lemmas.pastes.EndSearch.{endless, paste_to}
 use Rattle.termwiz_extended_events.specs.declared.types.ExtendedEvent.{ExtendedEvent}
 use Rattle.termwiz_extended_events.specs.declared.types.ExtendedEvent.TheVariants.{Input, Key, FocusGained, FocusLost, CursorPosition, Resize, KeyboardFlags, SideButton, Csi, Osc, Dcs, Apc, StringPart, StringCut}
@@ -32,7 +33,6 @@ use Rattle.termwiz_keys.specs.declared.types.KeyEvent.{KeyEvent}
 use Rattle.termwiz_keys.specs.declared.encode.KeyCodeEncodeModes.{KeyCodeEncodeModes}
 use Rattle.std.specs.FinMap as map
 use Rattle.termwiz_grammar.specs.Table.{table}
-use Rattle.termwiz_grammar.specs.Laws.{row_count}
 use Rattle.termwiz_input_extended.specs.Buffered.{Buffered}
 use Rattle.termwiz_grammar.specs.RowsInOrder.{IsRowAt}
 use Rattle.termwiz_grammar.proofs.lemmas.table.TableAsMap.{rows_in_order}
@@ -140,30 +140,43 @@ not_true true f is = cc (f)
 abbrev pub NoneBefore : Reading → KeyEvent → ℕ → Type 0
 NoneBefore reading key place = (before : ℕ) (other : List ℕ) → before < place → IsRowAt before other key → ¬ IsReadAsKey reading key other
 
-pub none_further : (reading : Reading) (key own : KeyEvent) (place : ℕ) (bytes : List ℕ) → NoneBefore reading key place → IsRowAt place bytes own
-    → ¬ ((own ≡ key) × IsReadAsKey reading key bytes) → NoneBefore reading key (place + 1)
-none_further reading key own place bytes none here not before other below at read = ⊎_elim
-    (λ (earlier : before < place). none before other earlier at read)
-    (λ (same : before ≡ place).
-    let one = row_once_at place bytes other own key here (subst (λ p. IsRowAt p other key) same at) in
-    not (one.1, subst (IsReadAsKey reading key) (sym one.0) read))
+-- between a row of the key and the next one there is none
+pub none_between : (reading : Reading) (key : KeyEvent) (from place : ℕ) → NoneBefore reading key from → IsNextPlaceOf key from place
+    → NoneBefore reading key place
+none_between reading key from place none next before other below at = ⊎_elim
+    (λ (earlier : before < from). none before other earlier at)
+    (λ (later : from ≤ before). absurd (next.none before other later below at))
+    (before_or_from from before)
+  where
+    before_or_from : (a b : ℕ) → (b < a) ⊎ (a ≤ b)
+    before_or_from a b = grind arith
+
+pub none_first : (reading : Reading) (key : KeyEvent) (place : ℕ) → IsNextPlaceOf key 0 place → NoneBefore reading key place
+none_first reading key place next =
+    none_between reading key 0 place (λ before other below at. absurd (omega (arith, below))) next
+
+pub none_further : (reading : Reading) (key : KeyEvent) (place : ℕ) (bytes : List ℕ) → NoneBefore reading key place → IsRowAt place bytes key
+    → ¬ IsReadAsKey reading key bytes → NoneBefore reading key (place + 1)
+none_further reading key place bytes none here not before other below at = ⊎_elim
+    (λ (earlier : before < place). none before other earlier at)
+    (λ (same : before ≡ place) read.
+    let one = row_once_at place bytes other key key here (subst (λ p. IsRowAt p other key) same at) in
+    not (subst (IsReadAsKey reading key) (sym one.0) read))
     (below_or_same before place below)
   where
     below_or_same : (a b : ℕ) → a < b + 1 → (a < b) ⊎ (a ≡ b)
     below_or_same a b h = grind (arith, h)
+
+-- the row at a place of the key
+pub row_of_key : (key own : KeyEvent) (place : ℕ) (bytes : List ℕ) → ((bytes : List ℕ) (other : KeyEvent) → IsRowAt place bytes other → other ≡ key)
+    → IsRowAt place bytes own → IsRowAt place bytes key
+row_of_key key own place bytes only here = subst (IsRowAt place bytes) (only bytes own here) here
 
 pub none_at_all : (reading : Reading) (key : KeyEvent) (place : ℕ) → NoneBefore reading key place → map.len table ≤ place
     → ¬ HasRow reading key
 none_at_all reading key place none all (bytes, is) =
     let at = (rows_in_order.exactly bytes key).0 is.row in
     none at.0 bytes (omega (arith, all, at.1.inside)) at.1 is.read
-
--- the place after a row's
-pub place_fits : (place : ℕ) → place < map.len table → Fits w64 (place + 1)
-place_fits place inside = let few : place < row_count = subst (λ n. place < n) rows_in_order.counted inside in grind (arith, few)
-
-pub next_inside : (n place : ℕ) → place < n → place + 1 ≤ n
-next_inside n place inside = omega (arith, inside)
 
 row_of_first : (reading : Reading) (key : KeyEvent) (bytes : List ℕ) → IsFirstRowOf reading key bytes → HasRow reading key
 row_of_first reading key bytes is =
