@@ -1453,7 +1453,8 @@ static void refuses_events(hed_extended *parser) {
   refuses_event(parser, (hed_extended_event){ .kind = HED_KIND_PASTE }, TEXT("a" END), HED_PROTOCOL_LEGACY, HED_ENCODED_NO_TEXT);
   refuses_event(parser, (hed_extended_event){ .kind = HED_KIND_CSI }, TEXT("I"), HED_PROTOCOL_LEGACY, HED_ENCODED_NO_TEXT);
   refuses_event(parser, (hed_extended_event){ .kind = HED_KIND_OSC }, TEXT("ab"), HED_PROTOCOL_LEGACY, HED_ENCODED_NO_TEXT);
-  refuses_event(parser, (hed_extended_event){ .kind = HED_KIND_OSC }, long_text, sizeof long_text, HED_PROTOCOL_LEGACY, HED_ENCODED_TOO_LONG);
+  refuses_event(parser, (hed_extended_event){ .kind = HED_KIND_OSC }, long_text, sizeof long_text, HED_PROTOCOL_LEGACY,
+                HED_ENCODED_TOO_LONG);
   refuses_event(parser, (hed_extended_event){ .kind = HED_KIND_CSI }, long_text, 300, HED_PROTOCOL_LEGACY, HED_ENCODED_TOO_LONG);
   refuses_event(parser, (hed_extended_event){ .kind = HED_KIND_PASTE }, TEXT("\377"), HED_PROTOCOL_LEGACY, HED_ENCODED_BAD_TEXT);
   report.report.key = KEYS + 1;

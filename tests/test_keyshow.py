@@ -55,7 +55,9 @@ WRITES = [(1, [A, B, b"", b"", UP, C]), (2, [A + B, b"", UP + C]), (4096, [A + B
 RIGHT = [(64,), (1, "1"), (2, "2"), (64, "64"), (64, "0064"), (4096, "4096"), (1, "0001"), (9, "9")]
 WRONG = [[it] for it in "0 0000 4097 9999 00001 +5 -5 0x5 x 6x foo 5foo \u0664".split()]
 WRONG += [[" 5"], [""], [b"\xff"], [b"5\xff"], ["5", b"\xff"], [b"\xff", "5"], ["", "5"], ["5", ""]]
-WRONG += [it.split() for it in ("1 2", "5 foo", "foo 5", "x 2 3", "5 5", "5 5 5", "--help", "--help 5")]
+WRONG += [
+    it.split() for it in ("1 2", "5 foo", "foo 5", "x 2 3", "5 5", "5 5 5", "--help", "--help 5")
+]
 
 
 def run(words, source, target=subprocess.PIPE, **others):

@@ -38,8 +38,7 @@ static double nanoseconds(const hed_extended *parser, const hed_extended_event *
   uint8_t out[TEXT_MOST];
   size_t len;
   double start = now();
-  for (int i = 0; i < TIMES; i++)
-    want(hed_encode_event(event, text, event->text_len, parser, out, sizeof out, &len) == HED_ENCODED_TEXT);
+  for (int i = 0; i < TIMES; i++) want(hed_encode_event(event, text, event->text_len, parser, out, sizeof out, &len) == HED_ENCODED_TEXT);
   return (now() - start) / TIMES;
 }
 
