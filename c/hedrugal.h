@@ -768,7 +768,7 @@ bool hed_extended_feed(hed_extended *parser, const uint8_t *bytes, size_t len);
  * A string is one event if it has its end and less than 65535 bytes before that. Of a longer one come some HED_KIND_STRING_PART first, and
  * then an event with the rest. The bytes of each begin with those of the string's opening, such as 52; after ESC ]: a program that joins
  * them leaves these out of all but the first. If a flush cuts a string off, or ESC without a \ after it, then its last event is a
- * HED_KIND_STRING_CUT. No byte of a string becomes a key.
+ * HED_KIND_STRING_CUT. No byte of a string that comes before a flush becomes a key.
  *
  * Returns an enum hed_next. *event is written only with HED_NEXT_EVENT. HED_NEXT_NO_MEMORY comes only if a paste, an extra sequence or a
  * string is at the front. Then nothing changed. */

@@ -223,7 +223,7 @@ impl Terminal {
         })
     }
 
-    // Asks these questions, and last one that is always answered. Returns its number.
+    // Asks these questions, and last the one that nearly every terminal answers. Returns its number.
     fn ask_attributes(
         &mut self,
         questions: &str,
