@@ -295,7 +295,7 @@ def test_first_sight(page):
 
 # Bytes, and what is said below each of their events.
 WRITTEN = {
-    "table": ("\\e[1;5Aq\\eOA", ["as it is", "as ESC [ 1 1 3 ; 1 u", "as it is"]),
+    "table": ("\\e[1;5Aq\\e[113;5u", ["as it is", "as it is", "as ^Q"]),
     "extended": (
         "\\e[24;80R\\e]11;#fff^G\\e[I\\e[200~ab\\e[201~",
         ["as ESC [ ? 2 4 ; 8 0 R", "as ESC ] 1 1 ; # f f f ESC \\", "as it is", "as it is"],

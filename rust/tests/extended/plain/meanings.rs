@@ -223,7 +223,7 @@ fn key_event(t: &[u8]) -> Option<ExtendedEvent> {
     report.map(ExtendedEvent::Key)
 }
 
-// The lines of cursor positions.
+// The lines of cursor positions. The first row and column are 1.
 fn cursor_position(t: &[u8]) -> Option<ExtendedEvent> {
     let body = t.strip_suffix(b"R")?;
     let is_marked = body.starts_with(b"?");
@@ -231,8 +231,8 @@ fn cursor_position(t: &[u8]) -> Option<ExtendedEvent> {
         .strip_prefix(b"?")
         .unwrap_or(body)
         .split(|byte| *byte == b';');
-    let row = short_number(fields.next()?)?;
-    let column = short_number(fields.next()?)?;
+    let row = short_number(fields.next()?).filter(|it| *it > 0)?;
+    let column = short_number(fields.next()?).filter(|it| *it > 0)?;
     if let Some(page) = fields.next() {
         if !is_marked {
             return None;
