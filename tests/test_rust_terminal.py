@@ -573,14 +573,16 @@ def test_typed_ahead(start_below_shell):
 @pytest.mark.parametrize("late", [b"", b"\033[<35;1;1M"], ids=["", "a mouse report"])
 @pytest.mark.parametrize("word", ["plain", ""], ids=["plain", "mouse"])
 def test_reply_that_is_owed_at_the_end(start_below_shell, word, late):
-    """It is read, and so is what comes before it. What comes behind is left for the shell. The
-    first reply tells how slow the line is."""
+    """It is read, and so is what comes before it. What comes behind is left for the shell, and comes
+    with the last byte of the reply, while the terminal is raw. The first reply tells how slow the
+    line is."""
     cases = start_below_shell(word)
     cases.play([b"T", "\033[6n\033[c", 0.4, b"\033[1;1R" + ATTRIBUTES, "is_whole: true"])
     cases.play([b"t", "\033[6n\033[c", "is_whole: false", b"q", "\033[?2004l", 0.4])
     assert cases.is_raw()
-    for byte in b"y" + late + b"\033[1;5R" + ATTRIBUTES + b"ls\r":
+    for byte in b"y" + late + b"\033[1;5R" + ATTRIBUTES[:-1]:
         cases.send(bytes([byte]))
+    cases.send(ATTRIBUTES[-1:] + b"ls\r")
     cases.check_left(b"ls\r")
 
 
