@@ -18,6 +18,8 @@ SECONDS = 60
 # Longer than the 100 ms after which ESC and a byte are a key with Alt, and shorter than the second
 # after which a longer prefix is flushed; and longer than both.
 PAUSE, LONG_PAUSE = 0.2, 1.3
+# The time of a reply over a line that takes 400 ms each way.
+SLOW_LINE = 0.8
 START, END = b"\033[200~", b"\033[201~"
 ENDING_SIGNALS = [signal.SIGHUP, signal.SIGINT, signal.SIGQUIT, signal.SIGTERM]
 IFLAG, LFLAG, CC = 0, 3, 6

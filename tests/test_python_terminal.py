@@ -15,7 +15,7 @@ import time
 
 import pytest
 from pexpect import TIMEOUT
-from terminal import END, ENDING_SIGNALS, LONG_PAUSE, START, Terminal
+from terminal import END, ENDING_SIGNALS, LONG_PAUSE, SLOW_LINE, START, Terminal
 
 PROGRAM = """
 import asyncio, errno, fcntl, os, signal, subprocess, sys, threading, time
@@ -634,9 +634,9 @@ with Terminal(kitty=flags, mouse=mouse) as terminal:
     {end}
 """
     )
-    program.play(["\033[c", 0.4, b"\033[?1u\033[?62c\033[?62c", "62c"])
-    program.play(["\033[6n\033[c", "\033[6n\033[c", "\033[?2004l", 0.4, b"a\033[<35;3;4M"])
-    program.play([CURSOR, 0.1, CURSOR + b"ls\r"])
+    program.play(["\033[c", SLOW_LINE, b"\033[?1u\033[?62c\033[?62c", "62c"])
+    program.play(["\033[6n\033[c", "\033[6n\033[c", "\033[?2004l", SLOW_LINE - 0.1])
+    program.play([b"a\033[<35;3;4M" + CURSOR, 0.1, CURSOR + b"ls\r"])
     assert left_for_shell(program, status) == r"b'ls\r.'"
 
 

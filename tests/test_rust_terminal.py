@@ -10,7 +10,16 @@ import time
 
 import pytest
 from conftest import TOP
-from terminal import END, ENDING_SIGNALS, LONG_PAUSE, PAUSE, START, TIOCGPTPEER, Terminal
+from terminal import (
+    END,
+    ENDING_SIGNALS,
+    LONG_PAUSE,
+    PAUSE,
+    SLOW_LINE,
+    START,
+    TIOCGPTPEER,
+    Terminal,
+)
 from test_live import SIZE, Live
 
 MODES = {1003, 1004, 1006, 1049, 2004}
@@ -577,8 +586,9 @@ def test_reply_that_is_owed_at_the_end(start_below_shell, word, late):
     with the last byte of the reply, while the terminal is raw. The first reply tells how slow the
     line is."""
     cases = start_below_shell(word)
-    cases.play([b"T", "\033[6n\033[c", 0.4, b"\033[1;1R" + ATTRIBUTES, "is_whole: true"])
-    cases.play([b"t", "\033[6n\033[c", "is_whole: false", b"q", "\033[?2004l", 0.4])
+    cases.play([b"T", "\033[6n\033[c", SLOW_LINE, b"\033[1;1R" + ATTRIBUTES, "is_whole: true"])
+    cases.play([b"t", "\033[6n\033[c", "is_whole: false", b"q"])
+    cases.play(["\033[?2004l", SLOW_LINE])
     assert cases.is_raw()
     for byte in b"y" + late + b"\033[1;5R" + ATTRIBUTES[:-1]:
         cases.send(bytes([byte]))

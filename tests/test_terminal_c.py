@@ -15,7 +15,7 @@ from pathlib import Path
 import pytest
 from conftest import TOP, run_without_terminal
 from pexpect import EOF
-from terminal import END, LONG_PAUSE, PAUSE, START, TIOCGPTPEER, Terminal
+from terminal import END, LONG_PAUSE, PAUSE, SLOW_LINE, START, TIOCGPTPEER, Terminal
 
 MODES, MOUSE_MODES = {1049, 2004}, {1003, 1006}
 ATTRIBUTES, BACKGROUND = b"\033[?62;22c", b"\033]11;rgb:1e1e/1e1e/1e1e\007"
@@ -530,9 +530,9 @@ def test_mouse_reports_under_way(start):
     assert it.what_is_left(terminal, 0) == b"ls\r"
 
 
-# How many milliseconds the terminal takes for each reply.
+# How many seconds the terminal takes for each reply.
 @pytest.mark.timed
-@pytest.mark.parametrize("takes", [[0.08], [0.4, 0.5], [0.5, 0.05, 0.6]])
+@pytest.mark.parametrize("takes", [[0.08], [SLOW_LINE, SLOW_LINE], [0.5, 0.05, 0.6]])
 def test_replies_that_are_owed_at_the_end(start, takes):
     """They are read, as long as the slowest one lets expect, and nothing behind them."""
     it = start()
