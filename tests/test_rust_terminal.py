@@ -582,7 +582,7 @@ def test_typed_ahead(start_below_shell):
 @pytest.mark.parametrize("late", [b"", b"\033[<35;1;1M"], ids=["", "a mouse report"])
 @pytest.mark.parametrize("word", ["plain", ""], ids=["plain", "mouse"])
 def test_reply_that_is_owed_at_the_end(start_below_shell, word, late):
-    """It is read, and so is what comes before it. What comes behind is left for the shell, and comes
+    """It is read, and so is what comes before it. What comes behind is left for the shell. It comes
     with the last byte of the reply, while the terminal is raw. The first reply tells how slow the
     line is."""
     cases = start_below_shell(word)
