@@ -364,20 +364,16 @@ def test_key_that_is_due_after_a_stop(start):
 
 
 @pytest.mark.timed
-def test_wake_without_a_signal(start):
-    """The same where something else wakes the loop."""
+@pytest.mark.parametrize(
+    "word, said",
+    [("k", "waits: 0\r\n"), ("j", "stands still\r\n")],
+    ids=["a wake without a signal", "a pause that was long enough"],
+)
+def test_bytes_that_come_before_it_looks(start, word, said):
+    """It reads them before it flushes anything."""
     it = start()
     for _ in range(2):
-        it.play([b"k\033", key("k"), "waits: 0\r\n", b"[A", "key 31, 0\r\n"])
-    it.quit()
-
-
-@pytest.mark.timed
-def test_bytes_that_come_after_a_pause(start):
-    """It sees them before it flushes, although the pause was long enough."""
-    it = start()
-    for _ in range(2):
-        it.play([b"j\033", key("j"), "stands still\r\n", b"[A", "key 31, 0\r\n"])
+        it.play([word.encode() + b"\033", key(word), said, b"[A", "key 31, 0\r\n"])
     it.quit()
 
 
