@@ -3,19 +3,21 @@ from pathlib import Path
 from typing import NamedTuple
 
 FOLDER = Path(__file__).resolve().parent / "terminals"
-KEY_MODES = "default decckm deckpam decckm+deckpam mok1 mok2 kitty1 kitty3 kitty31".split()
-COLUMNS = ("kind", "modes", "bytes", "what", "also", "details", "why", "count")
+KEY_MODES = "default decckm deckpam decckm+deckpam mok1 mok2 kitty1 kitty3 kitty5 kitty31".split()
+COLUMNS = "kind layout modes bytes what also details why count everyday".split()
 
 
 class Line(NamedTuple):
     kind: str
+    layout: str
     modes: str
     bytes: bytes
     what: str
     also: str
     details: str
     why: str
-    count: str
+    count: int
+    everyday: int
 
     @property
     def right(self):
@@ -38,9 +40,10 @@ def data_files():
 def load(path):
     """The first line of a file, which names the terminal's version, and its lines."""
     head, columns, *lines = path.read_text().splitlines()
-    assert tuple(columns.split("\t")) == COLUMNS, path
+    assert columns.split("\t") == COLUMNS, path
     found = []
     for text in lines:
-        kind, modes, digits, *rest = text.split("\t")
-        found.append(Line(kind, modes, bytes.fromhex(digits), *rest))
+        kind, layout, modes, digits, *rest, count, everyday = text.split("\t")
+        numbers = int(count), int(everyday)
+        found.append(Line(kind, layout, modes, bytes.fromhex(digits), *rest, *numbers))
     return head + "\n", found

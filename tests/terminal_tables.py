@@ -2,14 +2,19 @@
 import re
 from pathlib import Path
 
-from terminal_data import FOLDER, KEY_MODES, data_files, load
+from terminal_data import FOLDER, KEY_MODES, data_files, is_kitty, load
 
 DOCUMENT = Path(__file__).resolve().parent.parent / "docs/TERMINALS.md"
 TITLES = {
+    "gnome-terminal": "gnome-terminal (VTE)",
+    "putty": "PuTTY",
     "screen-xterm": "screen in xterm",
     "tmux-xterm": "tmux in xterm",
+    "vim-terminal": "Vim's terminal",
     "xfce4-terminal": "xfce4-terminal (VTE)",
+    "xtermjs5": "xterm.js 5",
 }
+LAYOUTS = {"de": "German", "ru": "Russian", "us_intl": "US international"}
 END = b"\x1b[201~"
 
 # What is pressed, and the press from which it is to be told apart.
@@ -19,16 +24,14 @@ PAIRS = """shift+enter enter | ctrl+enter enter | ctrl+m enter | ctrl+tab tab | 
     ctrl+f5 f5 | f13 shift+f1 | KP_Enter enter | KP_7 7 | KP_Home home"""
 PAIRS = [tuple(it.split()) for it in re.split(r" \| |\n", PAIRS)]
 
-# Why a press isn't read: the beginnings of the column `why`.
+# Why a press isn't read exactly: the beginnings of the column `why`. Those with a text in it have a
+# row for each.
 REASONS = {
-    "listed: foot": "foot's keypad with modifiers, as numbers of X11",
-    "listed: Konsole": "Super in Konsole and QTerminal, as Ctrl-X, `@`, `s` and the key",
-    "listed: st": "st's Insert, Delete, End and Home, where keypad mode or DECCKM is off",
-    "listed: VTE": "the keypad's Delete with modifiers in VTE in keypad mode",
-    "row: ": "the sequence table says otherwise: Super as ESC `[1;9A`",
-    "other: ": "another terminal, or another mode, sends the same for what is read",
-    "reply: ": "F3 with modifiers under Kitty's protocol is the cursor's position",
-    "focus: ": "QTerminal's keypad 5 in keypad mode begins as a focus report",
+    "garbled": "garbled",
+    "unique": "sent by nobody else",
+    "meta": "8-bit Meta: Alt and a key as one character from U+0080 to U+00FF",
+    "same": "told as the same bytes: most terminals mean by them what is read",
+    "open": "none: the parser could read it",
 }
 
 QUESTIONS = {
@@ -63,8 +66,14 @@ def load_all():
     return found
 
 
-def title(terminal):
-    return TITLES.get(terminal, terminal)
+def set_up(terminal, line):
+    """A terminal with a layout, if it isn't that of the United States."""
+    return f"{terminal} {line.layout}".strip()
+
+
+def title(name):
+    terminal, _, layout = name.partition(" ")
+    return TITLES.get(terminal, terminal) + (f", {LAYOUTS[layout]}" if layout else "")
 
 
 def row(*cells):
@@ -80,55 +89,70 @@ def percent(good, all_):
 
 
 def peers():
-    """Of each terminal and mode how many presses there were when other parsers were measured, and
-    how many each read exactly."""
+    """The names of other parsers. Of each terminal with its layout and mode how many presses there
+    were when they were measured, how many this library has to read exactly at least, and how many
+    each of them read."""
     lines = (FOLDER / "peers.txt").read_text().splitlines()
     rows = [it.split("\t") for it in lines if not it.startswith("#")]
-    return rows[0][3:], {tuple(it[:2]): list(map(int, it[2:])) for it in rows[1:]}
+    found = {(f"{it[0]} {it[1]}".strip(), it[2]): list(map(int, it[3:])) for it in rows[1:]}
+    return rows[0][5:], found
 
 
-def exact(files, judged):
-    """`judged` has of each terminal, mode and reader how many presses were read exactly, and how
-    many there are. Modes with the same numbers are one row."""
+def exact(judged):
+    """`judged` has the counts of each terminal and mode. Modes with the same numbers are one
+    row."""
     names, others = peers()
     found = {}
-    for terminal in files:
-        for mode in KEY_MODES:
-            if (terminal, mode, "port") not in judged:
-                continue
-            counts = [judged[terminal, mode, it] for it in ("port", "extended")]
-            all_ = counts[0][1]
-            measured, *goods = others.get((terminal, mode), [None])
-            # Those that were measured on other presses are left out.
-            goods = goods if measured == all_ else [None] * len(names)
-            cells = [percent(*it) for it in counts]
-            cells += ["" if it is None else percent(it, all_) for it in goods]
-            found.setdefault((terminal, str(all_), *cells), []).append(mode)
-    rows = (
-        [title(terminal), ", ".join(modes), *cells] for (terminal, *cells), modes in found.items()
-    )
-    return table(("Terminal", "Modes", "Presses", "InputParser", "ExtendedParser", *names), rows)
+    for name, mode in sorted(judged, key=lambda it: (it[0], KEY_MODES.index(it[1]))):
+        counts = judged[name, mode]
+        measured, _, *goods = others.get((name, mode), [None, None])
+        # Those that were measured on other presses are left out.
+        goods = goods if measured == counts["presses"] else [None] * len(names)
+        goods = [counts[it] for it in ("port", "extended", "reason")] + goods
+        cells = ["" if it is None else percent(it, counts["presses"]) for it in goods]
+        found.setdefault((name, str(counts["presses"]), *cells), []).append(mode)
+    rows = ([title(name), ", ".join(modes), *cells] for (name, *cells), modes in found.items())
+    head = ("Terminal", "Modes", "Presses", "InputParser", "ExtendedParser", "Reason", *names)
+    return table(head, rows)
+
+
+def everyday(judged):
+    """The figures of all terminals."""
+    rows = []
+    for name, start in (("all", ""), ("everyday", "everyday ")):
+        presses, good, reason = (
+            sum(it[start + kind] for it in judged.values())
+            for kind in ("presses", "extended", "reason")
+        )
+        shares = f"{100 * good / presses:.1f}", f"{100 * good / (presses - reason):.1f}"
+        rows.append([name, *map(str, (presses, good, reason)), *shares])
+    head = ("", "Presses", "Exact", "With a reason", "Percent exact", "of those without a reason")
+    return table(head, rows)
 
 
 def reasons(files):
-    """Of each reason how many byte strings it has, and in which terminals."""
-    found = {it: (set(), []) for it in REASONS}
+    """Of each reason how many byte strings it has, how many presses, and in which terminals."""
+    found = {it: {} for it in REASONS}
     for terminal, (_, lines) in files.items():
         for line in lines:
             if line.kind == "press" and line.why:
-                strings, terminals = found[next(it for it in REASONS if line.why.startswith(it))]
-                strings.add(line.bytes)
-                terminals += [title(terminal)] * (title(terminal) not in terminals)
+                kind, _, text = line.why.partition(": ")
+                text = text if kind in ("garbled", "unique") else ""
+                of = found[kind].setdefault(text, [set(), 0, []])
+                of[0].add(line.bytes)
+                of[1] += line.count * len(line.modes.split(","))
+                of[2] += [title(terminal)] * (title(terminal) not in of[2])
     rows = (
         (
-            REASONS[it],
+            REASONS[kind] + (text and f": {text}"),
             str(len(strings)),
+            str(count),
             ", ".join(terminals) if len(terminals) < 5 else f"{len(terminals)} of {len(files)}",
         )
-        for it, (strings, terminals) in found.items()
-        if strings
+        for kind, texts in found.items()
+        for text, (strings, count, terminals) in sorted(texts.items())
     )
-    return table(("What isn't read exactly, and why", "Byte strings", "Terminals"), rows)
+    return table(("What isn't read exactly, and why", "Byte strings", "Presses", "Terminals"), rows)
 
 
 def is_told(lines, mode, pressed, other):
@@ -138,7 +162,7 @@ def is_told(lines, mode, pressed, other):
         return {
             it.bytes
             for it in lines
-            if it.kind == "press" and mode in it.modes.split(",")
+            if it.kind == "press" and not it.layout and mode in it.modes.split(",")
             if name in (it.details if name.startswith("KP_") else it.what).split()
         }
 
@@ -157,7 +181,7 @@ def apart(files):
         if told["deckpam"] or told["decckm+deckpam"]:
             names.append("keypad")
         names += [it for it in ("mok1", "mok2") if told[it]]
-        kitty = [it for it in ("kitty1", "kitty3", "kitty31") if told[it]]
+        kitty = [it for it in told if is_kitty(it) and told[it]]
         if kitty:
             names.append("kitty" if kitty[0] == "kitty1" else kitty[0])
         if told["default"] is None and not names:
@@ -217,7 +241,8 @@ def in_document(name, text):
 def tables(files, judged):
     """The tables by their names in the document."""
     return {
-        "exact": exact(files, judged),
+        "everyday": everyday(judged),
+        "exact": exact(judged),
         "reasons": reasons(files),
         "apart": apart(files),
         "pastes": pastes(files),

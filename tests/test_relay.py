@@ -211,7 +211,7 @@ def test_newline_mode(start):
 def recorded(name, mode, kind="press"):
     """The presses of a terminal in a mode, and the bytes that it sent for each."""
     _, lines = load(FOLDER / f"{name}.tsv")
-    told = [it for it in lines if it.kind == kind and mode in it.modes.split(",")]
+    told = [it for it in lines if it.kind == kind and mode in it.modes.split(",") and not it.layout]
     return {press: it.bytes for it in told for press in it.what.split()}
 
 

@@ -3,19 +3,23 @@
 
     tests/test_terminals.py --write    makes the tables of docs/TERMINALS.md anew
 
-Each press is read whole and byte by byte, with more to come; then what waits is flushed, if it is a
-lone ESC or ESC and one byte, as after a pause. It is read exactly if that gives one key, and its
-press is one of those that send these bytes. Modes of Kitty's flags are read by Kitty's protocol."""
+tests/terminal_judge.py says what is read exactly."""
 import collections
 import functools
+import itertools
 import re
 import sys
 
 import pytest
+from conftest import TOP
 from plain_reader import read as plain_read
 from presses import ALT, CAPS_LOCK, CTRL, NUM_LOCK, SHIFT, canonical, press
 from terminal_data import is_kitty
-from terminal_tables import DOCUMENT, in_document, load_all, peers, tables
+from terminal_judge import is_exact, read, reader_of, told
+from terminal_tables import DOCUMENT, in_document, load_all, peers, set_up, tables
+
+sys.path.append(str(TOP / "tools/terminals"))
+import collect  # noqa: E402
 
 FILES = load_all()
 TERMINALS = sorted(FILES)
@@ -26,48 +30,18 @@ BUTTONS = {
 }
 SIDE_BUTTONS = {"Back": 8, "Forward": 9}
 # urxvt reports these as a wheel, and VTE as the left button.
-WITHOUT_SIDE_BUTTONS = ("urxvt", "xfce4-terminal")
-
-
-@functools.cache
-def parsers():
-    """The parsers by name: the port's, and the extended one by several readings. `asked` is that
-    of a program that asked for the cursor's position."""
-    from hedrugal import ExtendedParser, InputParser, Protocol, Reading
-
-    readings = {
-        "legacy": Reading(Protocol.LEGACY),
-        "kitty": Reading(Protocol.KITTY),
-        "x10": Reading(Protocol.LEGACY, x10_mouse=True),
-        "asked": Reading(Protocol.LEGACY, questions=1),
-    }
-    extended = {name: (ExtendedParser(), reading) for name, reading in readings.items()}
-    return {"port": (InputParser(), None), **extended}
-
-
-def read_pieces(reader, pieces):
-    """The events of pieces, and how many bytes stay buffered after a pause."""
-    from hedrugal import Waiting
-
-    parser, reading = parsers()[reader]
-    if reading:
-        parser.reading = reading
-    events = [event for piece in pieces for event in parser.parse(piece)]
-    flushed = parser.flush_escape()
-    events += [flushed] if flushed is not None else []
-    if parser.waiting_len == 2 and parser.waiting is Waiting.SEQUENCE:
-        events += parser.flush()
-    rest = parser.waiting_len
-    parser.reset()
-    return events, rest
-
-
-@functools.cache
-def read(reader, data):
-    """The same of bytes, whole and byte by byte."""
-    found = read_pieces(reader, [data])
-    assert read_pieces(reader, [data[at : at + 1] for at in range(len(data))]) == found, data
-    return found
+WITHOUT_SIDE_BUTTONS = ("urxvt", "xfce4-terminal", "gnome-terminal")
+# dvtm tells some buttons as a release, and Vim doesn't add 32 to those of the mode 1015.
+WRONG_REPORTS = {"dvtm": rb"\x1b\[M.*", "vim-terminal": rb"\x1b\[\d.*"}
+# Modifiers of the mouse that a terminal doesn't report.
+UNTOLD = {"qterminal": ("Ctrl", "Alt"), "putty": ("Alt",), "vim-terminal": ("Ctrl", "Alt")}
+# Of everyday presses at least so many percent are read exactly: of all, and of those without a
+# reason.
+LEAST_OF_ALL, LEAST_WITHOUT_REASON = 92.5, 97.3
+# At most so many pairs of byte strings of a terminal in a mode share a press.
+MOST_PAIRS = 401
+# In at most so many modes of a terminal another parser reads more.
+MOST_FEWER = 8
 
 
 def plain_key(key):
@@ -100,18 +74,6 @@ def check_press(event, wanted):
     assert (found and (plain_key(found.key), found.held.value)) == wanted, event
 
 
-def is_exact(reader, line):
-    events, rest = read(reader, line.bytes)
-    if len(events) != 1 or rest:
-        return False
-    kind, name = plain_press(events[0]) or (None, None)
-    return kind == {"press": "key", "release": "release"}[line.kind] and name in line.right
-
-
-def reader_of(mode):
-    return "kitty" if is_kitty(mode) else "legacy"
-
-
 def keys_of(terminal):
     """The lines of a terminal's presses and releases, each with one mode."""
     for line in FILES[terminal][1]:
@@ -120,36 +82,77 @@ def keys_of(terminal):
                 yield line, mode
 
 
-@functools.cache
-def judged():
-    """How many presses of a terminal in a mode a reader reads exactly, and how many there are."""
-    found = collections.defaultdict(lambda: (0, 0))
+def presses():
+    """The lines of all presses, each with its terminal and one mode."""
     for terminal in TERMINALS:
         for line, mode in keys_of(terminal):
-            for name, reader in (("port", "port"), ("extended", reader_of(mode))):
-                if line.kind == "press":
-                    good, all_ = found[terminal, mode, name]
-                    count = int(line.count)
-                    good += count * is_exact(reader, line)
-                    found[terminal, mode, name] = (good, all_ + count)
-    return found
+            if line.kind == "press":
+                yield terminal, line, mode
+
+
+@functools.cache
+def judged():
+    """Of each terminal with its layout and mode how many presses there are, how many both parsers
+    read exactly, and how many have a reason; the same of everyday presses."""
+    found = collections.defaultdict(collections.Counter)
+    for terminal, line, mode in presses():
+        counts = found[set_up(terminal, line), mode]
+        facts = {"presses": True, "port": is_exact("port", line)}
+        facts |= {"extended": is_exact(reader_of(mode), line), "reason": has_reason(line)}
+        for name, holds in facts.items():
+            counts[name] += line.count * holds
+            counts["everyday " + name] += line.everyday * holds
+    return dict(found)
+
+
+def has_reason(line):
+    return bool(line.why) and not line.why.startswith("open: ")
+
+
+@functools.cache
+def with_reasons():
+    files = {terminal: lines for terminal, (_, lines) in FILES.items()}
+    collect.with_reasons(files)
+    return files
 
 
 @pytest.mark.parametrize("terminal", TERMINALS)
 def test_keys(terminal):
-    """What has no reason is read exactly, and what has one isn't: the reason would be stale."""
-    wrong = [
-        (line, mode, read(reader_of(mode), line.bytes))
-        for line, mode in keys_of(terminal)
-        if is_exact(reader_of(mode), line) == bool(line.why)
-    ]
-    assert not wrong, "\n".join(map(str, [len(wrong), *wrong[:20]]))
+    """The column `why` is empty where a press or a release is read exactly. Else it has the reason
+    that collect.py finds."""
+    assert with_reasons()[terminal] == FILES[terminal][1]
+
+
+def test_everyday_presses():
+    """Most everyday presses are read exactly, of all terminals with all layouts."""
+    counts = sum(judged().values(), collections.Counter())
+    all_, exact, reason = (counts[f"everyday {it}"] for it in ("presses", "extended", "reason"))
+    assert 100 * exact / all_ >= LEAST_OF_ALL
+    assert 100 * exact / (all_ - reason) >= LEAST_WITHOUT_REASON
+
+
+def test_pairs():
+    """Few pairs of different byte strings of a terminal in a mode share a press."""
+    strings = collections.defaultdict(set)
+    for terminal, line, mode in presses():
+        if line.everyday and not line.layout:
+            for name in told(reader_of(mode), line.bytes)[1]:
+                strings[terminal, mode, name].add(line.bytes)
+    pairs = {
+        (terminal, mode, pair)
+        for (terminal, mode, _), them in strings.items()
+        for pair in itertools.combinations(sorted(them), 2)
+    }
+    assert len(pairs) <= MOST_PAIRS
 
 
 @pytest.mark.parametrize("terminal", TERMINALS)
 def test_plain_reader(terminal):
-    """The plain reader reads the same keys, and finds as many events."""
+    """The plain reader reads the same keys, and finds as many events. It knows nothing of half a
+    character."""
     for line, mode in keys_of(terminal):
+        if line.bytes.decode("utf-8", "ignore").encode() != line.bytes:
+            continue
         events, rest = read(reader_of(mode), line.bytes)
         wanted, wanted_rest = plain_read(line.bytes, is_kitty(mode))
         found = [plain_press(event) for event in events]
@@ -159,10 +162,9 @@ def test_plain_reader(terminal):
 
 def test_port():
     """What the port reads as one key, the extended parser reads as that key, by legacy rules."""
-    for terminal in TERMINALS:
-        for line, mode in keys_of(terminal):
-            if not is_kitty(mode) and is_exact("port", line):
-                assert is_exact("legacy", line), (terminal, line)
+    for terminal, line, mode in presses():
+        if not is_kitty(mode) and is_exact("port", line):
+            assert is_exact("legacy", line), (terminal, line)
 
 
 # A report of the modes 1006 and 1016, one of 1015, and one of the others.
@@ -181,10 +183,12 @@ def test_mouse(terminal):
     for line in FILES[terminal][1]:
         if line.kind != "mouse" or not re.fullmatch(ONE_REPORT, line.bytes):
             continue
+        if re.fullmatch(WRONG_REPORTS.get(terminal, b""), line.bytes, re.S):
+            continue
         pressed, _, what = line.what.replace("-corner", "").rpartition(" ")
         *held, button = pressed.split("+")
-        # QTerminal doesn't report Ctrl and Alt.
-        modifiers = flags(Modifiers, map(str.upper, held * (terminal != "qterminal")))
+        held = [it.upper() for it in held if it not in UNTOLD.get(terminal, ())]
+        modifiers = flags(Modifiers, held)
         for reader in ["x10"] if line.bytes.startswith(b"\x1b[M") else ["legacy", "kitty"]:
             events, rest = read(reader, line.bytes)
             assert len(events) == 1 and not rest and not plain_press(events[0]), line
@@ -236,18 +240,18 @@ def test_pastes(terminal):
 
 @pytest.mark.parametrize("terminal", TERMINALS)
 def test_replies(terminal):
-    """Replies aren't keys. By legacy rules the cursor's position in the first row is F3, unless the
-    program asked for it."""
+    """Replies aren't keys, but for PuTTY's name, its answer to ENQ. By legacy rules the cursor's
+    position in the first row is F3, unless the program asked for it. dvtm counts rows from 0."""
     from hedrugal import CursorPosition
 
     for line in FILES[terminal][1]:
-        if line.kind == "reply":
+        if line.kind == "reply" and line.bytes != b"PuTTY":
             for reader in ("legacy", "kitty", "asked"):
                 events, _ = read(reader, line.bytes)
                 keys = [it[1] for it in map(plain_press, events) if it]
                 is_third = all(it.endswith("f3") for it in keys) and b"R" in line.bytes
                 assert not keys or is_third and reader == "legacy", (line, reader, keys)
-                if line.what == "DSR6" and reader != "legacy":
+                if line.what == "DSR6" and reader != "legacy" and terminal != "dvtm":
                     assert any(isinstance(it, CursorPosition) for it in events), line
 
 
@@ -258,13 +262,18 @@ def test_every_line_is_read():
 
 
 def test_other_parsers():
-    """No other parser reads more presses exactly, of any terminal in any mode."""
-    for (terminal, mode), (presses, *exact) in peers()[1].items():
-        good, all_ = judged()[terminal, mode, "extended"]
-        assert presses == all_ and good >= max(exact), (terminal, mode, good, exact)
+    """No terminal in a mode has fewer presses that are read exactly than before, and few have fewer
+    than another parser reads, but for those with a reason."""
+    assert set(peers()[1]) == set(judged())
+    fewer = []
+    for of, (all_, least, *others) in peers()[1].items():
+        counts = judged()[of]
+        assert counts["presses"] == all_ and counts["extended"] >= least, (of, counts)
+        fewer += [(of, counts, others)] * (counts["extended"] + counts["reason"] < max(others))
+    assert len(fewer) <= MOST_FEWER, "\n".join(map(str, fewer))
 
 
-@pytest.mark.parametrize("name", ["exact", "reasons", "apart", "pastes", "replies"])
+@pytest.mark.parametrize("name", ["everyday", "exact", "reasons", "apart", "pastes", "replies"])
 def test_document(name):
     """The tables of docs/TERMINALS.md are those of the data and the parsers."""
     text = DOCUMENT.read_text()
@@ -314,6 +323,4 @@ def write_tables():
 if __name__ == "__main__":
     if sys.argv[1:] != ["--write"]:
         sys.exit(__doc__)
-    import conftest  # noqa: F401, which finds the library
-
     write_tables()

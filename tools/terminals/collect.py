@@ -5,7 +5,9 @@ terminal, with what was pressed and the presses that are right.
     tools/terminals/collect.py FOLDER    reads FOLDER/*.tsv, writes tests/terminals/NAME.tsv of each
     tools/terminals/collect.py           makes the column `why` of all files anew
 
-tests/terminals/README.md says what the columns mean."""
+FOLDER/NAME-LAYOUT.tsv has the keys of another layout, by their numbers, and in its last column what
+X11 calls the symbol on them. tests/terminals/README.md says what the columns mean. The reasons are
+those of the library of out/lib."""
 import argparse
 import collections
 import re
@@ -16,21 +18,23 @@ TOP = Path(__file__).resolve().parent.parent.parent
 sys.path.insert(0, str(TOP / "tests"))
 sys.dont_write_bytecode = True
 
-from plain_reader import read, rows  # noqa: E402
-from presses import ALT, CTRL, SHIFT, SUPER, press  # noqa: E402
-from terminal_data import COLUMNS, FOLDER, KEY_MODES, Line, data_files, is_kitty, load  # noqa: E402
+import conftest  # noqa: E402, F401, which finds the library
+from presses import ALT, CTRL, SHIFT, SUPER, printed  # noqa: E402
+from terminal_data import COLUMNS, FOLDER, KEY_MODES, Line, data_files, load  # noqa: E402
+from terminal_judge import is_exact, reader_of, told  # noqa: E402
 
 HELD = {"Shift": SHIFT, "Alt": ALT, "Ctrl": CTRL, "Super": SUPER}
-# What Shift makes of a key: the layout is the one of the United States.
+STRONG = CTRL | SUPER
+# What Shift makes of a key in the layout of the United States.
 SHIFTED = dict(zip("`1234567890-=[]\\;',./", '~!@#$%^&*()_+{}|:"<>?'))
+SIGNS = "".join(SHIFTED.values())
 NAMED = {f"F{it}": f"f{it}" for it in range(1, 25)}
 NAMED |= {it: f"{it.lower()}arrow" for it in "Up Down Left Right".split()}
 for it in "Enter Tab Backspace Escape Home End PageUp PageDown Insert Delete Pause".split():
     NAMED[it] = it.lower()
 NAMED |= {"Space": " ", "Menu": "applications", "Print": "printscreen"}
-NAMED |= {"Shift_L": "leftshift", "Control_L": "leftcontrol", "Alt_L": "leftalt"}
-NAMED |= {"Super_L": "leftwindows", "Caps_Lock": "capslock", "Num_Lock": "numlock"}
-NAMED |= {"Scroll_Lock": "scrolllock"}
+# No press by themselves.
+MODIFIERS = "Shift_L Control_L Alt_L Super_L Caps_Lock Num_Lock Scroll_Lock".split()
 # The keys of the keypad by their names without Num Lock and with it: what is on them.
 KEYPAD = {}
 for off, on in zip(
@@ -43,63 +47,162 @@ for it in {"Add": "+", "Subtract": "-", "Multiply": "*", "Divide": "/", "Equal":
     KEYPAD[it[0]] = [it[1]]
 KEYPAD["Enter"] = ["enter"]
 
-LISTED = [
-    # The name of the terminals, the bytes, the reason.
-    (
-        "st",
-        rb"\x1b\[(2?[JK]|4[hl]|[LMP])",
-        "st sends this where keypad mode, or of shift+home DECCKM, is off",
-    ),
-    ("konsole|qterminal", rb"\x18@s.*", "Konsole writes Super as Ctrl-X, @, s before the key"),
-    ("foot", rb"\x1b\[27;\d+;6\d{4}~", "foot sends X11's numbers of keypad keys as characters"),
-    ("xfce4-terminal", rb"\x1bO3~", "VTE joins ESC O and half of a sequence"),
+# The layouts that have a third symbol on a key, by AltGr. In the others AltGr is Alt.
+HAS_ALTGR = ("de", "us_intl")
+# The keys of the United States by X11's numbers.
+OF_NUMBER = zip([*range(10, 22), *range(24, 36)], "1234567890-=qwertyuiop[]")
+OF_NUMBER = {str(it): key for it, key in OF_NUMBER}
+OF_NUMBER |= {str(38 + it): key for it, key in enumerate("asdfghjkl;'`")}
+OF_NUMBER |= {str(51 + it): key for it, key in enumerate("\\zxcvbnm,./")}
+# X11's names of symbols: those that are no character are dead keys.
+SYMBOLS = dict(
+    zip(
+        """ampersand asciitilde asterisk at backslash bar braceleft braceright bracketleft
+        bracketright colon comma equal greater less minus numbersign parenright period plus question
+        quotedbl quoteleft quoteright semicolon slash underscore""".split(),
+        "&~*@\\|{}[]:,=><-#).+?\"`';/_",
+    )
+)
+SYMBOLS |= dict(
+    zip(
+        """AE Aacute Adiaeresis Ccedilla Eacute Greek_OMEGA Odiaeresis Udiaeresis aacute adiaeresis
+        ae brokenbar ccedilla cent copyright degree division eacute emdash endash guillemotleft
+        guillemotright leftdoublequotemark macron masculine mu multiply notsign numerosign
+        odiaeresis oneeighth onehalf paragraph periodcentered questiondown rightdoublequotemark
+        rightsinglequotemark section seveneighths ssharp sterling threesuperior twosuperior
+        udiaeresis yen""".split(),
+        "ÆÁÄÇÉΩÖÜáäæ¦ç¢©°÷é—–«»“¯ºµ×¬№ö⅛½¶·¿”’§⅞ß£³²ü¥",
+    )
+)
+SYMBOLS |= {
+    f"Cyrillic_{name}": letter
+    for name, letter in zip(
+        "be e ef es ha hardsign io shorti softsign u ya yeru yu zhe".split(), "бэфсхъёйьуяыюж"
+    )
+}
+SYMBOLS |= {
+    f"Cyrillic_{name[9:].upper()}": letter.upper()
+    for name, letter in SYMBOLS.items()
+    if name.startswith("Cyrillic_")
+}
+
+# One key of another layout. Where a key came late, the next one's bytes begin with its own.
+ONE_KEY = re.compile(r"\x1b?(.|\x1b\[[\d:;]*[u~])", re.S)
+# That was seen in these terminals too: mosh keeps Ctrl-^ until the next key. VTE sent a key twice.
+TWO_KEYS = {"mosh": b"\x1e.+|O\x0f", "gnome-terminal": b"(\x1bA|\xe6\xbc\xa2){2}"}
+
+# Why a press isn't read: the names of the terminals, the bytes, and the reason. What a terminal
+# makes of a key beside its name:
+GARBLED = [
+    ("konsole|qterminal", r"\x18@s.*", "Konsole writes Ctrl-X, @, s before a key with Super"),
+    ("konsole|qterminal", r"\x1b\[\d+;1[AH~]", "Konsole tells no modifier for Super"),
+    ("konsole|qterminal|urxvt", r"\x1b\x1bOM", "Shift-Enter is the keypad's Enter"),
+    ("xfce4-terminal|gnome-terminal", r"\x1bO3~", "VTE joins ESC O and half of a sequence"),
+    ("putty", r"\x1b?\x1bO[QRSl]", "PuTTY's keypad is that of a VT100, with PF2 to PF4"),
+    ("putty", r"\x1b?\xa0", "PuTTY types a no-break space for Ctrl-Shift-Space"),
+    ("kitty", r"\udca7", "kitty sends half a character"),
+    ("vim-terminal", r"\udcfd.*|\x1b[\udc80-\udcff]", "Vim writes its numbers of keys as bytes"),
+    ("vim-terminal", r"\x1b\[(27;\d;)?-\d+(;\d)?[u~]", "Vim tells its numbers of keys"),
+    ("vim-terminal", r"\x1b\[(27;[57];(64|94|95)~|(64|94|95);[57]u)", "Vim tells Ctrl-2 as Ctrl-@"),
+    ("vim-terminal", r"\x1b\x03", "Vim writes ESC and byte 3 for Alt, Shift and F1 to F12"),
+    ("vim-terminal", r"\x1b\[8;5u", "Vim drops Shift"),
+    ("vim-terminal", r"\x1b\[(27u.+|21~\dE)", "Vim cuts a sequence"),
+    ("kitty", r"\x1b\[246:214:59;2u", "a key was repeated as it was released"),
+]
+# What nobody else sends:
+UNIQUE = [
+    ("st", r"\x1b\[(2?[JK]|4[hl]|[LM])", "st, where keypad mode or DECCKM is off"),
+    ("foot", r"\x1b\[27;\d+;6\d{4}~", "foot tells X11's numbers of keypad keys as characters"),
+    ("qterminal", r"\x1b\[OE", "QTerminal's keypad 5, which begins as a focus report"),
+    ("kitty", r"\x1b\[\d{3,4}::\d+;2(:3)?u", "kitty tells Shift with AltGr, and no text"),
+    ("foot|kitty", r"\x1b\[\d\d;2:3u", "a release tells Shift, and not what it types"),
+    ("kitty", r"\x1b\[0:.*u", "kitty tells a dead key with Shift as no key"),
 ]
 
-# The keys of which a control character is made with Ctrl, by tradition.
-CONTROLS = {chr(code): chr(code + 96) for code in range(1, 27)}
-CONTROLS |= {"\0": " @2`", "\x1b": "[3{", "\x1c": "\\4|", "\x1d": "]5}", "\x1e": "^6~"}
-CONTROLS |= {"\x1f": "_7/", "\x7f": "?8"}
 
-# Reports of Kitty's protocol, which tell what Shift makes of a key in this mode alone. Without a
-# program's asking, kitty sends them of keys with Super.
-WITH_SHIFTED = "kitty31"
-KITTY_REPORT = re.compile(rb"\x1b\[\d+;\d+(:\d)?u")
+def symbol(name):
+    """The character of a symbol's name or number, or None."""
+    if re.fullmatch("U?[0-9A-Fa-f]{4}", name) and not name.startswith("fe"):
+        return chr(int(name.lstrip("U"), 16))
+    return name if len(name) == 1 else SYMBOLS.get(name)
+
+
+def names(key, held, shifted=None, base=None):
+    """The names of a press and of its second one. `shifted` is what Shift makes of the key, if that
+    is told, and `base` the key at its place in the United States."""
+    first, second = (key, held), None
+    is_letter = key != key.upper() and len(key) == len(key.upper()) == 1
+    if len(key) == 1 and key != " " and held & SHIFT:
+        shown = key.upper() if shifted is None and is_letter else shifted
+        if shown is None:
+            first = key, held & ~SHIFT if key in SIGNS else held
+        elif not (is_letter and shown == key.upper() and held & STRONG):
+            first = shown, held & ~SHIFT
+            if shown != key and held & ~SHIFT and not is_letter and key not in SIGNS:
+                second = key, held
+    if base and key >= "\x80" and held & (ALT | STRONG):
+        return [printed(first), *names(base, held, shifted_in_us(base))[:1]]
+    return [printed(it) for it in (first, second) if it]
+
+
+def same_names(key, held):
+    """The same of a key that types the same with Shift, which may be told or not."""
+    return [*names(key, held, key if len(key) == 1 else None), *names(key, held)]
+
+
+def shifted_in_us(key):
+    return SHIFTED.get(key, key.upper())
 
 
 def held_by(mods):
-    return sum(HELD[it] for it in mods.split("+")) if mods != "-" else 0
+    return sum(HELD[it] for it in {*mods.split("+")} - {"-", "AltGr"})
 
 
-def right_presses(name, mods):
+def key_presses(name, mods):
     """The names of the presses that a key with modifiers is. A key of the keypad with two labels
     counts as both: in keypad mode most terminals send the same with Num Lock and without, and
     Shift turns Num Lock around."""
     held = held_by(mods)
-    if not name.startswith("KP_"):
-        key = NAMED.get(name, name)
-        shifted = SHIFTED.get(key, key.upper() if key.isascii() else key) if len(key) == 1 else None
-        return {press(key, held, shifted=shifted)}
-    keys = KEYPAD[name[3:]]
-    return {
-        press(key, it) for key in keys for it in ({held, held & ~SHIFT} if keys[1:] else {held})
-    }
+    if name in MODIFIERS:
+        return ["none"]
+    if name.startswith("KP_"):
+        keys = KEYPAD[name[3:]]
+        sets = {held, held & ~SHIFT} if keys[1:] else {held}
+        return [it for key in keys for held in sets for it in same_names(key, held)]
+    key = NAMED.get(name, name)
+    if not key.isascii():
+        return same_names(key, held)
+    return names(key, held, shifted_in_us(key) if len(key) == 1 else None)
 
 
-def presses_of_text(data):
-    """The presses that a character may always be: a control character its key and those of which it
-    is made with Ctrl, all with Alt where ESC is before it; one from U+0080 on what it types."""
-    text = data.decode("utf-8", "surrogateescape")
-    alt, text = (ALT, text[1:]) if len(text) == 2 and text[0] == "\x1b" else (0, text)
-    if text in CONTROLS:
-        return {press(text, alt), *(press(it, alt | CTRL) for it in CONTROLS[text])}
-    return {press(text, 0)} if len(text) == 1 and ord(text) >= 128 and not alt else set()
+def is_everyday(name, mods, typed=""):
+    """Whether a key is none of F13 to F24, of the keypad, or a modifier or lock alone, and neither
+    is Super held nor the character beyond ASCII."""
+    is_other = re.match(r"KP_|F1[3-9]|F2\d", name) or name in MODIFIERS or "Super" in mods
+    return not is_other and (name + typed).isascii()
 
 
-def press_without_shifted(mode, data, name, mods):
-    """The press of a key of which Kitty's protocol doesn't tell what Shift makes of it."""
-    if mode == WITH_SHIFTED or not KITTY_REPORT.fullmatch(data) or "KP_" in name:
-        return set()
-    return {press(NAMED.get(name, name), held_by(mods))}
+def us_presses(recorded):
+    """Of each key and modifiers the presses, and whether it is an everyday key."""
+    keys = {(name, mods) for mode, name, mods, *_ in recorded if mode in KEY_MODES}
+    return {it: (key_presses(*it), is_everyday(*it)) for it in keys}
+
+
+def layout_presses(layout, recorded):
+    """The same of another layout. What a dead key gives is left out."""
+    symbols = {(name, mods): symbol(it) for _, name, mods, _, _, it in recorded}
+    found = {}
+    for _, name, mods, *_ in recorded:
+        level = ["AltGr"] * ("AltGr" in mods and layout in HAS_ALTGR)
+        held = held_by(mods if level else mods.replace("AltGr", "Alt"))
+        key = symbols.get((name, "+".join(level) or "-"))
+        shifted = symbols.get((name, "+".join(["Shift", *level])))
+        typed = shifted if held & SHIFT else key
+        if typed:
+            base = OF_NUMBER.get(name.split(":")[0])
+            told = names(key, held, shifted, base) if key else names(typed, held & ~SHIFT)
+            found[name, mods] = told, is_everyday(name, mods, typed)
+    return found
 
 
 def pressed_name(name, mods):
@@ -118,18 +221,27 @@ def joined(field):
     return bytes.fromhex(field.replace("|", ""))
 
 
-def key_lines(terminal, recorded):
+def is_odd(terminal, layout, name, data, note):
+    """Whether the bytes aren't those of the key alone."""
+    # With Ctrl and Shift held urxvt composes a character by its number (ISO 14755). It comes when
+    # they are up. The recorder presses z to see whether a terminal lives.
+    if note == "late" and (terminal == "urxvt" or data == b"z" != name.encode()):
+        return True
+    if layout:
+        return not ONE_KEY.fullmatch(data.decode("utf-8", "replace"))
+    return re.fullmatch(TWO_KEYS.get(terminal, b""), data, re.S)
+
+
+def key_lines(terminal, layout, recorded):
     """The lines of presses and releases, without reasons."""
+    presses = layout_presses(layout, recorded) if layout else us_presses(recorded)
     sent = collections.defaultdict(dict)
     for mode, name, mods, down, up, note in recorded:
-        if (terminal, note) == ("urxvt", "late"):
-            # With Ctrl and Shift held it composes a character by its number (ISO 14755), which
-            # comes when they are up.
-            continue
-        if mode in KEY_MODES and note != "skipped":
+        if mode in KEY_MODES and note != "skipped" and (name, mods) in presses:
             for kind, field in (("press", down), ("release", up)):
                 data = joined(field)
-                if data and not is_pasted(name, data):
+                is_left_out = is_pasted(name, data) or is_odd(terminal, layout, name, data, note)
+                if data and not is_left_out:
                     sent[kind, mode].setdefault((name, mods), data)
     for mode in ("mok1", "mok2"):
         # Some terminals accept the mode without a difference.
@@ -140,29 +252,32 @@ def key_lines(terminal, recorded):
     for (kind, mode), keys in sent.items():
         for (name, mods), data in keys.items():
             main, other = classes[kind, mode, data]
-            (other if "KP_" in name else main).update(right_presses(name, mods))
-            other |= presses_of_text(data) | press_without_shifted(mode, data, name, mods)
+            first, *more = presses[name, mods][0]
+            (other if "KP_" in name else main).add(first)
+            other.update(more)
     found = collections.OrderedDict()
     for (kind, mode), keys in sent.items():
         pressed = collections.OrderedDict()
-        for (name, mods), data in keys.items():
-            pressed.setdefault(data, []).append(pressed_name(name, mods))
-        for data, names in pressed.items():
+        for it, data in keys.items():
+            pressed.setdefault(data, []).append(it)
+        for data, them in pressed.items():
             main, other = map(set, classes[kind, mode, data])
             if mode.startswith("dec"):
                 # Few keys are pressed in these modes: the others are as without them.
                 main |= classes[kind, "default", data][0]
-            keys = " ".join(it for it in names if "KP_" in it)
+                other |= classes[kind, "default", data][1]
+            keypad = " ".join(pressed_name(*it) for it in them if "KP_" in it[0])
             also = " ".join(sorted(other - main))
-            key = (kind, data, " ".join(sorted(main)), also, keys, str(len(names)))
+            everyday = sum(presses[it][1] for it in them)
+            key = (kind, data, " ".join(sorted(main)), also, keypad, (len(them), everyday))
             found.setdefault(key, []).append(mode)
-    return lines_of(found)
+    return lines_of(found, layout)
 
 
-def lines_of(found):
+def lines_of(found, layout=""):
     return [
-        Line(kind, ",".join(modes), *more, "", count)
-        for (kind, *more, count), modes in found.items()
+        Line(kind, layout, ",".join(modes), *more, "", *numbers)
+        for (kind, *more, numbers), modes in found.items()
     ]
 
 
@@ -171,7 +286,7 @@ def other_lines(recorded):
     found = collections.OrderedDict()
 
     def add(kind, mode, data, what, details=""):
-        modes = found.setdefault((kind, joined(data), what, "", details, "1"), [])
+        modes = found.setdefault((kind, joined(data), what, "", details, (1, 0)), [])
         modes += [mode] * (mode not in modes)
 
     for mode, name, mods, first, second, note in recorded:
@@ -191,51 +306,63 @@ def other_lines(recorded):
     return lines_of(found)
 
 
+def is_eight_bit_meta(text, right):
+    """Whether it is a key with Alt as one character from U+0080 to U+00FF, or as its report without
+    Alt."""
+    report = re.fullmatch(r"\x1b\[(?:27;[1256];)?(\d{3})(?:;[1256])?[u~]", text)
+    text = chr(int(report[1])) if report else text
+    return "\x80" <= text <= "\xff" and len(text) == 1 and any("alt+" in it for it in right)
+
+
 def reason(terminal, line, mode, elsewhere):
-    """Why the extended parser reads no right press, or nothing if the plain reader reads one."""
-    data, right = line.bytes, line.right
-    kitty = is_kitty(mode)
-    events, rest = read(data, kitty)
-    told = {name for kind, name in events if kind == ("key" if line.kind == "press" else "release")}
-    if len(events) == 1 and not rest and told & right:
+    """Why the extended parser reads no right press, or nothing if it reads one. `elsewhere` has of
+    bytes the terminals, layouts, modes and right presses for which they are sent."""
+    reader = reader_of(mode)
+    if is_exact(reader, line):
         return ""
-    for names, bytes_of, why in LISTED:
-        if re.fullmatch(names, terminal) and re.fullmatch(bytes_of, data, re.S):
-            return "listed: " + why
-    kind, name = events[0] if len(events) == 1 and not rest else ("", "")
-    if kind == "key":
-        for other, of, its in sorted(elsewhere[kitty, data]):
-            if name in its.right and (other, of) != (terminal, mode):
-                return f"other: {name} in {other}, {of}"
-        if data in rows() or data[:1] == b"\x1b" and data[1:] in rows():
-            return f"row: {name}"
-    if kind == "reply":
-        return "reply: a cursor's position"
-    if events and events[0][0] == "focus":
-        return "focus: a focus report"
-    return "NONE"
+    text = line.bytes.decode("utf-8", "surrogateescape")
+    for of, pattern, why in GARBLED:
+        if re.fullmatch(of, terminal) and re.fullmatch(pattern, text, re.S):
+            return "garbled: " + why
+    for of, pattern, why in UNIQUE:
+        if re.fullmatch(of, terminal) and re.fullmatch(pattern, text, re.S):
+            assert all(re.fullmatch(of, it[0]) for it in elsewhere[line.bytes]), line
+            return "unique: " + why
+    if is_eight_bit_meta(text, line.right):
+        return "meta: Alt and a key as one character"
+    kind, found = told(reader, line.bytes)
+    if kind == "press":
+        # What most terminals that send these bytes mean by them is read.
+        them, others = [], []
+        for it in sorted(elsewhere[line.bytes]):
+            (others if it[3].isdisjoint(found) else them).append(it)
+        if them and len({it[0] for it in them}) >= len({it[0] for it in others}):
+            name, of, right = " ".join(them[0][:2]).rstrip(), *them[0][2:]
+            return f"same: {min(right.intersection(found))} in {name}, {of}"
+    return f"open: {' or '.join(found) or 'no key'}"
 
 
 def with_reasons(files):
-    """The lines of all terminals, with the column `why`."""
+    """Makes the column `why` of the lines of all terminals."""
     elsewhere = collections.defaultdict(set)
     for terminal, lines in files.items():
         for line in lines:
-            for mode in line.modes.split(","):
-                if line.kind == "press":
-                    elsewhere[is_kitty(mode), line.bytes].add((terminal, mode, line))
+            for mode in line.modes.split(",") if line.kind == "press" else ():
+                sent = terminal, line.layout, mode, frozenset(line.right)
+                elsewhere[line.bytes].add(sent)
     for terminal, lines in files.items():
-        made = []
+        # Modes with the same reason are one line.
+        merged = {}
         for line in lines:
-            if line.kind not in ("press", "release"):
-                made.append(line)
-                continue
-            reasons = collections.OrderedDict()
-            for mode in line.modes.split(","):
-                reasons.setdefault(reason(terminal, line, mode, elsewhere), []).append(mode)
-            made += [
-                line._replace(modes=",".join(modes), why=why) for why, modes in reasons.items()
-            ]
+            merged.setdefault(line._replace(modes="", why=""), []).extend(line.modes.split(","))
+        made = []
+        for line, modes in merged.items():
+            reasons = {}
+            is_key = line.kind in ("press", "release")
+            for mode in sorted(modes, key=KEY_MODES.index) if is_key else modes:
+                why = reason(terminal, line, mode, elsewhere) if is_key else ""
+                reasons.setdefault(why, []).append(mode)
+            made += [line._replace(modes=",".join(of), why=why) for why, of in reasons.items()]
         files[terminal] = made
 
 
@@ -245,12 +372,13 @@ def write(terminal, head, lines):
 
 
 def recordings(folder):
-    """The recordings by terminals: the version, and the rows."""
+    """The recordings by terminals: the version, and the rows of each layout."""
     found = {}
     for path in sorted(Path(folder).glob("*.tsv")):
         for text in path.read_text().splitlines():
             name, version, *row = (text + "\t" * 7).split("\t")[:8]
-            found.setdefault(name, (version, []))[1].append(row)
+            layout = path.stem[len(name) + 1 :]
+            found.setdefault(name, (version, {}))[1].setdefault(layout, []).append(row)
     return found
 
 
@@ -258,7 +386,7 @@ def main():
     parser = argparse.ArgumentParser(
         description=__doc__, formatter_class=argparse.RawTextHelpFormatter
     )
-    parser.add_argument("folder", nargs="?", help="where record.py wrote its files")
+    parser.add_argument("folder", nargs="?", help="where the recordings are")
     folder = parser.parse_args().folder
     heads, files = {}, {}
     for path in data_files():
@@ -266,16 +394,18 @@ def main():
     if folder and not recordings(folder):
         parser.error(f"there is no recording in {folder}")
     for name, (version, recorded) in recordings(folder).items() if folder else ():
-        heads[name] = f"# {name}: {version} of Debian, recorded by tools/terminals/record.py\n"
-        files[name] = key_lines(name, recorded) + other_lines(recorded)
+        heads[name] = f"# {name}: {version.split()[-1]} of Debian\n"
+        files[name] = other_lines(recorded.get("", []))
+        for layout in sorted(recorded, reverse=True):
+            files[name][:0] = key_lines(name, layout, recorded[layout])
     with_reasons(files)
     for name, lines in files.items():
         write(name, heads[name], lines)
         print(f"{name}: {len(lines)} lines")
-    unexplained = [(name, it) for name, lines in files.items() for it in lines if it.why == "NONE"]
-    for name, line in unexplained:
-        print(f"no reason why it isn't read: {name}: {line}")
-    sys.exit(bool(unexplained))
+    for name, lines in files.items():
+        for line in lines:
+            if line.why.startswith("open"):
+                print(f"no reason why it isn't read: {name}: {line}")
 
 
 if __name__ == "__main__":

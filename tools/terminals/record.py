@@ -71,6 +71,7 @@ MODES = {
     "mok2": ("\x1b[>4;2m", "\x1b[>4;0m"),
     "kitty1": ("\x1b[>1u", "\x1b[<u"),
     "kitty3": ("\x1b[>3u", "\x1b[<u"),
+    "kitty5": ("\x1b[>5u", "\x1b[<u"),
     "kitty31": ("\x1b[>31u", "\x1b[<u"),
 }
 
