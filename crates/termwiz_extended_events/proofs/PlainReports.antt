@@ -10,7 +10,7 @@ use Rattle.termwiz_extended_events.specs.declared.types.KeyReport.{KeyReport}
 use Rattle.termwiz_extended_events.specs.declared.types.Manner.{Manner}
 use Rattle.termwiz_extended_events.specs.declared.types.PlainReport.{PlainReport}
 use Rattle.termwiz_extended_events.specs.Numbers.{before_end, is_digits, most_digits, number, number_within, parts, scalar}
-use Rattle.termwiz_extended_events.specs.KeyReports.{character_of_fields, character_report, codes_of, key_report, plain_report, report_behind, report_of, character_key, lettered_key, numbered_key, other_key}
+use Rattle.termwiz_extended_events.specs.KeyReports.{character_of_fields, character_report, codes_of, key_report, plain_report, report_behind, report_of, character_key, lettered_key, numbered_key, other_key, other_held}
 use Rattle.termwiz_extended_events.specs.ReportedKeys.{key_of}
 use Rattle.termwiz_extended_events.specs.Replies.{focus}
 use Rattle.termwiz_extended_events.specs.Meanings.{reported}
@@ -65,11 +65,11 @@ plain_character field (manner ∷ []) c report own e = rw (one_code field c own)
 plain_character field (manner ∷ other ∷ more) c report own e = cc (e)
 
 no_i : key_report (73 ∷ []) ≡ None
-unfolding key_report character_key lettered_key numbered_key other_key before_end
+unfolding key_report character_key lettered_key numbered_key other_key other_held before_end
 no_i = refl
 
 no_o : key_report (79 ∷ []) ≡ None
-unfolding key_report character_key lettered_key numbered_key other_key before_end
+unfolding key_report character_key lettered_key numbered_key other_key other_held before_end
 no_o = refl
 
 none_otherwise : (b : ℕ) → (b == 73) ≡ false → (b == 79) ≡ false → focus (b ∷ []) ≡ None
@@ -110,7 +110,7 @@ read_as_character (Some plain) report character e is = e ∙ is
 
 -- the event of what follows ESC [ is that of its key
 pub plain_event : (t : List ℕ) (found : Option PlainReport) → IfSome found (λ report. key_report t ≡ Some (plain_report report))
-    → IfSome found (λ report. reported t ≡ Some (Key (plain_report report)))
+    → (asks : Bool) → IfSome found (λ report. reported asks t ≡ Some (Key (plain_report report)))
 unfolding reported
-plain_event t None is = tt
-plain_event t (Some report) is = rw (key_no_focus t (plain_report report) is, is) refl
+plain_event t None is asks = tt
+plain_event t (Some report) is asks = rw (key_no_focus t (plain_report report) is, is) refl

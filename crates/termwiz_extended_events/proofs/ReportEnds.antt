@@ -5,7 +5,7 @@ use Rattle.std.proofs.lemmas.Bool.Decides.{nat_tests}
 use Rattle.std.proofs.lemmas.Option.{slice_get-get_or}
 use Rattle.termwiz_extended_events.specs.declared.types.KeyReport.{KeyReport}
 use Rattle.termwiz_extended_events.specs.Numbers.{before_end, first_some}
-use Rattle.termwiz_extended_events.specs.KeyReports.{character_key, lettered_key, numbered_key, other_key, key_report}
+use Rattle.termwiz_extended_events.specs.KeyReports.{character_key, lettered_key, numbered_key, other_key, other_held, key_report}
 
 -- what follows all bytes but the last one
 drop_to : (t : List ℕ) (k b : ℕ) → length t ≡ suc k → slice_get t k ≡ Some b → drop k t ≡ b ∷ []
@@ -35,7 +35,7 @@ unfolding numbered_key
 no_number t b e n = rw (other_end t b 126 e n) refl
 
 no_other : (t : List ℕ) (b : ℕ) → slice_get t (length t - 1) ≡ Some b → b ≢ 126 → other_key t ≡ None
-unfolding other_key
+unfolding other_key other_held
 no_other t b e n = rw (other_end t b 126 e n) refl
 
 no_letter_u : (t : List ℕ) → slice_get t (length t - 1) ≡ Some 117 → lettered_key t ≡ None
@@ -74,7 +74,7 @@ ends_otherwise t b e u tilde =
     rw (no_character t b e u, no_number t b e tilde, no_other t b e tilde) (second_alone (lettered_key t))
 
 no_bytes : key_report [] ≡ None
-unfolding key_report character_key lettered_key numbered_key other_key before_end
+unfolding key_report character_key lettered_key numbered_key other_key other_held before_end
 no_bytes = refl
 
 -- no bytes are no report

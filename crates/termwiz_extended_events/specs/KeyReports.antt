@@ -2,21 +2,22 @@
 -- read: `u`, `~` or a letter. First come the readings of one field: of the modifiers and what happened (`manner_of`), of the key's codes
 -- (`codes_of`) and of its text (`text_of`). Then come the rules, one for each end, which put the fields together. `key_report` is the first
 -- rule that fits. A reading or a rule is None where the bytes aren't such a field or sequence.
-use Rattle.std.specs.Prelude.{◌≡◌, ℕ, Bool, true, false, ◌+◌, ◌-◌, ◌==◌, ◌&&◌, List, [], ◌∷◌, length, take, slice_get, codes, nat_le, Option, Some, None, if◌then◌else◌, option_map, option_and_then, encode_utf8_all, bytes_eq}
+use Rattle.std.specs.Prelude.{◌≡◌, ℕ, Bool, true, false, not, ◌+◌, ◌-◌, ◌==◌, ◌&&◌, ◌||◌, List, [], ◌∷◌, length, take, slice_get, codes, nat_le, bit_and, bit_or, Option, Some, None, if◌then◌else◌, option_map, option_and_then, encode_utf8_all, bytes_eq}
+use Rattle.std.specs.Char.{is_control}
 use Rattle.termwiz_grammar.specs.Table.{key_of_code}
 use Rattle.termwiz_keys.specs.declared.types.KeyCode.{KeyCode}
-use Rattle.termwiz_keys.specs.declared.types.KeyCode.TheVariants.{Function}
+use Rattle.termwiz_keys.specs.declared.types.KeyCode.TheVariants.{Function, KeyPadBegin, Tab}
 use Rattle.termwiz_extended_events.specs.declared.types.KeyReport.{KeyReport}
 use Rattle.termwiz_extended_events.specs.declared.types.KeyEventKind.{KeyEventKind}
 use Rattle.termwiz_extended_events.specs.declared.types.KeyEventKind.TheVariants.{Press, Repeat, Release}
 use Rattle.termwiz_extended_events.specs.declared.types.ReportedKey.{ReportedKey}
-use Rattle.termwiz_extended_events.specs.declared.types.ReportedKey.TheVariants.{Named}
+use Rattle.termwiz_extended_events.specs.declared.types.ReportedKey.TheVariants.{Named, Functional}
 use Rattle.termwiz_extended_events.specs.declared.types.Manner.{Manner}
 use Rattle.termwiz_extended_events.specs.declared.key_fields.Codes.{Codes}
 use Rattle.termwiz_extended_events.specs.declared.types.PlainReport.{PlainReport}
 use Rattle.termwiz_extended_events.specs.declared.key_reports.SpelledReport.{SpelledReport}
 use Rattle.termwiz_extended_events.specs.Numbers.{fields, parts, before_end, first_some, number, number_within, scalar}
-use Rattle.termwiz_extended_events.specs.ReportedKeys.{last_functional, entry_at, lettered_keys, key_of, tilde_key, keypad_keys, modified_keypad_keys, console_keys, rxvt_key_at}
+use Rattle.termwiz_extended_events.specs.ReportedKeys.{last_functional, no_key, entry_at, lettered_keys, key_of, tilde_key, keypad_keys, modified_keypad_keys, console_keys, rxvt_key_at}
 
 -- the modifiers of a number: it is one more than their bits, and 1 where it is missing
 unfoldable pub modifiers_of : List ℕ → Option ℕ
@@ -180,18 +181,41 @@ numbered_of_fields [] = None
 unfoldable pub numbered_key : List ℕ → Option KeyReport
 numbered_key t = option_and_then (λ body. numbered_of_fields (fields body)) (before_end (codes "~") t)
 
--- the key of a character as xterm reports it: the number of the modifiers is one more than their bits
-abbrev pub other_report : Option ℕ → Option ℕ → Option KeyReport
-other_report (Some m) (Some c) = Some (report_of (Named (key_of_code c)) (record { modifiers = m - 1; kind = Press }))
-other_report _ _ = None
+-- the modifiers and the character of both numbers: the first one is one more than the bits
+abbrev pub other_pair : Option ℕ → Option ℕ → Option (ℕ × ℕ)
+other_pair (Some m) (Some c) = Some (m - 1, c)
+other_pair _ _ = None
 
-abbrev pub other_of_fields : List (List ℕ) → Option KeyReport
-other_of_fields (front ∷ m ∷ c ∷ []) = if bytes_eq front (codes "27") then other_report (number 1 256 m) (scalar c) else None
+abbrev pub other_of_fields : List (List ℕ) → Option (ℕ × ℕ)
+other_of_fields (front ∷ m ∷ c ∷ []) = if bytes_eq front (codes "27") then other_pair (number 1 256 m) (scalar c) else None
 other_of_fields _ = None
+
+-- 27 ; m ; c ~: the bits of the modifiers, and c
+unfoldable pub other_held : List ℕ → Option (ℕ × ℕ)
+other_held t = option_and_then (λ body. other_of_fields (fields body)) (before_end (codes "~") t)
+
+-- the key of this character as xterm reports it
+abbrev pub other_code : ℕ → ReportedKey
+other_code c = if c == no_key then Functional no_key else Named (key_of_code c)
+
+-- with Shift the character is what Shift made, unless it is a control character
+abbrev pub is_shifted_by : ℕ → ℕ → Bool
+is_shifted_by modifiers c = not (bit_and modifiers shift_bit == 0) && not (is_control c)
+
+-- the report of a key by its modifiers and its character
+abbrev pub other_report : (ℕ × ℕ) → KeyReport
+other_report held = record {
+  key = other_code held.1;
+  modifiers = held.0;
+  kind = Press;
+  shifted = if is_shifted_by held.0 held.1 then Some held.1 else None;
+  base = None;
+  text = [];
+}
 
 -- 27 ; m ; c ~: the key of c, as xterm's modifyOtherKeys reports it
 unfoldable pub other_key : List ℕ → Option KeyReport
-other_key t = option_and_then (λ body. other_of_fields (fields body)) (before_end (codes "~") t)
+other_key t = option_map other_report (other_held t)
 
 -- the report of a key by the first of these rules that fits
 unfoldable pub key_report : List ℕ → Option KeyReport
@@ -200,6 +224,37 @@ key_report t = first_some (character_key t ∷ lettered_key t ∷ numbered_key t
 -- 1 ; modifiers : kind R, of which only R must be there: F3, where no position of the cursor can be meant
 unfoldable pub third_function_key : List ℕ → Option KeyReport
 third_function_key t = option_and_then (λ body. lettered_of_fields (Function 3) (fields body)) (before_end (codes "R") t)
+
+-- 1 ; modifiers : kind Z, of which ; and Z must be there: Tab with Shift and these modifiers
+abbrev pub shifted_tab : Manner → KeyReport
+shifted_tab manner = report_of (Named Tab) (record manner { modifiers = bit_or manner.modifiers shift_bit })
+
+abbrev pub back_tab_of_fields : List (List ℕ) → Option KeyReport
+back_tab_of_fields (front ∷ manner ∷ []) = if is_one_or_missing front then option_map shifted_tab (manner_of manner) else None
+back_tab_of_fields _ = None
+
+unfoldable pub back_tab : List ℕ → Option KeyReport
+back_tab t = option_and_then (λ body. back_tab_of_fields (fields body)) (before_end (codes "Z") t)
+
+-- the key of a letter behind a digit: that of the letter alone, and F3
+abbrev pub cursor_letter : ℕ → Option KeyCode
+cursor_letter letter = if letter == 82 then Some (Function 3) else entry_at lettered_keys letter
+
+-- m from 2 to 8 and a letter: the key of the letter with the modifiers of m, as xterm reports it by modifyCursorKeys 1
+unfoldable pub short_key : List ℕ → Option KeyReport
+short_key (m ∷ letter ∷ []) = if nat_le 50 m && nat_le m 56
+    then option_map (λ key. report_of (Named key) (record { modifiers = m - 49; kind = Press })) (cursor_letter letter)
+    else None
+short_key _ = None
+
+-- G: the middle key of the keypad
+unfoldable pub middle_key : List ℕ → Option KeyReport
+middle_key (letter ∷ []) = if letter == 71 then Some (report_of (Named KeyPadBegin) pressed) else None
+middle_key _ = None
+
+-- the keys of a few terminals, by the first of these rules that fits
+unfoldable pub further_key : List ℕ → Option KeyReport
+further_key t = first_some (back_tab t ∷ short_key t ∷ middle_key t ∷ [])
 
 -- the number of a key of rxvt-unicode's, without a leading zero
 abbrev pub rxvt_number : List ℕ → Option ℕ
@@ -238,9 +293,13 @@ modified_report m letter = if nat_le 50 m && nat_le m 56
     then option_map (λ key. report_of key (record { modifiers = m - 49; kind = Press })) (modified_keypad_entry letter)
     else None
 
--- m and a letter behind ESC O, where 0 ; may stand before m: a key of the keypad, or F1 to F4, with modifiers
+-- F1 to F4 have these letters, P to S
+abbrev pub is_function_letter : ℕ → Bool
+is_function_letter letter = nat_le 80 letter && nat_le letter 83
+
+-- m and a letter behind ESC O, where 0 ; may stand before m: a key of the keypad, or F1 to F4, with modifiers. For F1 to F4 it may be 1 ; too.
 unfoldable pub modified_keypad_key : List ℕ → Option KeyReport
 modified_keypad_key (m ∷ letter ∷ []) = modified_report m letter
-modified_keypad_key (zero_digit ∷ separator ∷ m ∷ letter ∷ []) =
-    if (zero_digit == 48) && (separator == 59) then modified_report m letter else None
+modified_keypad_key (first ∷ separator ∷ m ∷ letter ∷ []) =
+    if (separator == 59) && ((first == 48) || ((first == 49) && is_function_letter letter)) then modified_report m letter else None
 modified_keypad_key _ = None

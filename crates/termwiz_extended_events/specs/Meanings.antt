@@ -1,7 +1,8 @@
 -- What a sequence means that the port doesn't know.
-use Rattle.std.specs.Prelude.{◌≡◌, ◌≢◌, ℕ, ◌==◌, List, [], ◌∷◌, Option, Some, if◌then◌else◌, option_map, unwrap_or}
+use Rattle.std.specs.Prelude.{◌≡◌, ◌≢◌, ℕ, ◌==◌, Bool, List, [], ◌∷◌, Option, Some, None, if◌then◌else◌, option_map, unwrap_or}
 use Rattle.termwiz_keys.specs.declared.types.MouseEvent.{MouseEvent}
 use Rattle.termwiz_keys.specs.declared.types.InputEvent.TheVariants.{Mouse, Paste}
+use Rattle.termwiz_extended_events.specs.declared.types.KeyReport.{KeyReport}
 use Rattle.termwiz_extended_events.specs.declared.types.ExtendedEvent.{ExtendedEvent}
 use Rattle.termwiz_extended_events.specs.declared.types.ExtendedEvent.TheVariants.{Input, Csi, Osc, Dcs, Apc, Key, FocusGained, FocusLost, CursorPosition, Resize, KeyboardFlags, SideButton, StringPart, StringCut}
 use Rattle.termwiz_extended_events.specs.declared.types.StringKind.{StringKind}
@@ -9,18 +10,23 @@ use Rattle.termwiz_extended_events.specs.declared.types.StringKind.TheVariants a
 use Rattle.termwiz_extended_events.specs.declared.meanings.Meaning.{Meaning}
 use Rattle.termwiz_extended_events.specs.declared.meanings.Meaning.TheVariants as meaning
 use Rattle.termwiz_extended_events.specs.Numbers.{before_end, first_some}
-use Rattle.termwiz_extended_events.specs.KeyReports.{key_report, third_function_key, rxvt_key, console_key, keypad_key, modified_keypad_key, spelled_report}
+use Rattle.termwiz_extended_events.specs.KeyReports.{key_report, third_function_key, further_key, rxvt_key, console_key, keypad_key, modified_keypad_key, spelled_report}
 use Rattle.termwiz_extended_events.specs.Replies.{focus, reply, mouse_report, side_button}
 
 -- the event of a mouse report
 abbrev pub mouse : MouseEvent → ExtendedEvent
 mouse event = Input (Mouse event)
 
--- the event of what follows ESC [, by the first rule that fits
-unfoldable pub reported : List ℕ → Option ExtendedEvent
-reported t = first_some (
-    focus t ∷ option_map Key (key_report t) ∷ reply t ∷ option_map Key (third_function_key t) ∷ option_map Key (rxvt_key t)
-    ∷ option_map mouse (mouse_report t) ∷ option_map SideButton (side_button t) ∷ option_map Key (console_key t) ∷ [])
+-- F3, whose sequences can also be positions of the cursor: it comes first where no question for one is open
+abbrev pub unasked_key : Bool → List ℕ → Option KeyReport
+unasked_key asks t = if asks then None else third_function_key t
+
+-- the event of what follows ESC [, by the first rule that fits; `asks` says that a question for the cursor's position is open
+unfoldable pub reported : Bool → List ℕ → Option ExtendedEvent
+reported asks t = first_some (
+    focus t ∷ option_map Key (key_report t) ∷ option_map Key (unasked_key asks t) ∷ reply t ∷ option_map Key (third_function_key t)
+    ∷ option_map Key (rxvt_key t) ∷ option_map mouse (mouse_report t) ∷ option_map SideButton (side_button t)
+    ∷ option_map Key (console_key t) ∷ option_map Key (further_key t) ∷ [])
 
 -- the event of what follows ESC O, by the first rule that fits
 unfoldable pub keypad_reported : List ℕ → Option ExtendedEvent
@@ -42,19 +48,19 @@ unfoldable pub command_text : List ℕ → List ℕ
 command_text t = unwrap_or (before_end string_end t) (unwrap_or (before_end bell t) t)
 
 -- the event of what follows ESC and a byte
-unfoldable pub event_after : ℕ → List ℕ → ExtendedEvent
-event_after b t =
-    if b == 91 then unwrap_or (reported t) (Csi t)
+unfoldable pub event_after : Bool → ℕ → List ℕ → ExtendedEvent
+event_after asks b t =
+    if b == 91 then unwrap_or (reported asks t) (Csi t)
     else (if b == 79 then unwrap_or (keypad_reported t) (Csi t)
     else (if b == 93 then Osc (command_text t)
     else (if b == 80 then Dcs (string_text t)
     else (if b == 95 then Apc (string_text t)
     else Csi t))))
 
--- the event of a sequence
-unfoldable pub event_of : List ℕ → ExtendedEvent
-event_of (escape ∷ b ∷ t) = if escape == 27 then event_after b t else Csi t
-event_of _ = Csi []
+-- the event of a sequence, while a question for the cursor's position is open or not
+unfoldable pub event_of : Bool → List ℕ → ExtendedEvent
+event_of asks (escape ∷ b ∷ t) = if escape == 27 then event_after asks b t else Csi t
+event_of asks _ = Csi []
 
 -- the event of a string that has its end: its bytes after its introducer, without the end
 abbrev pub whole_string : StringKind → List ℕ → ExtendedEvent

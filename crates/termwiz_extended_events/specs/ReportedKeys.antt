@@ -54,11 +54,17 @@ functional_key n =
 
 -- the keys of control characters
 abbrev pub control_keys : List (ℕ × KeyCode)
-control_keys = (9, Tab) ∷ (13, Enter) ∷ (27, Escape) ∷ (127, Backspace) ∷ []
+control_keys = (8, Backspace) ∷ (9, Tab) ∷ (10, Enter) ∷ (13, Enter) ∷ (27, Escape) ∷ (127, Backspace) ∷ []
+
+-- the number of a text that no key typed
+abbrev pub no_key : ℕ
+no_key = 0
 
 -- the key of a number in kitty's keyboard protocol
 unfoldable pub key_of : ℕ → ReportedKey
-key_of n = if is_functional n then functional_key n else Named (unwrap_or (entry_at control_keys n) (Char n))
+key_of n =
+    if n == no_key then Functional no_key
+    else (if is_functional n then functional_key n else Named (unwrap_or (entry_at control_keys n) (Char n)))
 
 -- the function key that codes have at a number
 abbrev pub function_key : List (ℕ × ℕ) → ℕ → Option KeyCode
@@ -88,10 +94,10 @@ rxvt_key_at n = if n == 4 then None else key_with_number n
 -- the keys of the keypad in application mode, by their letters
 abbrev pub keypad_keys : List (ℕ × ReportedKey)
 keypad_keys =
-    (77, Functional 57414) ∷ (88, Functional 57415) ∷ (69, Named KeyPadBegin) ∷ (106, Named Multiply) ∷ (107, Named Add)
-    ∷ (108, Named Separator) ∷ (109, Named Subtract) ∷ (110, Named Decimal) ∷ (111, Named Divide) ∷ (112, Named Numpad0)
-    ∷ (113, Named Numpad1) ∷ (114, Named Numpad2) ∷ (115, Named Numpad3) ∷ (116, Named Numpad4) ∷ (117, Named Numpad5)
-    ∷ (118, Named Numpad6) ∷ (119, Named Numpad7) ∷ (120, Named Numpad8) ∷ (121, Named Numpad9) ∷ []
+    (77, Functional 57414) ∷ (88, Functional 57415) ∷ (69, Named KeyPadBegin) ∷ (71, Named KeyPadBegin) ∷ (106, Named Multiply)
+    ∷ (107, Named Add) ∷ (108, Named Separator) ∷ (109, Named Subtract) ∷ (110, Named Decimal) ∷ (111, Named Divide)
+    ∷ (112, Named Numpad0) ∷ (113, Named Numpad1) ∷ (114, Named Numpad2) ∷ (115, Named Numpad3) ∷ (116, Named Numpad4)
+    ∷ (117, Named Numpad5) ∷ (118, Named Numpad6) ∷ (119, Named Numpad7) ∷ (120, Named Numpad8) ∷ (121, Named Numpad9) ∷ []
 
 -- the keys with modifiers behind ESC O, by their letters: F1 to F4, and those of the keypad but its middle one
 abbrev pub modified_keypad_keys : List (ℕ × ReportedKey)

@@ -12,7 +12,7 @@ use crate::fields::{Fields, before_end};
 use crate::key_fields::{codes_of, is_text, manner_of, text_of};
 use crate::numbers::{number, number_within, scalar};
 use crate::reported_keys;
-use crate::reported_keys::LAST_FUNCTIONAL;
+use crate::reported_keys::{LAST_FUNCTIONAL, NO_KEY};
 use crate::types::{KeyEventKind, KeyReport, Manner, PlainReport, ReportedKey};
 use std::alloc::{AllocError, Global};
 use termwiz_keys::types::KeyCode;
@@ -158,10 +158,10 @@ fn key_of_code(c: char) -> KeyCode
     }
 }
 
-// 27 ; m ; c ~: the key of c, as xterm's modifyOtherKeys reports it.
-#[tactic(auto, unfolding(crate::specs::KeyReports::other_key))]
-fn other_key(t: &[u8]) -> Option<PlainReport>
-    ensures { option_map plain_report result ≡ rules.other_key t.now }
+// 27 ; m ; c ~: the bits of the modifiers, and c.
+#[tactic(auto, unfolding(crate::specs::KeyReports::other_held))]
+fn other_held(t: &[u8]) -> Option<(u8, char)>
+    ensures { result ≡ rules.other_held t.now }
 {
     let mut fields = Fields::new(before_end(t, b"~")?, b';');
     if fields.next()? != b"27".as_slice() {
@@ -169,26 +169,95 @@ fn other_key(t: &[u8]) -> Option<PlainReport>
     }
     let one_more = number(fields.next()?, 1, 256)?;
     let c = scalar(fields.next()?)?;
-    if fields.next().is_some() {
-        return None;
+    match fields.next() {
+        Some(_) => None,
+        None => Some(((one_more - 1) as u8, c)),
     }
-    let manner = Manner {
-        modifiers: (one_more - 1) as u8,
-        kind: KeyEventKind::Press,
-    };
-    Some(PlainReport {
-        key: ReportedKey::Named(key_of_code(c)),
-        manner,
-    })
+}
+
+// The key of this character as xterm reports it.
+fn other_code(c: char) -> ReportedKey
+    ensures { result ≡ rules.other_code c }
+{
+    if u32::from(c) == NO_KEY {
+        ReportedKey::Functional(NO_KEY)
+    } else {
+        ReportedKey::Named(key_of_code(c))
+    }
+}
+
+// Whether the character is what Shift made.
+fn is_shifted_by(modifiers: u8, c: char) -> bool
+    ensures { result ≡ rules.is_shifted_by modifiers c }
+{
+    modifiers & SHIFT_BIT != 0 && !c.is_control()
+}
+
+// The report of a key by its modifiers and its character.
+#[tactic(auto, unfolding(crate::specs::KeyReports::text_of))]
+fn other_report<'t>(modifiers: u8, c: char) -> SpelledReport<'t>
+    ensures { spelled_report result ≡ Some (rules.other_report (modifiers, c)) }
+{
+    SpelledReport {
+        key: other_code(c),
+        manner: Manner {
+            modifiers,
+            kind: KeyEventKind::Press,
+        },
+        shifted: if is_shifted_by(modifiers, c) {
+            Some(c)
+        } else {
+            None
+        },
+        base: None,
+        text: b"",
+    }
+}
+
+// 27 ; m ; c ~: the key of c, as xterm's modifyOtherKeys reports it.
+#[tactic(auto, unfolding(crate::specs::KeyReports::other_key))]
+fn other_key(t: &[u8]) -> Option<SpelledReport<'_>>
+    ensures { IsSpelled result (rules.other_key t.now) }
+{
+    let (modifiers, c) = other_held(t)?;
+    Some(other_report(modifiers, c))
 }
 
 // The report of a key that a tilde ends.
-fn tilde_report(t: &[u8]) -> Option<PlainReport>
-    ensures { option_map plain_report result ≡ first_some (rules.numbered_key t.now ∷ rules.other_key t.now ∷ []) }
+fn tilde_report(t: &[u8]) -> Option<SpelledReport<'_>>
+    ensures { IsSpelled result (first_some (rules.numbered_key t.now ∷ rules.other_key t.now ∷ [])) }
+{
+    match numbered_key(t) {
+        Some(report) => Some(SpelledReport::plain(report)),
+        None => other_key(t),
+    }
+}
+
+// The same key, if it is reported with no other character.
+#[tactic(auto, unfolding(crate::specs::KeyReports::other_key))]
+fn plain_other_key(t: &[u8]) -> Option<PlainReport>
+    ensures { IfSome result (λ report. rules.other_key t.now ≡ Some (plain_report report)) }
+{
+    let (modifiers, c) = other_held(t)?;
+    if is_shifted_by(modifiers, c) {
+        return None;
+    }
+    Some(PlainReport {
+        key: other_code(c),
+        manner: Manner {
+            modifiers,
+            kind: KeyEventKind::Press,
+        },
+    })
+}
+
+// The report of a key that a tilde ends, if it is reported with no other character.
+fn plain_tilde_report(t: &[u8]) -> Option<PlainReport>
+    ensures { IfSome result (λ report. first_some (rules.numbered_key t.now ∷ rules.other_key t.now ∷ []) ≡ Some (plain_report report)) }
 {
     match numbered_key(t) {
         Some(report) => Some(report),
-        None => other_key(t),
+        None => plain_other_key(t),
     }
 }
 
@@ -215,7 +284,7 @@ pub(crate) fn plain_report(t: &[u8]) -> Option<PlainReport>
         return plain_character_key(t);
     }
     if last == b'~' {
-        return tilde_report(t);
+        return plain_tilde_report(t);
     }
     lettered_key(t)
 }
@@ -239,7 +308,7 @@ pub(crate) fn key_report(t: &[u8]) -> Option<SpelledReport<'_>>
         return character_key(t);
     }
     if last == b'~' {
-        return without_text(tilde_report(t));
+        return tilde_report(t);
     }
     without_text(lettered_key(t))
 }
@@ -260,6 +329,83 @@ pub(crate) fn third_function_key(t: &[u8]) -> Option<PlainReport>
         }
         _ => None,
     }
+}
+
+// 1 ; modifiers : kind Z, of which ; and Z must be there: Tab with Shift and these modifiers.
+#[tactic(auto, unfolding(crate::specs::KeyReports::back_tab))]
+fn back_tab(t: &[u8]) -> Option<PlainReport>
+    ensures { option_map plain_report result ≡ rules.back_tab t.now }
+{
+    let mut fields = Fields::new(before_end(t, b"Z")?, b';');
+    match fields.next()? {
+        [] | [b'1'] => {}
+        _ => return None,
+    }
+    let manner = manner_of(fields.next()?)?;
+    match fields.next() {
+        Some(_) => None,
+        None => Some(PlainReport {
+            key: ReportedKey::Named(KeyCode::Tab),
+            manner: Manner {
+                modifiers: manner.modifiers | SHIFT_BIT,
+                kind: manner.kind,
+            },
+        }),
+    }
+}
+
+// The key of a letter after a digit: that of the letter alone, and F3.
+fn cursor_letter(letter: u8) -> Option<KeyCode>
+    ensures { result ≡ rules.cursor_letter letter }
+{
+    if letter == b'R' {
+        return Some(KeyCode::Function(3));
+    }
+    reported_keys::lettered_key(letter)
+}
+
+// m from 2 to 8 and a letter: the key of the letter with the modifiers of m, as xterm reports it by modifyCursorKeys 1.
+#[tactic(auto, unfolding(crate::specs::KeyReports::short_key))]
+fn short_key(t: &[u8]) -> Option<PlainReport>
+    ensures { option_map plain_report result ≡ rules.short_key t.now }
+{
+    match t {
+        [digit @ b'2'..=b'8', letter] => {
+            let key = cursor_letter(*letter)?;
+            Some(PlainReport {
+                key: ReportedKey::Named(key),
+                manner: Manner {
+                    modifiers: *digit - b'1',
+                    kind: KeyEventKind::Press,
+                },
+            })
+        }
+        _ => None,
+    }
+}
+
+// G: the middle key of the keypad.
+#[tactic(auto, unfolding(crate::specs::KeyReports::middle_key))]
+fn middle_key(t: &[u8]) -> Option<PlainReport>
+    ensures { option_map plain_report result ≡ rules.middle_key t.now }
+{
+    match t {
+        [b'G'] => Some(PlainReport {
+            key: ReportedKey::Named(KeyCode::KeyPadBegin),
+            manner: PRESSED,
+        }),
+        _ => None,
+    }
+}
+
+// The keys of a few terminals, by the first of these rules that fits.
+#[tactic(auto, unfolding(crate::specs::KeyReports::further_key))]
+pub(crate) fn further_key(t: &[u8]) -> Option<PlainReport>
+    ensures { option_map plain_report result ≡ rules.further_key t.now }
+{
+    back_tab(t)
+        .or_else(|| short_key(t))
+        .or_else(|| middle_key(t))
 }
 
 // The number of a key of rxvt-unicode's, without a leading zero.
@@ -350,7 +496,7 @@ fn modified_report(number: u8, letter: u8) -> Option<PlainReport>
     }
 }
 
-// m and a letter after ESC O, where 0 ; may stand before m: a key of the keypad, or F1 to F4, with modifiers.
+// m and a letter after ESC O, where 0 ; may stand before m: a key of the keypad, or F1 to F4, with modifiers. For F1 to F4 it may be 1 ; too.
 #[tactic(auto, unfolding(crate::specs::KeyReports::modified_keypad_key))]
 pub(crate) fn modified_keypad_key(t: &[u8]) -> Option<PlainReport>
     ensures { option_map plain_report result ≡ rules.modified_keypad_key t.now }
@@ -358,6 +504,7 @@ pub(crate) fn modified_keypad_key(t: &[u8]) -> Option<PlainReport>
     match t {
         [number, letter] => modified_report(*number, *letter),
         [b'0', b';', number, letter] => modified_report(*number, *letter),
+        [b'1', b';', number, letter @ b'P'..=b'S'] => modified_report(*number, *letter),
         _ => None,
     }
 }

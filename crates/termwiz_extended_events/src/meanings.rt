@@ -1,5 +1,5 @@
 // What a sequence means that the port doesn't know.
-ghost use Rattle.std.specs.Prelude.{◌≡◌, ◌↔◌, IfOk, IfSome, IsSome, IsTrue, OnErr, Some, unwrap_or};
+ghost use Rattle.std.specs.Prelude.{◌≡◌, ◌↔◌, true, false, option_map, IfOk, IfSome, IsSome, IsTrue, OnErr, Some, unwrap_or};
 ghost use Rattle.termwiz_extended_events.specs.declared.types.ExtendedEvent.{ExtendedEvent as Event};
 ghost use Rattle.termwiz_extended_events.specs.declared.types.ExtendedEvent.TheVariants.{Csi, Key};
 ghost use Rattle.termwiz_extended_events.specs.KeyReports.{plain_report};
@@ -10,7 +10,8 @@ use crate::fields::before_end;
 use crate::key_reports;
 pub use crate::key_reports::SpelledReport;
 use crate::key_reports::{
-    console_key, key_report, keypad_key, modified_keypad_key, rxvt_key, third_function_key,
+    console_key, further_key, key_report, keypad_key, modified_keypad_key, rxvt_key,
+    third_function_key,
 };
 use crate::replies::{focus, mouse_report, reply, side_button};
 use crate::types::{ExtendedEvent, PlainReport, SequenceBytes, SideButtonEvent, StringKind};
@@ -162,16 +163,26 @@ impl<'t> Meaning<'t> {
     }
 }
 
+// F3, whose sequences can also be positions of the cursor: it comes first where no question for one is open.
+fn unasked_key(t: &[u8], asks: bool) -> Option<PlainReport>
+    ensures { option_map plain_report result ≡ meaning.unasked_key asks t.now }
+{
+    if asks { None } else { third_function_key(t) }
+}
+
 // What follows ESC [, by the first rule that fits. What none reads is a control sequence.
 #[tactic(auto, unfolding(crate::specs::Meanings::reported))]
-fn reported(t: &[u8]) -> Meaning<'_>
-    ensures { event_from result ≡ Some (unwrap_or (reported t.now) (Csi t.now)) }
+fn reported(t: &[u8], asks: bool) -> Meaning<'_>
+    ensures { event_from result ≡ Some (unwrap_or (reported asks t.now) (Csi t.now)) }
 {
     if let Some(meaning) = focus(t) {
         return meaning;
     }
     if let Some(report) = key_report(t) {
         return Meaning::Key(report);
+    }
+    if let Some(report) = unasked_key(t, asks) {
+        return Meaning::Key(SpelledReport::plain(report));
     }
     if let Some(meaning) = reply(t) {
         return meaning;
@@ -188,7 +199,7 @@ fn reported(t: &[u8]) -> Meaning<'_>
     if let Some(event) = side_button(t) {
         return Meaning::SideButton(event);
     }
-    match console_key(t) {
+    match console_key(t).or_else(|| further_key(t)) {
         Some(report) => Meaning::Key(SpelledReport::plain(report)),
         None => Meaning::Csi(t),
     }
@@ -225,11 +236,11 @@ fn command_text(t: &[u8]) -> &[u8]
 
 // What follows ESC and a byte.
 #[tactic(auto, unfolding(crate::specs::Meanings::event_after))]
-fn meaning_after(byte: u8, t: &[u8]) -> Meaning<'_>
-    ensures { event_from result ≡ Some (event_after byte t.now) }
+fn meaning_after(byte: u8, t: &[u8], asks: bool) -> Meaning<'_>
+    ensures { event_from result ≡ Some (event_after asks byte t.now) }
 {
     match byte {
-        b'[' => reported(t),
+        b'[' => reported(t, asks),
         b'O' => keypad_reported(t),
         b']' => Meaning::Osc(command_text(t)),
         b'P' => Meaning::Dcs(string_text(t)),
@@ -242,16 +253,18 @@ fn meaning_after(byte: u8, t: &[u8]) -> Meaning<'_>
 #[tactic(auto, using(crate::proofs::PlainReports::plain_event))]
 #[inline(always)]
 fn plain_report_behind(t: &[u8]) -> Option<PlainReport>
-    ensures { IfSome result (λ report. meaning.reported t.now ≡ Some (Key (plain_report report))) }
+    ensures asked { IfSome result (λ report. meaning.reported true t.now ≡ Some (Key (plain_report report))) }
+    ensures unasked { IfSome result (λ report. meaning.reported false t.now ≡ Some (Key (plain_report report))) }
 {
     key_reports::plain_report(t)
 }
 
-/// The key report of a whole sequence, if it says no more than a key and its manner: a small value, and quicker than [`meaning_of`]. `None`
-/// decides nothing: the sequence may still be a key report.
+/// The key report of a whole sequence, if it says no more than a key and its manner: a small value, and quicker than [`meaning_of`]. It is
+/// the same whether a question for the cursor's position is open or not. `None` decides nothing: the sequence may still be a key report.
 #[tactic(auto, unfolding(crate::specs::Meanings::event_of, crate::specs::Meanings::event_after))]
 pub fn plain_report(text: &[u8]) -> Option<PlainReport>
-    ensures { IfSome result (λ report. meaning.event_of text.now ≡ Key (plain_report report)) }
+    ensures asked { IfSome result (λ report. meaning.event_of true text.now ≡ Key (plain_report report)) }
+    ensures unasked { IfSome result (λ report. meaning.event_of false text.now ≡ Key (plain_report report)) }
 {
     match text {
         [0x1b, b'[', t @ ..] => plain_report_behind(t),
@@ -260,22 +273,23 @@ pub fn plain_report(text: &[u8]) -> Option<PlainReport>
 }
 
 /// What one whole sequence means, which begins with ESC: by the first rule that fits. What no rule reads is a control sequence, `Csi`, of
-/// the bytes after the first two.
+/// the bytes after the first two. `asks` says that a question for the cursor's position is open: then `ESC [1;5R` is the position, and else
+/// it is F3 with Ctrl.
 #[tactic(auto, unfolding(crate::specs::Meanings::event_of))]
-pub fn meaning_of(text: &[u8]) -> Meaning<'_>
-    ensures { event_from result ≡ Some (meaning.event_of text.now) }
+pub fn meaning_of(text: &[u8], asks: bool) -> Meaning<'_>
+    ensures { event_from result ≡ Some (meaning.event_of asks text.now) }
 {
     match text {
-        [0x1b, byte, t @ ..] => meaning_after(*byte, t),
+        [0x1b, byte, t @ ..] => meaning_after(*byte, t, asks),
         [_, _, t @ ..] => Meaning::Csi(t),
         _ => Meaning::Csi(b""),
     }
 }
 
 /// The event of one whole sequence: [`meaning_of`] with its memory.
-pub fn event_of(alloc: Global, text: &[u8]) -> Result<ExtendedEvent, AllocError>
-    ensures ok { IfOk result (λ event. event ≡ meaning.event_of text.now) }
-    ensures refused { OnErr result (NeedsMemory (meaning.event_of text.now)) }
+pub fn event_of(alloc: Global, text: &[u8], asks: bool) -> Result<ExtendedEvent, AllocError>
+    ensures ok { IfOk result (λ event. event ≡ meaning.event_of asks text.now) }
+    ensures refused { OnErr result (NeedsMemory (meaning.event_of asks text.now)) }
 {
-    meaning_of(text).event(alloc)
+    meaning_of(text, asks).event(alloc)
 }

@@ -10,6 +10,9 @@ use termwiz_keys::types::KeyCode;
 // Kitty's numbers of functional keys run from here to there.
 const FIRST_FUNCTIONAL: u32 = 57344;
 
+// The number of a text that no key typed.
+pub(crate) const NO_KEY: u32 = 0;
+
 pub(crate) const LAST_FUNCTIONAL: u32 = 63743;
 
 // The keys that a letter ends.
@@ -40,6 +43,7 @@ const KEYPAD_KEYS: &[(u8, ReportedKey)] = &[
     (b'M', ReportedKey::Functional(57414)),
     (b'X', ReportedKey::Functional(57415)),
     (b'E', ReportedKey::Named(KeyCode::KeyPadBegin)),
+    (b'G', ReportedKey::Named(KeyCode::KeyPadBegin)),
     (b'j', ReportedKey::Named(KeyCode::Multiply)),
     (b'k', ReportedKey::Named(KeyCode::Add)),
     (b'l', ReportedKey::Named(KeyCode::Separator)),
@@ -98,7 +102,9 @@ const EDIT_KEYS: &[(u32, KeyCode)] = &[
 
 // The keys of control characters.
 const CONTROL_KEYS: &[(u32, KeyCode)] = &[
+    (8, KeyCode::Backspace),
     (9, KeyCode::Tab),
+    (10, KeyCode::Enter),
     (13, KeyCode::Enter),
     (27, KeyCode::Escape),
     (127, KeyCode::Backspace),
@@ -221,6 +227,9 @@ pub(crate) fn key_of(c: char) -> ReportedKey
     ensures { result ≡ key_of c }
 {
     let number = u32::from(c);
+    if number == NO_KEY {
+        return ReportedKey::Functional(NO_KEY);
+    }
     if is_functional(number) {
         return functional_key(number);
     }

@@ -48,7 +48,7 @@ pub record IsUsual (reading : Reading) (u : List ℕ) (more : Bool) : Type 0 whe
 pub data Stands (reading : Reading) (u : List ℕ) (more : Bool) : List ℕ → ExtendedEvent → Type 0 where
   extra : (text left : List ℕ) (event : ExtendedEvent) → IsExtra reading text event → u ≡ text ++ left
       → Stands reading u more left event
-  alt_key : (text left : List ℕ) (event : ExtendedEvent) → IsExtra reading text event → IsBareKey text → u ≡ ESC ++ (text ++ left)
+  alt_key : (text left : List ℕ) (event : ExtendedEvent) → IsExtra reading text event → IsBareKey reading text → u ≡ ESC ++ (text ++ left)
       → Stands reading u more left (with_alt event)
   lone_escape : (left : List ℕ) → u ≡ ESC ++ left → StartsApart reading left
       → Stands reading u more left (Input (Key escape))

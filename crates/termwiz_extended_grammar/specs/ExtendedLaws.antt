@@ -102,13 +102,13 @@ EndsWithEscape reading T = (E : List ExtendedEvent) × Steps reading T false E E
 -- before it.
 abbrev pub SequenceStands : Type 0
 SequenceStands = (reading : Reading) (T x S W : List ℕ) (E D : List ExtendedEvent) (e : ExtendedEvent) (f : Bool)
-    → Means reading T false E [] → (¬ IsBareKey x) ⊎ (¬ EndsWithEscape reading T) → IsExtra (after_events reading E) x e
+    → Means reading T false E [] → (¬ IsBareKey (after_events reading E) x) ⊎ (¬ EndsWithEscape reading T) → IsExtra (after_events reading E) x e
     → Means (after_event (after_events reading E) e) S f D W → Means reading (T ++ (x ++ S)) f (E ++ e ∷ D) W
 
 -- After an ESC that is left for more to come, a bare key is one item with it: the key with ALT.
 abbrev pub BareKeysAreJoined : Type 0
 BareKeysAreJoined = (reading : Reading) (T x S W : List ℕ) (E D : List ExtendedEvent) (e : ExtendedEvent) (f : Bool)
-    → Steps reading T true E ESC → IsBareKey x → IsExtra (after_events reading E) x e
+    → Steps reading T true E ESC → IsBareKey (after_events reading E) x → IsExtra (after_events reading E) x e
     → Means (after_events reading E) S f D W → Means reading (T ++ (x ++ S)) f (E ++ with_alt e ∷ D) W
 
 -- z, before S, ends a string of this kind with this event, and S is left whole. It is an end; or nothing, where S cuts the string; or the ESC

@@ -10,8 +10,9 @@ use Rattle.termwiz_extended_events.specs.declared.types.ExtendedEvent.TheVariant
 use Rattle.termwiz_extended_events.specs.declared.types.Protocol.{Protocol}
 use Rattle.termwiz_extended_events.specs.declared.types.Protocol.TheVariants.{Legacy, Kitty}
 use Rattle.termwiz_extended_events.specs.declared.types.Reading.{Reading}
-use Rattle.termwiz_extended_events.specs.Meanings.{event_of, IsKey, IsPosition, IsKeyOrPosition}
-use Rattle.termwiz_extended_grammar.specs.Forms.{IsForm, IsKeypadKey}
+use Rattle.termwiz_extended_events.specs.Meanings.{IsKey, IsPosition, IsKeyOrPosition}
+use Rattle.termwiz_extended_grammar.specs.Forms.{IsForm, IsKeypadKey, IsModifierDigit}
+use Rattle.termwiz_extended_grammar.specs.Readings.{event_in}
 
 -- The event of a row that isn't left to the port: under `Protocol::Kitty` a report of a key or of the cursor's position. Under
 -- `Protocol::Legacy` it is a position, while a question for one is open.
@@ -22,13 +23,13 @@ Overrides Kitty questions event = IsKeyOrPosition event
 -- The port doesn't read the text, or it is a row that isn't left to the port.
 abbrev pub IsFree : Reading → List ℕ → Type 0
 IsFree reading text = (m : Meaning) → IsSequence text m
-    → ((key : KeyEvent) × (m ≡ Row key) × Overrides reading.protocol reading.questions (event_of text))
+    → ((key : KeyEvent) × (m ≡ Row key) × Overrides reading.protocol reading.questions (event_in reading text))
 
 -- an extra sequence with its event
 pub record IsExtra (reading : Reading) (text : List ℕ) (event : ExtendedEvent) : Type 0 where
   pub is_form : IsForm reading.x10_mouse text
   pub is_free : IsFree reading text
-  pub means : event ≡ event_of text
+  pub means : event ≡ event_in reading text
 
 -- an extra sequence begins u
 pub record StartsWithExtra (reading : Reading) (u : List ℕ) : Type 0 where
@@ -56,11 +57,31 @@ EndsAsRxvt text = (front : List ℕ) × (last : ℕ) × (text ≡ front ++ last 
 abbrev pub IsRxvtFunction : List ℕ → Type 0
 IsRxvtFunction text = (digit : ℕ) × (text ≡ CSI ++ 51 ∷ digit ∷ codes "~") × ((53 ≤ digit) × (digit ≤ 56))
 
--- A bare key: a key report that terminals send after ESC where Alt is held. It is a row of the table, a key of the keypad, or one of
--- rxvt-unicode's.
-pub record IsBareKey (text : List ℕ) : Type 0 where
-  pub is_key : IsKey (event_of text)
-  pub layout : IsRow text ⊎ (IsKeypadKey text ⊎ (EndsAsRxvt text ⊎ IsRxvtFunction text))
+-- the letter of a cursor key, or of F1 to F4: A to F, H, and P to S
+abbrev pub IsCursorLetter : ℕ → Type 0
+IsCursorLetter b = ((65 ≤ b) × (b ≤ 70)) ⊎ ((b ≡ 72) ⊎ ((80 ≤ b) × (b ≤ 83)))
+
+-- ends with Z
+abbrev pub EndsWithZ : List ℕ → Type 0
+EndsWithZ text = (front : List ℕ) × (text ≡ front ++ codes "Z")
+
+-- begins with ESC [ and ends with Z
+abbrev pub IsBackTab : List ℕ → Type 0
+IsBackTab text = Begins CSI text × EndsWithZ text
+
+-- ESC [, a digit from 2 to 8 and such a letter
+abbrev pub IsShortKey : List ℕ → Type 0
+IsShortKey text = (digit : ℕ) × (letter : ℕ) × (text ≡ CSI ++ digit ∷ letter ∷ []) × IsModifierDigit digit × IsCursorLetter letter
+
+-- one of both, or ESC [G
+abbrev pub IsLetteredKey : List ℕ → Type 0
+IsLetteredKey text = IsBackTab text ⊎ (IsShortKey text ⊎ (text ≡ CSI ++ codes "G"))
+
+-- A bare key: a key report that terminals send after ESC where Alt is held. It is a row of the table, a key of the keypad, one of
+-- rxvt-unicode's, or one of these.
+pub record IsBareKey (reading : Reading) (text : List ℕ) : Type 0 where
+  pub is_key : IsKey (event_in reading text)
+  pub layout : IsRow text ⊎ (IsKeypadKey text ⊎ (EndsAsRxvt text ⊎ (IsRxvtFunction text ⊎ IsLetteredKey text)))
 
 -- the event of a bare key after ESC: its report has Kitty's bit of ALT too
 abbrev pub with_alt : ExtendedEvent → ExtendedEvent
@@ -72,5 +93,5 @@ pub record StartsWithOther (reading : Reading) (u : List ℕ) : Type 0 where
   pub text : List ℕ
   pub event : ExtendedEvent
   pub is_extra : IsExtra reading text event
-  pub not_bare : ¬ IsBareKey text
+  pub not_bare : ¬ IsBareKey reading text
   pub begins : Begins text u

@@ -36,9 +36,9 @@ IsRowDigit b = (49 ≤ b) × (b ≤ 56)
 abbrev pub IsConsoleLetter : ℕ → Type 0
 IsConsoleLetter b = (65 ≤ b) × (b ≤ 69)
 
--- the letter of a key of the application keypad: M, X, E, and j to y
+-- the letter of a key of the application keypad: M, X, E, G, and j to y
 abbrev pub IsKeypadLetter : ℕ → Type 0
-IsKeypadLetter b = (b ≡ 77) ⊎ ((b ≡ 88) ⊎ ((b ≡ 69) ⊎ ((106 ≤ b) × (b ≤ 121))))
+IsKeypadLetter b = (b ≡ 77) ⊎ ((b ≡ 88) ⊎ ((b ≡ 69) ⊎ ((b ≡ 71) ⊎ ((106 ≤ b) × (b ≤ 121)))))
 
 -- a digit from 2 to 8, which is one more than the bits of the modifiers
 abbrev pub IsModifierDigit : ℕ → Type 0
@@ -136,15 +136,23 @@ pub record IsKeypadKey (text : List ℕ) : Type 0 where
   pub form : text ≡ SS3 ++ letter ∷ []
   pub letter_is : IsKeypadLetter letter
 
--- A key of the application keypad, or F1 to F4, with modifiers: ESC O, a digit and a letter. mlterm writes 0; before the digit.
+-- what may stand between ESC O and that digit: nothing, 0; as mlterm writes it, or 1; as tmux does
+abbrev pub IsModifiedFront : List ℕ → Type 0
+IsModifiedFront front = (front ≡ []) ⊎ ((front ≡ codes "0;") ⊎ (front ≡ codes "1;"))
+
+-- the letter behind both: after 1; it is P to S
+abbrev pub IsLetterBehind : List ℕ → ℕ → Type 0
+IsLetterBehind front letter = IsModifiedLetter letter × (front ≡ codes "1;" → (80 ≤ letter) × (letter ≤ 83))
+
+-- A key of the application keypad, or F1 to F4, with modifiers: ESC O, a digit and a letter.
 pub record IsModifiedKeypadKey (text : List ℕ) : Type 0 where
   pub front : List ℕ
   pub digit : ℕ
   pub letter : ℕ
   pub form : text ≡ SS3 ++ front ++ digit ∷ letter ∷ []
-  pub front_is : (front ≡ []) ⊎ (front ≡ codes "0;")
+  pub front_is : IsModifiedFront front
   pub digit_is : IsModifierDigit digit
-  pub letter_is : IsModifiedLetter letter
+  pub letter_is : IsLetterBehind front letter
 
 -- A key of rxvt-unicode's with Shift: ESC [, its number and $.
 pub record IsShiftedKey (text : List ℕ) : Type 0 where

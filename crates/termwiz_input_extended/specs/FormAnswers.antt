@@ -1,5 +1,5 @@
 -- What the recogniser of forms answers.
-use Rattle.std.specs.Prelude.{◌≡◌, ◌⊎◌, ℕ, ◌+◌, ◌≤◌, Bool, List, [], ◌∷◌, ◌++◌, codes, length, take, slice_index}
+use Rattle.std.specs.Prelude.{◌≡◌, ◌⊎◌, ℕ, ◌+◌, ◌≤◌, Bool, List, [], ◌∷◌, ◌++◌, length, take, slice_index, Option, Some, None}
 use Rattle.std.specs.List.{AllByRecursion}
 use Rattle.termwiz_keymap.specs.Bytes.{Begins}
 use Rattle.termwiz_keys.specs.Introducers.{CSI}
@@ -44,9 +44,14 @@ IsShiftedDigit rest = (2 ≤ length rest) × (slice_index rest 1 ≡ 36) × IsRx
 abbrev pub IsShiftedPair : List ℕ → Type 0
 IsShiftedPair rest = (3 ≤ length rest) × (slice_index rest 2 ≡ 36) × IsRxvtPair (slice_index rest 0) (slice_index rest 1)
 
--- what may stand between ESC O and the digit of a key with modifiers
-abbrev pub IsModifiedFront : List ℕ → Type 0
-IsModifiedFront front = (front ≡ []) ⊎ (front ≡ codes "0;")
+-- what stands between ESC O and the digit of a key with modifiers: this byte and a semicolon, or nothing
+abbrev pub front_of : Option ℕ → List ℕ
+front_of None = []
+front_of (Some first) = first ∷ 59 ∷ []
+
+-- 0 or 1, which may stand there
+abbrev pub IsPartedFirst : ℕ → Type 0
+IsPartedFirst first = (first ≡ 48) ⊎ (first ≡ 49)
 
 -- what follows ESC [ begins like a row with `$`
 abbrev pub IsRow : List ℕ → Type 0

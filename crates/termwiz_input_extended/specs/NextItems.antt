@@ -14,12 +14,12 @@ use Rattle.termwiz_extended_events.specs.declared.types.ExtendedEvent.{ExtendedE
 use Rattle.termwiz_extended_events.specs.declared.types.ExtendedEvent.TheVariants.{Input}
 use Rattle.termwiz_extended_events.specs.declared.types.Reading.{Reading}
 use Rattle.termwiz_extended_events.specs.declared.types.Protocol.TheVariants.{Legacy}
-use Rattle.termwiz_extended_events.specs.Meanings.{event_of, NeedsMemory}
+use Rattle.termwiz_extended_events.specs.Meanings.{NeedsMemory}
 use Rattle.termwiz_grammar.specs.Grammar.{IsOpen, IsUnfinishedSequence}
 use Rattle.termwiz_grammar.specs.Table.{rows as table_rows}
 use Rattle.termwiz_extended_grammar.specs.Forms.{IsForm, IsUnfinishedForm}
 use Rattle.termwiz_extended_grammar.specs.ExtraSequences.{Overrides, IsExtra, IsBareKey}
-use Rattle.termwiz_extended_grammar.specs.Readings.{after_event, after_events}
+use Rattle.termwiz_extended_grammar.specs.Readings.{after_event, after_events, event_in}
 use Rattle.termwiz_extended_grammar.specs.Strings.{StartsWithOpening, IsUnfinishedOpening}
 use Rattle.termwiz_extended_grammar.specs.ExtendedGrammar.{HasItem, IsRest, Stands, StartsApart, Steps}
 use Rattle.termwiz_extended_grammar.specs.ExtendedLaws.{HasNoExtra}
@@ -41,7 +41,7 @@ LeavesRows reading = (reading.protocol ≡ Legacy) × (reading.questions ≡ 0)
 
 -- the text isn't left to the port, even if it is a row
 abbrev pub IsReported : Reading → List ℕ → Type 0
-IsReported reading text = Overrides reading.protocol reading.questions (event_of text)
+IsReported reading text = Overrides reading.protocol reading.questions (event_in reading text)
 
 -- the text is an extra sequence
 abbrev pub IsSomeExtra : Reading → List ℕ → Type 0
@@ -116,16 +116,16 @@ pub record IsFormAt (reading : Reading) (u : List ℕ) (len : ℕ) : Type 0 wher
 
 -- the first so many bytes of the text are an extra sequence
 abbrev pub IsExtraAt : Reading → List ℕ → ℕ → Type 0
-IsExtraAt reading u len = (len ≤ length u) × IsExtra reading (take len u) (event_of (take len u))
+IsExtraAt reading u len = (len ≤ length u) × IsExtra reading (take len u) (event_in reading (take len u))
 
 -- the first so many bytes of the text are a bare key
 abbrev pub IsBareKeyAt : Reading → List ℕ → ℕ → Type 0
-IsBareKeyAt reading u len = IsExtraAt reading u len × IsBareKey (take len u)
+IsBareKeyAt reading u len = IsExtraAt reading u len × IsBareKey reading (take len u)
 
 -- how a form is read after an ESC
 abbrev pub IsReadAfterEscape : Reading → List ℕ → AfterEscape → Type 0
-IsReadAfterEscape reading text Joined = IsSomeExtra reading text × IsBareKey text
-IsReadAfterEscape reading text Apart = IsSomeExtra reading text × (¬ IsBareKey text)
+IsReadAfterEscape reading text Joined = IsSomeExtra reading text × IsBareKey reading text
+IsReadAfterEscape reading text Apart = IsSomeExtra reading text × (¬ IsBareKey reading text)
 IsReadAfterEscape reading text OfPort = ¬ IsSomeExtra reading text
 
 -- a control character, but ESC, that is a row of the sequence table

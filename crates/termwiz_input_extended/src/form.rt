@@ -10,13 +10,15 @@ ghost use Rattle.termwiz_extended_grammar.specs.Forms.{
   IsConsoleLetter,
   IsKeypadLetter,
   IsModifierDigit,
+  IsModifiedFront,
   IsModifiedLetter,
+  IsLetterBehind,
   IsRxvtDigit,
   IsRxvtPair,
   IsTitleLetter,
   IsUnfinishedForm,
 };
-ghost use Rattle.termwiz_input_extended.specs.FormAnswers.{HasForm, IsModifiedFront, IsScanned, IsShiftedDigit, IsShiftedOf, IsShiftedPair, IsRow, StartsShifted};
+ghost use Rattle.termwiz_input_extended.specs.FormAnswers.{HasForm, IsPartedFirst, IsScanned, IsShiftedDigit, IsShiftedOf, IsShiftedPair, IsRow, StartsShifted, front_of};
 
 use crate::string::{EndAt, TYPED_TITLE, data_end, end_at};
 use termwiz_extended_events::types::StringKind;
@@ -65,7 +67,7 @@ fn is_console_letter(byte: u8) -> bool
 pub(crate) fn is_keypad_letter(byte: u8) -> bool
     ensures { IsTrue result ↔ IsKeypadLetter byte }
 {
-    matches!(byte, b'M' | b'X' | b'E' | b'j'..=b'y')
+    matches!(byte, b'M' | b'X' | b'E' | b'G' | b'j'..=b'y')
 }
 
 // Whether a byte is the letter of a title.
@@ -206,16 +208,25 @@ fn console_key_at(rest: &[u8]) -> FormAt
     }
 }
 
-// The form at the front of ESC O, what may stand before a digit, the digit, and the rest: `before` bytes are before the rest.
-fn modified_key_at(rest: &[u8], before: usize) -> FormAt
-    requires { before < 10 }
-    ensures { (x10_mouse : Bool) (front : List ℕ) (digit : ℕ) → IsModifiedFront front → IsModifierDigit digit → before ≡ 3 + length front
-        → HasForm x10_mouse (SS3 ++ front ++ digit ∷ rest.now) result }
+// Whether a byte is such a letter behind the digit, where this byte and `;` stand before it, or nothing: behind 1; it is P to S.
+fn is_letter_behind(first: Option<u8>, letter: u8) -> bool
+    ensures { IsTrue result ↔ IsLetterBehind (front_of first) letter }
+{
+    match first {
+        Some(b'1') => matches!(letter, b'P'..=b'S'),
+        _ => is_modified_letter(letter),
+    }
+}
+
+// The form at the front of ESC O, what may stand before a digit, the digit, and the rest.
+fn modified_key_at(first: Option<u8>, rest: &[u8]) -> FormAt
+    requires { IsModifiedFront (front_of first) }
+    ensures { (x10_mouse : Bool) (digit : ℕ) → IsModifierDigit digit → HasForm x10_mouse (SS3 ++ front_of first ++ digit ∷ rest.now) result }
 {
     match rest.first() {
         Some(letter) => {
-            if is_modified_letter(*letter) {
-                FormAt::Whole(before + 1)
+            if is_letter_behind(first, *letter) {
+                FormAt::Whole(INTRODUCED + if first.is_some() { 4 } else { 2 })
             } else {
                 FormAt::Absent
             }
@@ -224,14 +235,15 @@ fn modified_key_at(rest: &[u8], before: usize) -> FormAt
     }
 }
 
-// The form at the front of ESC O0; and the rest.
-fn parted_key_at(rest: &[u8]) -> FormAt
-    ensures { (x10_mouse : Bool) → HasForm x10_mouse (SS3 ++ 48 ∷ 59 ∷ rest.now) result }
+// The form at the front of ESC O, 0; or 1;, and the rest.
+fn parted_key_at(first: u8, rest: &[u8]) -> FormAt
+    requires { IsPartedFirst first }
+    ensures { (x10_mouse : Bool) → HasForm x10_mouse (SS3 ++ first ∷ 59 ∷ rest.now) result }
 {
     match rest.first() {
         Some(digit) => {
             if is_modifier_digit(*digit) {
-                modified_key_at(&rest[1..], 5)
+                modified_key_at(Some(first), &rest[1..])
             } else {
                 FormAt::Absent
             }
@@ -240,20 +252,28 @@ fn parted_key_at(rest: &[u8]) -> FormAt
     }
 }
 
-// The form at the front of ESC O0 and the rest.
-fn zeroed_key_at(rest: &[u8]) -> FormAt
-    ensures { (x10_mouse : Bool) → HasForm x10_mouse (SS3 ++ 48 ∷ rest.now) result }
+// The form at the front of ESC O, 0 or 1, and the rest.
+fn begun_key_at(first: u8, rest: &[u8]) -> FormAt
+    requires { IsPartedFirst first }
+    ensures { (x10_mouse : Bool) → HasForm x10_mouse (SS3 ++ first ∷ rest.now) result }
 {
     match rest.first() {
         Some(separator) => {
             if *separator == b';' {
-                parted_key_at(&rest[1..])
+                parted_key_at(first, &rest[1..])
             } else {
                 FormAt::Absent
             }
         }
         None => FormAt::Unfinished,
     }
+}
+
+// Whether a byte and `;` may stand before the digit.
+fn is_parted_first(byte: u8) -> bool
+    ensures { IsTrue result ↔ IsPartedFirst byte }
+{
+    matches!(byte, b'0' | b'1')
 }
 
 // The form at the front of ESC O and the rest.
@@ -265,9 +285,9 @@ fn keypad_key_at(rest: &[u8]) -> FormAt
             if is_keypad_letter(*first) {
                 FormAt::Whole(3)
             } else if is_modifier_digit(*first) {
-                modified_key_at(&rest[1..], 3)
-            } else if *first == b'0' {
-                zeroed_key_at(&rest[1..])
+                modified_key_at(None, &rest[1..])
+            } else if is_parted_first(*first) {
+                begun_key_at(*first, &rest[1..])
             } else {
                 FormAt::Absent
             }

@@ -18,11 +18,12 @@ ghost use Rattle.termwiz_input_extended.specs.StringAnswers.{IsOpeningOf};
 
 use crate::characters::{control_key, match_character};
 use crate::form::INTRODUCED;
-use crate::next_item::{NextItem, is_extra_at, next_item, plain_report_at, string_meaning};
+use crate::next_item::{
+    NextItem, is_extra_at, meaning_in, next_item, plain_report_at, string_meaning,
+};
 use crate::string::{OpeningAt, StringAt, opening_at, string_at};
 use std::alloc::{AllocError, Global};
 use std::marker::Model;
-use termwiz_extended_events::meanings::meaning_of;
 use termwiz_extended_events::types::{ExtendedEvent, KeyReport, Protocol, Reading, StringKind};
 pub use termwiz_extended_grammar::waiting::ExtendedWaiting;
 pub use termwiz_input::input::ParseError;
@@ -348,7 +349,7 @@ impl ExtendedParser {
         ensures { Emits self.old maybe_more self.new result }
     {
         let text = self.waiting_text();
-        let meaning = meaning_of(&text[..len]);
+        let meaning = meaning_in(self.reading, &text[..len]);
         if !is_extra_at(&self.parser, self.reading, text, len, &meaning) {
             return self.next_of_port(maybe_more);
         }
@@ -369,7 +370,7 @@ impl ExtendedParser {
         ensures { Emits self.old maybe_more self.new result }
     {
         let text = self.waiting_text();
-        let event = meaning_of(&text[1..1 + len]).event(self.alloc)?;
+        let event = meaning_in(self.reading, &text[1..1 + len]).event(self.alloc)?;
         self.consume(1 + len);
         Ok(Some(with_alt(event)))
     }
@@ -659,7 +660,13 @@ impl ExtendedParser {
         let text = self.waiting_text();
         match self.next_item(maybe_more) {
             NextItem::Form(len)
-                if is_extra_at(&self.parser, reading, text, len, &meaning_of(&text[..len])) => true,
+                if is_extra_at(
+                    &self.parser,
+                    reading,
+                    text,
+                    len,
+                    &meaning_in(reading, &text[..len]),
+                ) => true,
             NextItem::Form(_) => self.parser.has_item(maybe_more),
             NextItem::Paste => self.parser.has_item(maybe_more),
             NextItem::Usual => self.parser.has_item(maybe_more),

@@ -1,7 +1,7 @@
 // What is at the front of a text: an extra sequence, a string, the Escape key before one, or what the port finds there.
 ghost use Rattle.std.specs.Prelude.{◌≡◌, ◌≢◌, ◌↔◌, ◌++◌, ℕ, Bool, false, List, [], take, IfSome, IsTrue, Some, Contains};
 ghost use Rattle.termwiz_keymap.specs.Bytes.{Begins};
-ghost use Rattle.termwiz_keys.specs.Introducers.{ESC, START};
+ghost use Rattle.termwiz_keys.specs.Introducers.{ESC, CSI, START};
 ghost use Rattle.termwiz_keys.specs.declared.types.InputEvent.TheVariants.{Key as PortsKey};
 ghost use Rattle.termwiz_keys.specs.declared.types.KeyEvent.{KeyEvent as Key};
 ghost use Rattle.termwiz_keys.specs.declared.types.MouseEvent.{MouseEvent as Mouse};
@@ -11,9 +11,10 @@ ghost use Rattle.termwiz_input.specs.Matches.{IsItemAt};
 ghost use Rattle.termwiz_input.specs.MouseReportAnswers.{HasNoPartInMouseReports};
 ghost use Rattle.termwiz_extended_events.specs.declared.types.ExtendedEvent.TheVariants.{Key as KeyReported};
 ghost use Rattle.termwiz_extended_events.specs.KeyReports.{plain_report};
-ghost use Rattle.termwiz_extended_events.specs.Meanings.{event_from, event_of};
+ghost use Rattle.termwiz_extended_events.specs.Meanings.{event_from};
 ghost use Rattle.termwiz_extended_grammar.specs.Forms.{IsForm, IsKeypadKey};
-ghost use Rattle.termwiz_extended_grammar.specs.ExtraSequences.{EndsAsRxvt, IsBareKey, IsRxvtFunction};
+ghost use Rattle.termwiz_extended_grammar.specs.ExtraSequences.{EndsAsRxvt, EndsWithZ, IsBackTab, IsBareKey, IsCursorLetter, IsLetteredKey, IsRxvtFunction, IsShortKey};
+ghost use Rattle.termwiz_extended_grammar.specs.Readings.{event_in};
 ghost use Rattle.termwiz_input_extended.specs.FormAnswers.{IsScanned};
 ghost use Rattle.termwiz_input_extended.specs.StringAnswers.{HasOpening, string_event};
 ghost use Rattle.termwiz_input_extended.specs.NextItems.{IsFormMatch, HasNoLongRow, IsNextItem, IsExtraAt, IsFormAt, IsRowMatch, IsPortsOwn, IsReadAfterEscape, IsReported, IsScannedTo, IsSomeExtra, LeavesRows};
@@ -96,6 +97,13 @@ fn is_table_row(parser: &InputParser, bytes: &[u8]) -> bool
     }
 }
 
+// What a sequence means as it is read: while a question for the cursor's position is open, it may be the reply.
+pub(crate) fn meaning_in(reading: Reading, text: &[u8]) -> Meaning<'_>
+    ensures { event_from result ≡ Some (event_in reading text.now) }
+{
+    meaning_of(text, reading.questions > 0)
+}
+
 // Whether all rows of the sequence table are left to the port.
 fn leaves_rows(reading: Reading) -> bool
     ensures { IsTrue result ↔ LeavesRows reading }
@@ -108,7 +116,7 @@ fn leaves_rows(reading: Reading) -> bool
 
 // Whether a form of this meaning isn't left to the port, even if it is a row.
 fn is_reported(reading: Reading, meaning: &Meaning<'_>) -> bool
-    ensures { (form : List ℕ) → event_from meaning.now ≡ Some (event_of form) → IsTrue result ↔ IsReported reading form }
+    ensures { (form : List ℕ) → event_from meaning.now ≡ Some (event_in reading form) → IsTrue result ↔ IsReported reading form }
 {
     match reading.protocol {
         Protocol::Legacy => reading.questions > 0 && meaning.is_position(),
@@ -120,7 +128,7 @@ fn is_reported(reading: Reading, meaning: &Meaning<'_>) -> bool
 fn is_extra(parser: &InputParser, reading: Reading, form: &[u8], meaning: &Meaning<'_>) -> bool
     requires form { IsForm reading.x10_mouse form.now }
     requires no_mouse { (event : Mouse) → ¬ IsMouseReport form.now event }
-    requires means { event_from meaning.now ≡ Some (event_of form.now) }
+    requires means { event_from meaning.now ≡ Some (event_in reading form.now) }
     ensures { IsTrue result ↔ IsSomeExtra reading form.now }
 {
     if is_reported(reading, meaning) {
@@ -139,6 +147,13 @@ fn is_keypad_key(form: &[u8]) -> bool
     }
 }
 
+// Whether a byte is the letter of a cursor key, or of F1 to F4.
+fn is_cursor_letter(byte: u8) -> bool
+    ensures { IsTrue result ↔ IsCursorLetter byte }
+{
+    matches!(byte, b'A'..=b'F' | b'H' | b'P'..=b'S')
+}
+
 // Whether a text ends with ^, @ or $, as the keys that rxvt-unicode sends with Ctrl or Shift.
 fn ends_as_rxvt(form: &[u8]) -> bool
     ensures { IsTrue result ↔ EndsAsRxvt form.now }
@@ -153,15 +168,56 @@ fn is_rxvt_function(form: &[u8]) -> bool
     matches!(form, [ESCAPE, b'[', b'3', b'5'..=b'8', b'~'])
 }
 
+// Whether a text begins with ESC [.
+fn is_introduced(form: &[u8]) -> bool
+    ensures { IsTrue result ↔ Begins CSI form.now }
+{
+    matches!(form, [ESCAPE, b'[', ..])
+}
+
+// Whether a text ends with Z.
+fn ends_with_z(form: &[u8]) -> bool
+    ensures { IsTrue result ↔ EndsWithZ form.now }
+{
+    matches!(form.last(), Some(b'Z'))
+}
+
+// Whether a text begins with ESC [ and ends with Z.
+fn is_back_tab(form: &[u8]) -> bool
+    ensures { IsTrue result ↔ IsBackTab form.now }
+{
+    is_introduced(form) && ends_with_z(form)
+}
+
+// Whether a text is ESC [, a digit from 2 to 8, and the letter of a cursor key or of F1 to F4.
+fn is_short_key(form: &[u8]) -> bool
+    ensures { IsTrue result ↔ IsShortKey form.now }
+{
+    match form {
+        [ESCAPE, b'[', b'2'..=b'8', letter] => is_cursor_letter(*letter),
+        _ => false,
+    }
+}
+
+// Whether a text is one of both, or ESC [G.
+fn is_lettered_key(form: &[u8]) -> bool
+    ensures { IsTrue result ↔ IsLetteredKey form.now }
+{
+    is_back_tab(form) || is_short_key(form) || matches!(form, [ESCAPE, b'[', b'G'])
+}
+
 // Whether a text of this meaning is a bare key, to which ESC is joined.
 fn is_bare_key(parser: &InputParser, form: &[u8], meaning: &Meaning<'_>) -> bool
-    requires { event_from meaning.now ≡ Some (event_of form.now) }
-    ensures { IsTrue result ↔ IsBareKey form.now }
+    ensures { (reading : Reading) → event_from meaning.now ≡ Some (event_in reading form.now) → IsTrue result ↔ IsBareKey reading form.now }
 {
     if !meaning.is_key() {
         return false;
     }
-    if is_keypad_key(form) || ends_as_rxvt(form) || is_rxvt_function(form) {
+    if is_keypad_key(form)
+        || ends_as_rxvt(form)
+        || is_rxvt_function(form)
+        || is_lettered_key(form)
+    {
         return true;
     }
     is_table_row(parser, form)
@@ -186,7 +242,7 @@ fn after_escape(parser: &InputParser, reading: Reading, form: &[u8]) -> AfterEsc
     requires no_mouse { (event : Mouse) → ¬ IsMouseReport form.now event }
     ensures { IsReadAfterEscape reading form.now result }
 {
-    let meaning = meaning_of(form);
+    let meaning = meaning_in(reading, form);
     if !is_extra(parser, reading, form, &meaning) {
         AfterEscape::OfPort
     } else if is_bare_key(parser, form, &meaning) {
@@ -207,7 +263,7 @@ pub(crate) fn is_extra_at(
     meaning: &Meaning<'_>,
 ) -> bool
     requires form { IsFormAt reading text.now len }
-    requires means { event_from meaning.now ≡ Some (event_of (take len text.now)) }
+    requires means { event_from meaning.now ≡ Some (event_in reading (take len text.now)) }
     ensures some { IsTrue result → IsExtraAt reading text.now len }
     ensures none { result ≡ false → (more : Bool) → IsPortsOwn reading text.now more }
 {
@@ -222,7 +278,7 @@ pub(crate) fn is_extra_at(
 #[inline(never)]
 pub(crate) fn plain_report_at(reading: Reading, text: &[u8], len: usize) -> Option<PlainReport>
     requires { IsFormAt reading text.now len }
-    ensures { IfSome result (λ report. IsExtraAt reading text.now len × (event_of (take len text.now) ≡ KeyReported (plain_report report))) }
+    ensures { IfSome result (λ report. IsExtraAt reading text.now len × (event_in reading (take len text.now) ≡ KeyReported (plain_report report))) }
 {
     match reading.protocol {
         Protocol::Legacy => None,

@@ -1,5 +1,5 @@
 -- What is decided of an open paste may be taken before more comes, to the extended parser too.
-use Rattle.std.proofs.Common.{◌≡◌, inl, inr, ⊎_elim, ℕ, Bool, List, [], ◌∷◌, ◌++◌, length, refl, sym, ap, ◌∙◌, subst, arith}
+use Rattle.std.proofs.Common.{◌≡◌, inl, inr, ⊎_elim, ℕ, Bool, true, false, List, [], ◌∷◌, ◌++◌, length, refl, sym, ap, ◌∙◌, subst, arith}
 use Rattle.std.specs.Prelude.{codes}
 use Rattle.std.specs.List.{AllByRecursion}
 use Rattle.std.specs.Str.Lossy.{utf8_lossy}
@@ -25,7 +25,7 @@ use Rattle.termwiz_extended_events.specs.declared.types.Protocol.TheVariants.{Le
 use Rattle.termwiz_extended_events.specs.Meanings.{event_of, IsPosition, IsKeyOrPosition}
 use Rattle.termwiz_extended_events.proofs.Examples.{written_out}
 use Rattle.termwiz_extended_grammar.specs.ExtraSequences.{Overrides, IsExtra}
-use Rattle.termwiz_extended_grammar.specs.Readings.{after_event, after_events}
+use Rattle.termwiz_extended_grammar.specs.Readings.{after_event, after_events, event_in}
 use Rattle.termwiz_extended_grammar.specs.Strings.{StartsWithOpening}
 use Rattle.termwiz_extended_grammar.specs.ExtendedGrammar.{StartsExtended, BeginsExtended, IsRest, IsUsual, Means, Stands, Steps}
 use Rattle.termwiz_extended_grammar.specs.ExtendedGrammar.Stands.{extra, alt_key, lone_escape, string, usual}
@@ -39,17 +39,18 @@ use Rattle.termwiz_extended_grammar.proofs.lemmas.items.ExtendedItems.{apart_sta
 use Rattle.termwiz_extended_grammar.proofs.lemmas.items.ExtendedRests.{one_meaning}
 
 -- the start of a paste reports no key and no position
-start_means : event_of START ≡ Csi (codes "200~")
+start_means : (asks : Bool) → event_of asks START ≡ Csi (codes "200~")
 unfolding written_out
-start_means = refl
+start_means true = refl
+start_means false = refl
 
 pub start_not_extra : (reading : Reading) (event : ExtendedEvent) → IsExtra reading START event → ⊥
 start_not_extra reading event is =
     by_protocol reading.protocol reading.questions (is.is_free (Row start) start_is_sequence).2
   where
-    by_protocol : (protocol : Protocol) (questions : ℕ) → Overrides protocol questions (event_of START) → ⊥
-    by_protocol Legacy questions h = subst IsPosition start_means h.1
-    by_protocol Kitty questions h = subst IsKeyOrPosition start_means h
+    by_protocol : (protocol : Protocol) (questions : ℕ) → Overrides protocol questions (event_in reading START) → ⊥
+    by_protocol Legacy questions h = subst IsPosition (start_means _) h.1
+    by_protocol Kitty questions h = subst IsKeyOrPosition (start_means _) h
 
 -- so no extra sequence and no opening begins a text that START begins
 none_begins : (reading : Reading) (u : List ℕ) → Begins START u → StartsExtended reading u → ⊥

@@ -1,13 +1,11 @@
 -- Which texts are known, open or rests doesn't depend on the open questions.
-use Rattle.std.proofs.Common.{◌≡◌, ◌≢◌, ◌⊎◌, inl, inr, ⊎_elim, ℕ, Bool, List, [], ◌∷◌, ◌++◌, refl, sym, ap, ◌∙◌, subst, append_assoc, arith}
+use Rattle.std.proofs.Common.{◌≡◌, ◌≢◌, inl, inr, ⊎_elim, ℕ, Bool, List, [], ◌∷◌, ◌++◌, refl, sym, ap, ◌∙◌, subst, append_assoc, arith}
 use Rattle.std.specs.List.{AllByRecursion}
-use Rattle.termwiz_keymap.proofs.lemmas.lists.CommonPrefixes.{append-some_left, append-some}
+use Rattle.termwiz_keymap.proofs.lemmas.lists.CommonPrefixes.{append-some}
 use Rattle.termwiz_keys.specs.Introducers.{ESC, START}
-use Rattle.termwiz_keys.specs.declared.types.InputEvent.{InputEvent}
 use Rattle.termwiz_keys.specs.declared.types.InputEvent.TheVariants.{Key}
 use Rattle.termwiz_keys.specs.Keys.{escape}
 use Rattle.termwiz_grammar.specs.Sequences.{Meaning, IsSequence}
-use Rattle.termwiz_grammar.specs.Sequences.Meaning.{Row}
 use Rattle.termwiz_grammar.specs.Grammar as port
 use Rattle.termwiz_grammar.specs.Laws as portlaws
 use Rattle.termwiz_grammar.specs.Laws.Waits.{nothing, open_paste, undecided}
@@ -21,15 +19,15 @@ use Rattle.termwiz_extended_events.specs.declared.types.ExtendedEvent.{ExtendedE
 use Rattle.termwiz_extended_events.specs.declared.types.ExtendedEvent.TheVariants.{Input}
 use Rattle.termwiz_extended_events.specs.declared.types.Reading.{Reading}
 use Rattle.termwiz_extended_grammar.specs.ExtraSequences.{IsExtra}
-use Rattle.termwiz_extended_grammar.specs.Readings.{asking}
+use Rattle.termwiz_extended_grammar.specs.Readings.{asking, event_in}
 use Rattle.termwiz_extended_grammar.specs.ExtendedGrammar.{StartsExtended, BeginsKnown, IsOpen, IsUsual, HasItem, IsRest, Stands}
 use Rattle.termwiz_extended_grammar.specs.ExtendedGrammar.Stands.{extra, alt_key, lone_escape, string, usual}
 use Rattle.termwiz_extended_grammar.specs.ExtendedLaws.{IsKnown, QuestionsMoveNothing}
 use Rattle.termwiz_extended_grammar.proofs.lemmas.forms.FormBytes.{IsMark, mark_shape}
 use Rattle.termwiz_extended_grammar.proofs.lemmas.forms.FormEnds.{mark_ends, sequence_after_mark}
-use Rattle.termwiz_extended_grammar.proofs.lemmas.forms.ExtraFacts.{completed_mark, extra_or_not, free_from_none, mark_from_unfinished, start_form, starts_extended_or_not, unfinished_from_form}
+use Rattle.termwiz_extended_grammar.proofs.lemmas.forms.ExtraFacts.{completed_mark, free_from_none, mark_from_unfinished, start_form, starts_extended_or_not, unfinished_from_form}
 use Rattle.termwiz_extended_grammar.proofs.lemmas.items.StringItems.{mark_once}
-use Rattle.termwiz_extended_grammar.proofs.lemmas.items.ExtendedItems.{extra_or_opening, second_not_escape, starts_shape, starts_with}
+use Rattle.termwiz_extended_grammar.proofs.lemmas.items.ExtendedItems.{extra_or_opening, second_not_escape, starts_shape}
 use Rattle.termwiz_extended_grammar.proofs.lemmas.items.ExtendedRests.{before_extended}
 use Rattle.termwiz_extended_grammar.proofs.lemmas.cuts.BeforeEscape.{escape_comes_first}
 use Rattle.termwiz_extended_grammar.proofs.lemmas.cuts.PartsOfPastes.{start_not_extra}
@@ -40,11 +38,11 @@ known_too reading questions u (inl known) = inl known
 known_too reading questions u (inr (e, is)) = ⊎_elim
     (λ (known : (m : Meaning) × IsSequence u m). inl known)
     (λ (none : ((m : Meaning) × IsSequence u m) → ⊥). inr (
-      e,
+      event_in (asking reading questions) u,
       record {
         is_form = is.is_form;
         is_free = free_from_none (asking reading questions) u (λ m it. none (m, it));
-        means = is.means;
+        means = refl;
       },
     ))
     (sequence_or_not u)
@@ -170,11 +168,11 @@ module _ (reading : Reading) (questions : ℕ) (u : List ℕ) (f : Bool) (rest :
       (λ (known : (m : Meaning) × IsSequence h.text m). row_stands h.text h.begins.0 h.event h.is_extra h.begins.1 none known.0 known.1)
       (λ (free : ((m : Meaning) × IsSequence h.text m) → ⊥). none (inl (record {
         text = h.text;
-        event = h.event;
+        event = event_in reading h.text;
         is_extra = record {
           is_form = h.is_extra.is_form;
           is_free = free_from_none reading h.text (λ m is. free (m, is));
-          means = h.is_extra.means;
+          means = refl;
         };
         begins = h.begins;
       })))

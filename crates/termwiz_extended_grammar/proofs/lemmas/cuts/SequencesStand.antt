@@ -192,11 +192,11 @@ sequence_stands reading T x S W E D e f before premise is after = record {
   where
     apart : EscapesApart reading T (x ++ S)
     apart left steps = ⊎_elim
-        (λ (other : ¬ IsBareKey x). inl (record {
+        (λ (other : ¬ IsBareKey (after_events reading E) x). inl (record {
           text = x;
           event = e;
           is_extra = subst (λ r. IsExtra r x e) (same_reading reading T E left before steps) is;
-          not_bare = other;
+          not_bare = subst (λ r. ¬ IsBareKey r x) (same_reading reading T E left before steps) other;
           begins = (S, refl);
         }))
         (λ (never : ¬ EndsWithEscape reading T). absurd (never (left, steps)))

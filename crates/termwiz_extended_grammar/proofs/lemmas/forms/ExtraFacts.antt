@@ -12,14 +12,15 @@ use Rattle.termwiz_extended_events.specs.declared.types.ExtendedEvent.TheVariant
 use Rattle.termwiz_extended_events.specs.declared.types.Protocol.{Protocol}
 use Rattle.termwiz_extended_events.specs.declared.types.Reading.{Reading}
 use Rattle.termwiz_extended_events.specs.declared.types.Protocol.TheVariants.{Legacy, Kitty}
-use Rattle.termwiz_extended_events.specs.Meanings.{event_of, IsKey, IsPosition, IsKeyOrPosition}
+use Rattle.termwiz_extended_events.specs.Meanings.{IsKey, IsPosition, IsKeyOrPosition}
 use Rattle.termwiz_extended_grammar.specs.Forms.{introducer, IsRxvtNumber, IsKeypadKey, IsForm, IsUnfinishedForm}
 use Rattle.termwiz_extended_grammar.specs.Forms.IsForm.{control}
-use Rattle.termwiz_extended_grammar.specs.ExtraSequences.{Overrides, IsFree, IsExtra, StartsWithExtra, IsUnfinishedExtra, IsRow, EndsAsRxvt, IsRxvtFunction, IsBareKey}
+use Rattle.termwiz_extended_grammar.specs.ExtraSequences.{Overrides, IsFree, IsExtra, StartsWithExtra, IsUnfinishedExtra, IsRow, EndsAsRxvt, IsLetteredKey, IsRxvtFunction, IsBareKey}
+use Rattle.termwiz_extended_grammar.specs.Readings.{event_in}
 use Rattle.termwiz_extended_grammar.specs.ExtendedGrammar.{StartsExtended, BeginsExtended}
 use Rattle.termwiz_extended_grammar.specs.Strings.{IsUnfinishedOpening}
 use Rattle.termwiz_extended_grammar.proofs.lemmas.forms.FormBytes.{IsMark, form_shape, mark_shape, opening_mark}
-use Rattle.termwiz_extended_grammar.proofs.lemmas.forms.FormOrNot.{IsUnfinishedMark, form_or_not, keypad_or_not, opening_starts_or_not, rxvt_function_or_not, unfinished_mark_or_not}
+use Rattle.termwiz_extended_grammar.proofs.lemmas.forms.FormOrNot.{IsUnfinishedMark, form_or_not, keypad_or_not, lettered_or_not, opening_starts_or_not, rxvt_function_or_not, unfinished_mark_or_not}
 use Rattle.termwiz_extended_grammar.proofs.lemmas.forms.Unfinished.{free_completion, unfinished_form_short, unfinished_opening_short, last_of, one_last}
 
 -- a text that the port doesn't read is free under every reading
@@ -102,11 +103,11 @@ overrides_or_not Kitty questions event =
 free_or_not : (reading : Reading) (text : List ℕ) → Decision (IsFree reading text)
 free_or_not reading text = ⊎_elim
     (λ (known : (m : Meaning) × IsSequence text m).
-    by_meaning known.0 known.1 (overrides_or_not reading.protocol reading.questions (event_of text)))
+    by_meaning known.0 known.1 (overrides_or_not reading.protocol reading.questions (event_in reading text)))
     (λ (none : ((m : Meaning) × IsSequence text m) → ⊥). inl (λ m is. absurd (none (m, is))))
     (sequence_or_not text)
   where
-    by_meaning : (m : Meaning) → IsSequence text m → Decision (Overrides reading.protocol reading.questions (event_of text))
+    by_meaning : (m : Meaning) → IsSequence text m → Decision (Overrides reading.protocol reading.questions (event_in reading text))
         → Decision (IsFree reading text)
     by_meaning (Row key) is (inl its) = inl (λ n it. (key, sequence_once text n (Row key) it is, its))
     by_meaning (Row key) is (inr other) = inr (λ free. other (free (Row key) is).2)
@@ -117,7 +118,7 @@ pub extra_or_not : (reading : Reading) (text : List ℕ) → Decision ((event : 
 extra_or_not reading text = go (form_or_not reading.x10_mouse text) (free_or_not reading text)
   where
     go : Decision (IsForm reading.x10_mouse text) → Decision (IsFree reading text) → Decision ((event : ExtendedEvent) × IsExtra reading text event)
-    go (inl form) (inl free) = inl (event_of text, record { is_form = form; is_free = free; means = refl })
+    go (inl form) (inl free) = inl (event_in reading text, record { is_form = form; is_free = free; means = refl })
     go (inl form) (inr never) = inr (λ h. never h.1.is_free)
     go (inr never) free = inr (λ h. never h.1.is_form)
 
@@ -142,12 +143,13 @@ rxvt_end_or_not (x ∷ t) =
     (decide_either (decide_eq l.1 94) (decide_either (decide_eq l.1 64) (decide_eq l.1 36)))
 
 -- it can be told whether a text is a bare key
-pub bare_or_not : (text : List ℕ) → Decision (IsBareKey text)
-bare_or_not text = decide_by
-    (λ (h : IsKey (event_of text) × (IsRow text ⊎ (IsKeypadKey text ⊎ (EndsAsRxvt text ⊎ IsRxvtFunction text)))). record { is_key = h.0; layout = h.1 })
-    (λ (b : IsBareKey text). (b.is_key, b.layout))
-    (decide_both (key_or_not (event_of text))
-    (decide_either (row_or_not text) (decide_either (keypad_or_not text) (decide_either (rxvt_end_or_not text) (rxvt_function_or_not text)))))
+pub bare_or_not : (reading : Reading) (text : List ℕ) → Decision (IsBareKey reading text)
+bare_or_not reading text = decide_by
+    (λ (h : IsKey (event_in reading text)
+    × (IsRow text ⊎ (IsKeypadKey text ⊎ (EndsAsRxvt text ⊎ (IsRxvtFunction text ⊎ IsLetteredKey text))))). record { is_key = h.0; layout = h.1 })
+    (λ (b : IsBareKey reading text). (b.is_key, b.layout))
+    (decide_both (key_or_not (event_in reading text)) (decide_either (row_or_not text) (decide_either (keypad_or_not text)
+    (decide_either (rxvt_end_or_not text) (decide_either (rxvt_function_or_not text) (lettered_or_not text))))))
 
 -- and whether one begins a text
 pub starts_or_not : (reading : Reading) (u : List ℕ) → Decision (StartsWithExtra reading u)
@@ -164,7 +166,7 @@ unfinished_from_form reading u h =
     record {
       tail = c.tail;
       longer = c.longer;
-      event = event_of (u ++ c.tail);
+      event = event_in reading (u ++ c.tail);
       is_extra = record { is_form = c.is_form; is_free = free_from_none reading (u ++ c.tail) c.free; means = refl };
     }
 

@@ -5,7 +5,7 @@ use Rattle.termwiz_keymap.proofs.lemmas.lists.CommonPrefixes.{append-some, true_
 use Rattle.termwiz_grammar.specs.MouseReports.{IsDigit}
 use Rattle.termwiz_extended_events.specs.declared.types.StringKind.{StringKind}
 use Rattle.termwiz_extended_events.specs.declared.types.StringKind.TheVariants.{Osc, Dcs, Apc}
-use Rattle.termwiz_extended_grammar.specs.Forms.{ST, BEL, introducer, IsInner, IsData, IsKeypadLetter, IsRxvtNumber, IsStringEnd, IsTitleLetter, IsForm}
+use Rattle.termwiz_extended_grammar.specs.Forms.{ST, BEL, introducer, IsInner, IsData, IsKeypadLetter, IsModifiedFront, IsRxvtNumber, IsStringEnd, IsTitleLetter, IsForm}
 use Rattle.termwiz_extended_grammar.specs.Forms.IsForm.{control, x10_report, console_key, keypad_key, modified_key, shifted_key, title}
 use Rattle.termwiz_extended_grammar.specs.Strings.{IsHead, StartsWithOpening}
 
@@ -96,9 +96,10 @@ pub all_append : (P : ℕ → Type 0) (s t : List ℕ) → AllByRecursion P s �
 all_append P [] t a b = b
 all_append P (x ∷ s) t a b = (a.0, all_append P s t a.1 b)
 
-clean_front : (front : List ℕ) → (front ≡ []) ⊎ (front ≡ 48 ∷ 59 ∷ []) → AllByRecursion IsClean front
+clean_front : (front : List ℕ) → IsModifiedFront front → AllByRecursion IsClean front
 clean_front front (inl e) = subst (AllByRecursion IsClean) (sym e) tt
-clean_front front (inr e) = subst (AllByRecursion IsClean) (sym e) ((λ k. omega arith), ((λ k. omega arith), tt))
+clean_front front (inr (inl e)) = subst (AllByRecursion IsClean) (sym e) ((λ k. omega arith), ((λ k. omega arith), tt))
+clean_front front (inr (inr e)) = subst (AllByRecursion IsClean) (sym e) ((λ k. omega arith), ((λ k. omega arith), tt))
 
 -- the numbers of rxvt-unicode are digits
 pub rxvt_digits : (number : List ℕ) → IsRxvtNumber number → AllByRecursion IsDigit number
@@ -158,7 +159,7 @@ form_bytes text (modified_key f) = (
   (
     (λ e. omega arith),
     all_append IsClean f.front (f.digit ∷ f.letter ∷ []) (clean_front f.front f.front_is)
-        ((λ e. omega (arith, f.digit_is)), ((λ e. omega (arith, f.letter_is)), tt)),
+        ((λ e. omega (arith, f.digit_is)), ((λ e. omega (arith, f.letter_is.0)), tt)),
   ),
   inl refl,
 )

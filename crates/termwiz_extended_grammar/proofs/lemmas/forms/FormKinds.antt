@@ -1,10 +1,10 @@
 -- The marks by their first bytes.
-use Rattle.std.proofs.Common.{◌≡◌, ◌≢◌, ◌⊎◌, inl, inr, ℕ, ◌<◌, ◌≤◌, Bool, true, List, [], ◌∷◌, ◌++◌, length, refl, sym, ap, ◌∙◌, subst, arith, append_assoc}
+use Rattle.std.proofs.Common.{◌≡◌, ◌≢◌, inl, inr, ℕ, ◌<◌, ◌≤◌, Bool, true, List, [], ◌∷◌, ◌++◌, length, refl, sym, ap, ◌∙◌, subst, arith, append_assoc}
 use Rattle.std.specs.List.{AllByRecursion}
 use Rattle.termwiz_keymap.proofs.lemmas.lists.CommonPrefixes.{append-some}
 use Rattle.termwiz_extended_events.specs.declared.types.StringKind.{StringKind}
 use Rattle.termwiz_extended_events.specs.declared.types.StringKind.TheVariants.{Osc, Dcs, Apc}
-use Rattle.termwiz_extended_grammar.specs.Forms.{introducer, IsInner, IsFinal, IsData, IsRowDigit, IsRxvtNumber, IsStringEnd, IsTitleLetter, typed_title, IsForm}
+use Rattle.termwiz_extended_grammar.specs.Forms.{introducer, IsInner, IsFinal, IsData, IsModifiedFront, IsRowDigit, IsRxvtNumber, IsStringEnd, IsTitleLetter, typed_title, IsForm}
 use Rattle.termwiz_extended_grammar.specs.Forms.IsForm.{control, x10_report, console_key, keypad_key, modified_key, shifted_key, title}
 use Rattle.termwiz_extended_grammar.specs.Strings.{IsHead, IsNumbered, IsLongTitle}
 use Rattle.termwiz_extended_grammar.proofs.lemmas.forms.FormBytes.{IsMark}
@@ -43,11 +43,13 @@ pub data Kind (x10_mouse : Bool) (text : List ℕ) : Type 0 where
   device : (r : List ℕ) → text ≡ 27 ∷ 80 ∷ r → IsHead Dcs r → Kind x10_mouse text
   program : (r : List ℕ) → text ≡ 27 ∷ 95 ∷ r → IsHead Apc r → Kind x10_mouse text
 
-front_middle : (front : List ℕ) (digit : ℕ) → (front ≡ []) ⊎ (front ≡ 48 ∷ 59 ∷ []) → (48 ≤ digit) × (digit ≤ 57)
+front_middle : (front : List ℕ) (digit : ℕ) → IsModifiedFront front → (48 ≤ digit) × (digit ≤ 57)
     → AllByRecursion IsMiddle (front ++ digit ∷ [])
 front_middle front digit (inl e) d =
     subst (λ z. AllByRecursion IsMiddle (z ++ digit ∷ [])) (sym e) ((omega (arith, d), omega (arith, d)), tt)
-front_middle front digit (inr e) d = subst (λ z. AllByRecursion IsMiddle (z ++ digit ∷ [])) (sym e)
+front_middle front digit (inr (inl e)) d = subst (λ z. AllByRecursion IsMiddle (z ++ digit ∷ [])) (sym e)
+    ((omega arith, omega arith), ((omega arith, omega arith), ((omega (arith, d), omega (arith, d)), tt)))
+front_middle front digit (inr (inr e)) d = subst (λ z. AllByRecursion IsMiddle (z ++ digit ∷ [])) (sym e)
     ((omega arith, omega arith), ((omega arith, omega arith), ((omega (arith, d), omega (arith, d)), tt)))
 
 form_kind : {x10_mouse : Bool} (text : List ℕ) → IsForm x10_mouse text → Kind x10_mouse text
@@ -69,7 +71,7 @@ form_kind text (modified_key f) = keypad (f.front ++ f.digit ∷ f.letter ∷ []
   letter = f.letter;
   form = sym (append_assoc f.front (f.digit ∷ []) (f.letter ∷ []));
   each = front_middle f.front f.digit f.front_is (omega (arith, f.digit_is), omega (arith, f.digit_is));
-  letter_is = omega (arith, f.letter_is);
+  letter_is = omega (arith, f.letter_is.0);
 })
 form_kind text (shifted_key f) = bracketed _ f.form (shifted f.number refl f.number_is)
 form_kind text (title f) =

@@ -8,9 +8,9 @@ use Rattle.termwiz_grammar.specs.MouseReports.{IsDigit}
 use Rattle.termwiz_grammar.proofs.lemmas.lists.Decidable.{Decision, decide_both, decide_either, decide_by, decide_le, decide_eq, decide_all, decide_parts, decide_below, decide_lists, decide_some, same_or_not}
 use Rattle.termwiz_extended_events.specs.declared.types.StringKind.{StringKind}
 use Rattle.termwiz_extended_events.specs.declared.types.StringKind.TheVariants.{Osc, Dcs, Apc}
-use Rattle.termwiz_extended_grammar.specs.Forms.{ST, BEL, introducer, IsInner, IsFinal, IsData, IsMouseByte, IsConsoleLetter, IsKeypadLetter, IsModifierDigit, IsModifiedLetter, IsRxvtNumber, IsStringEnd, IsTitleLetter, typed_title, IsControl, IsX10Report, IsConsoleKey, IsKeypadKey, IsModifiedKeypadKey, IsShiftedKey, IsTitle, IsForm, IsUnfinishedForm}
+use Rattle.termwiz_extended_grammar.specs.Forms.{ST, BEL, introducer, IsInner, IsFinal, IsData, IsMouseByte, IsConsoleLetter, IsKeypadLetter, IsModifierDigit, IsModifiedFront, IsModifiedLetter, IsLetterBehind, IsRxvtNumber, IsStringEnd, IsTitleLetter, typed_title, IsControl, IsX10Report, IsConsoleKey, IsKeypadKey, IsModifiedKeypadKey, IsShiftedKey, IsTitle, IsForm, IsUnfinishedForm}
 use Rattle.termwiz_extended_grammar.specs.Forms.IsForm.{control, x10_report, console_key, keypad_key, modified_key, shifted_key, title}
-use Rattle.termwiz_extended_grammar.specs.ExtraSequences.{IsRxvtFunction}
+use Rattle.termwiz_extended_grammar.specs.ExtraSequences.{EndsWithZ, IsCursorLetter, IsLetteredKey, IsRxvtFunction}
 use Rattle.termwiz_extended_grammar.specs.Strings.{IsHead, IsShortNumber, IsNumbered, IsLongTitle, IsReplySign, IsNumberedReply, IsLetter, IsGraphics, StartsWithOpening, IsUnfinishedOpening}
 use Rattle.termwiz_extended_grammar.proofs.lemmas.forms.FormBytes.{all_append, rxvt_digits}
 
@@ -183,7 +183,7 @@ console_or_not t = decide_by from
 
 decide_keypad : (b : ℕ) → Decision (IsKeypadLetter b)
 decide_keypad b = decide_either (decide_eq b 77) (decide_either (decide_eq b 88)
-    (decide_either (decide_eq b 69) (decide_range 106 121 b)))
+    (decide_either (decide_eq b 69) (decide_either (decide_eq b 71) (decide_range 106 121 b))))
 
 pub keypad_or_not : (t : List ℕ) → Decision (IsKeypadKey t)
 keypad_or_not t = decide_by from
@@ -213,21 +213,33 @@ decide_modified : (b : ℕ) → Decision (IsModifiedLetter b)
 decide_modified b = decide_either (decide_range 80 83 b)
     (decide_either (decide_eq b 77) (decide_either (decide_eq b 88) (decide_range 106 121 b)))
 
--- a digit and a letter of a key with modifiers
-abbrev Modified : List ℕ → Type 0
-Modified t = First (λ digit r. IsModifierDigit digit × Single IsModifiedLetter r) t
+-- a digit and a letter of a key with modifiers, behind what stands before the digit
+abbrev Modified : List ℕ → List ℕ → Type 0
+Modified front t = First (λ digit r. IsModifierDigit digit × Single (IsLetterBehind front) r) t
 
-decide_modified_end : (t : List ℕ) → Decision (Modified t)
-decide_modified_end t =
-    decide_first _ (λ digit r. decide_both (decide_range 50 56 digit) (decide_single IsModifiedLetter decide_modified r)) t
+decide_modified_front : (front : List ℕ) → Decision (IsModifiedFront front)
+decide_modified_front front = decide_either (same_or_not front [])
+    (decide_either (same_or_not front (48 ∷ 59 ∷ [])) (same_or_not front (49 ∷ 59 ∷ [])))
+
+decide_letter_behind : (front : List ℕ) (letter : ℕ) → Decision (IsLetterBehind front letter)
+decide_letter_behind front letter = decide_both (decide_modified letter) (go (same_or_not front (49 ∷ 59 ∷ [])) (decide_range 80 83 letter))
+  where
+    go : Decision (front ≡ 49 ∷ 59 ∷ []) → Decision ((80 ≤ letter) × (letter ≤ 83))
+        → Decision (front ≡ 49 ∷ 59 ∷ [] → (80 ≤ letter) × (letter ≤ 83))
+    go one (inl is) = inl (λ e. is)
+    go (inl e) (inr other) = inr (λ always. other (always e))
+    go (inr none) (inr other) = inl (λ e. absurd (none e))
+
+decide_modified_end : (front t : List ℕ) → Decision (Modified front t)
+decide_modified_end front t =
+    decide_first _ (λ digit r. decide_both (decide_range 50 56 digit) (decide_single _ (decide_letter_behind front) r)) t
 
 modified_or_not : (t : List ℕ) → Decision (IsModifiedKeypadKey t)
 modified_or_not t = decide_by from to (decide_next 27 _ (decide_next 79 _ (λ r. decide_parts
-    (λ a b. ((a ≡ []) ⊎ (a ≡ 48 ∷ 59 ∷ [])) × Modified b)
-    (λ a b. decide_both (decide_either (same_or_not a []) (same_or_not a (48 ∷ 59 ∷ []))) (decide_modified_end b)) r)) t)
+    (λ a b. IsModifiedFront a × Modified a b) (λ a b. decide_both (decide_modified_front a) (decide_modified_end a b)) r)) t)
   where
     Parts : List ℕ → Type 0
-    Parts r = (a b : List ℕ) × (r ≡ a ++ b) × (((a ≡ []) ⊎ (a ≡ 48 ∷ 59 ∷ [])) × Modified b)
+    Parts r = (a b : List ℕ) × (r ≡ a ++ b) × (IsModifiedFront a × Modified a b)
 
     to : IsModifiedKeypadKey t → Next 27 (Next 79 Parts) t
     to f = (
@@ -263,6 +275,43 @@ modified_or_not t = decide_by from to (decide_next 27 _ (decide_next 79 _ (λ r.
       digit_is = digit_is;
       letter_is = letter_is;
     }
+
+decide_cursor_letter : (b : ℕ) → Decision (IsCursorLetter b)
+decide_cursor_letter b = decide_either (decide_range 65 70 b) (decide_either (decide_eq b 72) (decide_range 80 83 b))
+
+ends_with_z_or_not : (t : List ℕ) → Decision (EndsWithZ t)
+ends_with_z_or_not t = decide_by
+    (λ (h : (a b : List ℕ) × (t ≡ a ++ b) × (b ≡ 90 ∷ [])). (h.0, h.2 ∙ ap (λ z. h.0 ++ z) h.3))
+    (λ (h : EndsWithZ t). (h.0, 90 ∷ [], h.1, refl))
+    (decide_parts (λ a b. b ≡ 90 ∷ []) (λ a b. same_or_not b (90 ∷ [])) t)
+
+introduced_or_not : (t : List ℕ) → Decision (Begins (27 ∷ 91 ∷ []) t)
+introduced_or_not t = decide_by
+    (λ (h : (a b : List ℕ) × (t ≡ a ++ b) × (a ≡ 27 ∷ 91 ∷ [])). (h.1, h.2 ∙ ap (λ z. z ++ h.1) h.3))
+    (λ (h : Begins (27 ∷ 91 ∷ []) t). (27 ∷ 91 ∷ [], h.0, h.1, refl))
+    (decide_parts (λ a b. a ≡ 27 ∷ 91 ∷ []) (λ a b. same_or_not a (27 ∷ 91 ∷ [])) t)
+
+short_key_or_not : (t : List ℕ)
+    → Decision ((digit : ℕ) × (letter : ℕ) × (t ≡ 27 ∷ 91 ∷ digit ∷ letter ∷ []) × IsModifierDigit digit × IsCursorLetter letter)
+short_key_or_not t = decide_by from
+    (λ f. (27, _, f.2, (refl, (91, _, refl, (refl, (f.0, _, refl, (f.3, (f.1, [], refl, (f.4, refl)))))))))
+    (decide_next 27 _ (decide_next 91 _ decide_end) t)
+  where
+    End : List ℕ → Type 0
+    End r = First (λ digit v. IsModifierDigit digit × Single IsCursorLetter v) r
+
+    decide_end : (r : List ℕ) → Decision (End r)
+    decide_end r =
+        decide_first _ (λ digit v. decide_both (decide_range 50 56 digit) (decide_single IsCursorLetter decide_cursor_letter v)) r
+
+    from : Next 27 (Next 91 End) t
+        → (digit : ℕ) × (letter : ℕ) × (t ≡ 27 ∷ 91 ∷ digit ∷ letter ∷ []) × IsModifierDigit digit × IsCursorLetter letter
+    from (a, r, e, (f, (b, s, g, (h, (digit, v, k, (digit_is, (letter, w, l, (letter_is, n)))))))) =
+        (digit, letter, cc (e, f, g, h, k, l, n), digit_is, letter_is)
+
+pub lettered_or_not : (t : List ℕ) → Decision (IsLetteredKey t)
+lettered_or_not t =
+    decide_either (decide_both (introduced_or_not t) (ends_with_z_or_not t)) (decide_either (short_key_or_not t) (same_or_not t (27 ∷ 91 ∷ 71 ∷ [])))
 
 shifted_or_not : (t : List ℕ) → Decision (IsShiftedKey t)
 shifted_or_not t = decide_by from
@@ -501,13 +550,14 @@ fixed_bytes x10_mouse text (inr (inr (inr (inr (inl f))))) = subst (AllByRecursi
   (
     omega arith,
     all_append IsByte f.front (f.digit ∷ f.letter ∷ []) (front_bytes f.front f.front_is)
-        (omega (arith, f.digit_is), (omega (arith, f.letter_is), tt)),
+        (omega (arith, f.digit_is), (omega (arith, f.letter_is.0), tt)),
   ),
 )
   where
-    front_bytes : (front : List ℕ) → (front ≡ []) ⊎ (front ≡ 48 ∷ 59 ∷ []) → AllByRecursion IsByte front
+    front_bytes : (front : List ℕ) → IsModifiedFront front → AllByRecursion IsByte front
     front_bytes front (inl e) = subst (AllByRecursion IsByte) (sym e) tt
-    front_bytes front (inr e) = subst (AllByRecursion IsByte) (sym e) (omega arith, (omega arith, tt))
+    front_bytes front (inr (inl e)) = subst (AllByRecursion IsByte) (sym e) (omega arith, (omega arith, tt))
+    front_bytes front (inr (inr e)) = subst (AllByRecursion IsByte) (sym e) (omega arith, (omega arith, tt))
 fixed_bytes x10_mouse text (inr (inr (inr (inr (inr f))))) = subst (AllByRecursion IsByte) (sym f.form) (
   omega arith,
   (
@@ -548,9 +598,10 @@ rxvt_short (d ∷ []) is = omega arith
 rxvt_short (d ∷ e ∷ []) is = omega arith
 rxvt_short (d ∷ e ∷ c ∷ number) is = absurd is
 
-pub front_short : (front : List ℕ) → (front ≡ []) ⊎ (front ≡ 48 ∷ 59 ∷ []) → length front ≤ 2
+pub front_short : (front : List ℕ) → IsModifiedFront front → length front ≤ 2
 front_short front (inl e) = omega (arith, ap length e)
-front_short front (inr e) = omega (arith, ap length e)
+front_short front (inr (inl e)) = omega (arith, ap length e)
+front_short front (inr (inr e)) = omega (arith, ap length e)
 
 fixed_short : (x10_mouse : Bool) (text : List ℕ) → IsFixed x10_mouse text → length text ≤ 256
 fixed_short x10_mouse text (inl f) = f.short

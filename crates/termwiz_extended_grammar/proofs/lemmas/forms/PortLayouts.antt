@@ -50,6 +50,16 @@ pub rows_laid_out : list_all (λ r. is_laid_out r.0) rows ≡ true
 unfolding written_out
 rows_laid_out = refl
 
+-- ESC O1;, a byte, and P to S
+abbrev pub is_function_behind_one : List ℕ → Bool
+is_function_behind_one (escape ∷ o ∷ one ∷ semicolon ∷ digit ∷ letter ∷ []) =
+    (o == 79) && ((one == 49) && ((semicolon == 59) && (nat_lt 79 letter && nat_lt letter 84)))
+is_function_behind_one _ = false
+
+pub no_function_behind_one : list_all (λ r. not (is_function_behind_one r.0)) rows ≡ true
+unfolding written_out
+no_function_behind_one = refl
+
 -- a byte of a sequence between its introducer and its last byte: a digit, a semicolon, or the < of a mouse report
 abbrev pub IsMiddle : ℕ → Type 0
 IsMiddle b = (48 ≤ b) × (b ≤ 60)
@@ -179,3 +189,14 @@ sequence_layout text (Row k) a = row_layout text
     (All-contains (λ (r : TableRow). is_laid_out r.0 ≡ true) rows (text, k)
     (AllPass-from_list_all (λ (r : TableRow). is_laid_out r.0) rows rows_laid_out) a)
 sequence_layout text (Report r) a = report_layout text r a
+
+-- no sequence is ESC O1;, a byte, and P to S
+pub behind_one_free : (digit letter : ℕ) (m : Meaning) → (80 ≤ letter) × (letter ≤ 83)
+    → IsSequence (27 ∷ 79 ∷ 49 ∷ 59 ∷ digit ∷ letter ∷ []) m → ⊥
+unfolding IsSequence
+behind_one_free digit letter (Row k) is a =
+    let other : not (is_function_behind_one (27 ∷ 79 ∷ 49 ∷ 59 ∷ digit ∷ letter ∷ [])) ≡ true =
+    All-contains (λ (r : TableRow). not (is_function_behind_one r.0) ≡ true) rows (27 ∷ 79 ∷ 49 ∷ 59 ∷ digit ∷ letter ∷ [], k)
+    (AllPass-from_list_all (λ (r : TableRow). not (is_function_behind_one r.0)) rows no_function_behind_one) a in
+    grind (arith, nat_tests, other, is)
+behind_one_free digit letter (Report r) is a = (let second : ◌≡◌ {A = ℕ} 79 91 = cc (layout _ r a) in omega arith)

@@ -44,13 +44,13 @@ unfolding command_text
 text_of_command s end some (inl e) = rw (e, whole_end ST s) refl
 text_of_command s end some (inr e) = rw (e, bell_alone s some, whole_end BEL s) refl
 
-title_event : (text : List ℕ) (t : IsTitle text) → event_of text ≡ Osc (t.letter ∷ t.body)
+title_event : (asks : Bool) (text : List ℕ) (t : IsTitle text) → event_of asks text ≡ Osc (t.letter ∷ t.body)
 unfolding event_of event_after
-title_event text t = rw t.form (ap Osc (text_of_command (t.letter ∷ t.body) t.end (λ h. cc (h)) t.end_is))
+title_event asks text t = rw t.form (ap Osc (text_of_command (t.letter ∷ t.body) t.end (λ h. cc (h)) t.end_is))
 
 pub titles_are_commands : TitlesAreCommands
 titles_are_commands reading text t = record {
   is_form = title t;
   is_free = free_from_none reading text (λ m is. title_free text t (sequence_layout text m is));
-  means = sym (title_event text t);
+  means = sym (title_event _ text t);
 }

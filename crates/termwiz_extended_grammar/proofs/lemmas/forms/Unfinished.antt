@@ -1,5 +1,5 @@
 -- What properly begins a form: it is short, and it can go on to a form that the port doesn't know.
-use Rattle.std.proofs.Common.{◌≡◌, ◌≢◌, ◌⊎◌, inl, inr, ℕ, ◌<◌, ◌≤◌, Bool, true, List, [], ◌∷◌, ◌++◌, length, refl, sym, ap, ◌∙◌, subst, arith, append_assoc, length-append}
+use Rattle.std.proofs.Common.{◌≡◌, ◌≢◌, ◌⊎◌, inl, inr, ℕ, ◌<◌, ◌≤◌, Bool, List, [], ◌∷◌, ◌++◌, length, refl, sym, ap, ◌∙◌, subst, arith, append_assoc, length-append}
 use Rattle.std.specs.Prelude.{codes}
 use Rattle.std.specs.List.{AllByRecursion}
 use Rattle.termwiz_keymap.proofs.lemmas.lists.CommonPrefixes.{append-some, length-some, true_at_end, true_at_front, true_from}
@@ -7,14 +7,15 @@ use Rattle.termwiz_keys.specs.Introducers.{CSI, SS3}
 use Rattle.termwiz_grammar.specs.MouseReports.{IsDigit}
 use Rattle.termwiz_grammar.specs.Sequences.{Meaning, IsSequence}
 use Rattle.termwiz_grammar.specs.Sequences.Meaning.{Row}
+use Rattle.termwiz_extended_events.specs.declared.types.Reading.{Reading}
 use Rattle.termwiz_extended_events.specs.declared.types.StringKind.TheVariants.{Osc}
-use Rattle.termwiz_extended_grammar.specs.Forms.{introducer, IsInner, IsModifierDigit, IsRxvtNumber, IsStringEnd, IsControl, IsConsoleKey, IsKeypadKey, IsTitle, IsForm, IsUnfinishedForm}
+use Rattle.termwiz_extended_grammar.specs.Forms.{introducer, IsInner, IsModifiedFront, IsModifierDigit, IsRxvtNumber, IsStringEnd, IsControl, IsConsoleKey, IsKeypadKey, IsTitle, IsForm, IsUnfinishedForm}
 use Rattle.termwiz_extended_grammar.specs.Forms.IsForm.{control, x10_report, console_key, keypad_key, modified_key, shifted_key, title}
 use Rattle.termwiz_extended_grammar.specs.Strings.{IsUnfinishedOpening}
-use Rattle.termwiz_extended_grammar.specs.ExtraSequences.{IsRow, EndsAsRxvt, IsRxvtFunction, IsBareKey}
+use Rattle.termwiz_extended_grammar.specs.ExtraSequences.{IsRow, EndsAsRxvt, IsLetteredKey, IsRxvtFunction, IsBareKey}
 use Rattle.termwiz_extended_grammar.proofs.lemmas.forms.FormBytes.{all_append, rxvt_digits}
 use Rattle.termwiz_extended_grammar.proofs.lemmas.forms.FormOrNot.{opening_length, front_short, rxvt_short}
-use Rattle.termwiz_extended_grammar.proofs.lemmas.forms.PortLayouts.{IsPortSecond, Past, Layout, sequence_layout}
+use Rattle.termwiz_extended_grammar.proofs.lemmas.forms.PortLayouts.{IsPortSecond, Past, Layout, behind_one_free, sequence_layout}
 use Rattle.termwiz_extended_grammar.proofs.lemmas.forms.PortLayouts.Past.{lettered, with_dollar}
 use Rattle.termwiz_extended_grammar.proofs.lemmas.forms.PortLayouts.Layout.{alone, paired, longer}
 
@@ -187,18 +188,39 @@ shifted_in_x number is = record {
         let s = before_last number pre t 120 others e in
         never (true_at_front IsDigit pre s.0 (subst (AllByRecursion IsDigit) s.1 (rxvt_digits number is)))
 
--- a text that ends so, isn't ESC O and a letter, and isn't known to the port, is no bare key
+-- what ends with x is no key by its last letter
+no_lettered_x : (front : List ℕ) → ¬ IsLetteredKey (front ++ 120 ∷ [])
+no_lettered_x front (inl (begins, (other, e))) = omega (arith, (one_last front other 120 90 e).1)
+no_lettered_x front (inr (inl (digit, letter, e, d, l))) = omega (arith, l, (one_last front (27 ∷ 91 ∷ digit ∷ []) 120 letter e).1)
+no_lettered_x front (inr (inr e)) = omega (arith, (one_last front (27 ∷ 91 ∷ []) 120 71 e).1)
+
+-- nor is a key of the Linux console
+no_lettered_console : (text : List ℕ) → IsConsoleKey text → ¬ IsLetteredKey text
+no_lettered_console text f (inl (begins, (other, e))) =
+    omega (arith, f.letter_is, (one_last (27 ∷ 91 ∷ 91 ∷ []) other f.letter 90 (sym f.form ∙ e)).1)
+no_lettered_console text f (inr (inl (digit, letter, e, d, l))) = (let first : 91 ≡ digit = cc (f.form, e) in omega (arith, d))
+no_lettered_console text f (inr (inr e)) = cc (f.form, e)
+
+-- nor what begins otherwise than with ESC [
+no_lettered_other : (text r : List ℕ) (b : ℕ) → text ≡ 27 ∷ b ∷ r → b ≢ 91 → ¬ IsLetteredKey text
+no_lettered_other text r b e n (inl (begins, ends)) = n (cc (e, begins.1))
+no_lettered_other text r b e n (inr (inl (digit, letter, h, d, l))) = n (cc (e, h))
+no_lettered_other text r b e n (inr (inr h)) = n (cc (e, h))
+
+-- a text that ends so, isn't ESC O and a letter, is no key by its last letter, and isn't known to the port, is no bare key
 not_bare : (text front : List ℕ) (z : ℕ) → text ≡ front ++ z ∷ [] → z ≢ 94 → z ≢ 64 → z ≢ 36 → z ≢ 126
-    → ((letter : ℕ) → text ≢ SS3 ++ letter ∷ []) → ((m : Meaning) → ¬ IsSequence text m) → ¬ IsBareKey text
-not_bare text front z e a b c d keypad free is = go is.layout
+    → ((letter : ℕ) → text ≢ SS3 ++ letter ∷ []) → ¬ IsLetteredKey text → ((m : Meaning) → ¬ IsSequence text m)
+    → (reading : Reading) → ¬ IsBareKey reading text
+not_bare text front z e a b c d keypad unlettered free reading is = go is.layout
   where
-    go : IsRow text ⊎ (IsKeypadKey text ⊎ (EndsAsRxvt text ⊎ IsRxvtFunction text)) → ⊥
+    go : IsRow text ⊎ (IsKeypadKey text ⊎ (EndsAsRxvt text ⊎ (IsRxvtFunction text ⊎ IsLetteredKey text))) → ⊥
     go (inl row) = free (Row row.0) row.1
     go (inr (inl k)) = keypad k.letter k.form
     go (inr (inr (inl (other, last, h, (inl l))))) = a ((one_last front other z last (sym e ∙ h)).1 ∙ l)
     go (inr (inr (inl (other, last, h, (inr (inl l)))))) = b ((one_last front other z last (sym e ∙ h)).1 ∙ l)
     go (inr (inr (inl (other, last, h, (inr (inr l)))))) = c ((one_last front other z last (sym e ∙ h)).1 ∙ l)
-    go (inr (inr (inr (digit, h, its)))) = d (one_last front (CSI ++ 51 ∷ digit ∷ []) z 126 (sym e ∙ h)).1
+    go (inr (inr (inr (inr l)))) = unlettered l
+    go (inr (inr (inr (inl (digit, h, its))))) = d (one_last front (CSI ++ 51 ∷ digit ∷ []) z 126 (sym e ∙ h)).1
 
 -- what properly begins a form can go on to one that the port doesn't know, and that is no bare key
 pub record Completes (x10_mouse : Bool) (u : List ℕ) : Type 0 where
@@ -206,38 +228,38 @@ pub record Completes (x10_mouse : Bool) (u : List ℕ) : Type 0 where
   pub longer : tail ≢ []
   pub is_form : IsForm x10_mouse (u ++ tail)
   pub free : (m : Meaning) → ¬ IsSequence (u ++ tail) m
-  pub not_bare : ¬ IsBareKey (u ++ tail)
+  pub not_bare : (reading : Reading) → ¬ IsBareKey reading (u ++ tail)
 
 pub free_completion : {x10_mouse : Bool} (u : List ℕ) → IsUnfinishedForm x10_mouse u → Completes x10_mouse u
 free_completion {x10_mouse = x10_mouse} u f = go f.is_form
   where
-    -- the text of a form that isn't laid out as the port's sequences, by its last byte
+    -- the text of a form that isn't known to the port, by its last byte
     by : (text front : List ℕ) (z : ℕ) → (c : List ℕ) × (c ≢ []) × (u ++ c ≡ text) → text ≡ front ++ z ∷ [] → z ≢ 94 → z ≢ 64 → z ≢ 36
-        → z ≢ 126 → ((letter : ℕ) → text ≢ SS3 ++ letter ∷ []) → IsForm x10_mouse text → (Layout text → ⊥) → Completes x10_mouse u
-    by text front z c ends a b d tilde keypad g free =
-        let none : (m : Meaning) → ¬ IsSequence text m = λ m s. free (sequence_layout text m s) in
-        record {
-          tail = c.0;
-          longer = c.1;
-          is_form = subst (λ t. IsForm x10_mouse t) (sym c.2) g;
-          free = λ m s. none m (subst (λ t. IsSequence t m) c.2 s);
-          not_bare = λ k. not_bare text front z ends a b d tilde keypad none (subst IsBareKey c.2 k);
-        }
+        → z ≢ 126 → ((letter : ℕ) → text ≢ SS3 ++ letter ∷ []) → ¬ IsLetteredKey text → IsForm x10_mouse text
+        → ((m : Meaning) → ¬ IsSequence text m) → Completes x10_mouse u
+    by text front z c ends a b d tilde keypad unlettered g none = record {
+      tail = c.0;
+      longer = c.1;
+      is_form = subst (λ t. IsForm x10_mouse t) (sym c.2) g;
+      free = λ m s. none m (subst (λ t. IsSequence t m) c.2 s);
+      not_bare = λ reading k. not_bare text front z ends a b d tilde keypad unlettered none reading (subst (IsBareKey reading) c.2 k);
+    }
 
     -- a text that ends in x
     by_x : (front : List ℕ) → (c : List ℕ) × (c ≢ []) × (u ++ c ≡ front ++ 120 ∷ [])
         → ((letter : ℕ) → front ++ 120 ∷ [] ≢ SS3 ++ letter ∷ []) → IsForm x10_mouse (front ++ 120 ∷ []) → (Layout (front ++ 120 ∷ []) → ⊥)
         → Completes x10_mouse u
     by_x front c keypad g free =
-        by (front ++ 120 ∷ []) front 120 c refl (λ k. omega arith) (λ k. omega arith) (λ k. omega arith) (λ k. omega arith) keypad g free
+        by (front ++ 120 ∷ []) front 120 c refl (λ k. omega arith) (λ k. omega arith) (λ k. omega arith) (λ k. omega arith) keypad
+        (no_lettered_x front) g (λ m s. free (sequence_layout (front ++ 120 ∷ []) m s))
 
     bracket_no_keypad : (t : List ℕ) (letter : ℕ) → 27 ∷ 91 ∷ t ≢ SS3 ++ letter ∷ []
     bracket_no_keypad t letter e = (let second : ◌≡◌ {A = ℕ} 91 79 = cc (e) in omega arith)
 
     -- ESC O, m and x, where perhaps 0 ; is before m
-    modified_x : (front : List ℕ) (digit : ℕ) → (front ≡ []) ⊎ (front ≡ codes "0;") → IsModifierDigit digit
+    modified_x : (front : List ℕ) (digit : ℕ) → IsModifiedFront front → front ≢ codes "1;" → IsModifierDigit digit
         → (c : List ℕ) × (c ≢ []) × (u ++ c ≡ (SS3 ++ front ++ digit ∷ []) ++ 120 ∷ []) → Completes x10_mouse u
-    modified_x front digit front_is digit_is c =
+    modified_x front digit front_is no_one digit_is c =
         let same : (SS3 ++ front ++ digit ∷ []) ++ 120 ∷ [] ≡ 27 ∷ 79 ∷ ((front ++ digit ∷ []) ++ 120 ∷ []) = refl in
         by_x (SS3 ++ front ++ digit ∷ []) c
         (λ letter e. no_letter letter (cc (e)))
@@ -248,7 +270,7 @@ free_completion {x10_mouse = x10_mouse} u f = go f.is_form
           form = ap (λ z. 27 ∷ 79 ∷ z) (append_assoc front (digit ∷ []) (120 ∷ []));
           front_is = front_is;
           digit_is = digit_is;
-          letter_is = inr (inr (inr (omega arith, omega arith)));
+          letter_is = (inr (inr (inr (omega arith, omega arith))), λ e. absurd (no_one e));
         }))
         (λ l. no_past_x (front ++ digit ∷ [])
         (past_of _ 79 _ same (append-some (front ++ digit ∷ []) (120 ∷ []) (λ h. cc (h))) l).1)
@@ -256,6 +278,24 @@ free_completion {x10_mouse = x10_mouse} u f = go f.is_form
         no_letter : (letter : ℕ) → (front ++ digit ∷ []) ++ 120 ∷ [] ≡ letter ∷ [] → ⊥
         no_letter letter e =
             omega (arith, ap length e, length-append (front ++ digit ∷ []) (120 ∷ []), length-append front (digit ∷ []))
+
+    -- ESC O1;, m and P
+    modified_p : (digit : ℕ) → IsModifierDigit digit
+        → (c : List ℕ) × (c ≢ []) × (u ++ c ≡ 27 ∷ 79 ∷ 49 ∷ 59 ∷ digit ∷ 80 ∷ []) → Completes x10_mouse u
+    modified_p digit digit_is c = by (27 ∷ 79 ∷ 49 ∷ 59 ∷ digit ∷ 80 ∷ []) (27 ∷ 79 ∷ 49 ∷ 59 ∷ digit ∷ []) 80 c refl
+        (λ k. omega arith) (λ k. omega arith) (λ k. omega arith) (λ k. omega arith)
+        (λ letter e. cc (e))
+        (no_lettered_other _ _ 79 refl (λ k. omega arith))
+        (modified_key (record {
+          front = codes "1;";
+          digit = digit;
+          letter = 80;
+          form = refl;
+          front_is = inr (inr refl);
+          digit_is = digit_is;
+          letter_is = (inl (omega arith, omega arith), λ e. (omega arith, omega arith));
+        }))
+        (λ m s. behind_one_free digit 80 m (omega arith, omega arith) s)
 
     go : IsForm x10_mouse (u ++ f.tail) → Completes x10_mouse u
     go (control g) = by_x (CSI ++ g.inner)
@@ -279,13 +319,23 @@ free_completion {x10_mouse = x10_mouse} u f = go f.is_form
     go (console_key g) = by (u ++ f.tail) (27 ∷ 91 ∷ 91 ∷ []) g.letter (f.tail, f.longer, refl) g.form
         (λ k. omega (arith, g.letter_is)) (λ k. omega (arith, g.letter_is)) (λ k. omega (arith, g.letter_is)) (λ k. omega (arith, g.letter_is))
         (λ letter e. bracket_no_keypad (91 ∷ g.letter ∷ []) letter (sym g.form ∙ e))
-        (console_key g) (console_free (u ++ f.tail) g)
+        (no_lettered_console (u ++ f.tail) g)
+        (console_key g) (λ m s. console_free (u ++ f.tail) g (sequence_layout (u ++ f.tail) m s))
     go (keypad_key g) =
         let c = replaced u f.tail SS3 g.letter 50 f.longer g.form in
-        modified_x [] 50 (inl refl) (omega arith, omega arith)
+        modified_x [] 50 (inl refl) (λ e. cc (e)) (omega arith, omega arith)
         (c.0 ++ 120 ∷ [], append-some c.0 (120 ∷ []) (λ h. cc (h)), sym (append_assoc u c.0 (120 ∷ [])) ∙ ap (λ z. z ++ 120 ∷ []) c.2)
-    go (modified_key g) = modified_x g.front g.digit g.front_is g.digit_is (replaced u f.tail (SS3 ++ g.front ++ g.digit ∷ []) g.letter 120 f.longer
-        (g.form ∙ ap (λ z. 27 ∷ 79 ∷ z) (sym (append_assoc g.front (g.digit ∷ []) (g.letter ∷ [])))))
+    go (modified_key g) = by_front g.front_is
+      where
+        other : (x : ℕ) → (c : List ℕ) × (c ≢ []) × (u ++ c ≡ (SS3 ++ g.front ++ g.digit ∷ []) ++ x ∷ [])
+        other x = replaced u f.tail (SS3 ++ g.front ++ g.digit ∷ []) g.letter x f.longer
+            (g.form ∙ ap (λ z. 27 ∷ 79 ∷ z) (sym (append_assoc g.front (g.digit ∷ []) (g.letter ∷ []))))
+
+        by_front : IsModifiedFront g.front → Completes x10_mouse u
+        by_front (inl e) = modified_x g.front g.digit (inl e) (λ h. cc (e, h)) g.digit_is (other 120)
+        by_front (inr (inl e)) = modified_x g.front g.digit (inr (inl e)) (λ h. (let same : ◌≡◌ {A = ℕ} 48 49 = cc (e, h) in omega arith)) g.digit_is (other 120)
+        by_front (inr (inr e)) = modified_p g.digit g.digit_is
+            (subst (λ front. (c : List ℕ) × (c ≢ []) × (u ++ c ≡ (SS3 ++ front ++ g.digit ∷ []) ++ 80 ∷ [])) e (other 80))
     go (shifted_key g) = by_x (CSI ++ g.number)
         (replaced u f.tail (CSI ++ g.number) 36 120 f.longer g.form)
         (bracket_no_keypad (g.number ++ 120 ∷ []))
@@ -296,10 +346,17 @@ free_completion {x10_mouse = x10_mouse} u f = go f.is_form
         no_keypad : (letter : ℕ) → u ++ f.tail ≢ SS3 ++ letter ∷ []
         no_keypad letter e = (let second : ◌≡◌ {A = ℕ} 93 79 = cc (g.form, e) in omega arith)
 
+        unlettered : ¬ IsLetteredKey (u ++ f.tail)
+        unlettered = no_lettered_other _ _ 93 g.form (λ k. omega arith)
+
+        free : (m : Meaning) → ¬ IsSequence (u ++ f.tail) m
+        free m s = title_free (u ++ f.tail) g (sequence_layout (u ++ f.tail) m s)
+
         by_end : IsStringEnd Osc g.end → Completes x10_mouse u
         by_end (inl e) = by (u ++ f.tail) (27 ∷ 93 ∷ g.letter ∷ (g.body ++ 27 ∷ [])) 92 (f.tail, f.longer, refl)
             (g.form ∙ ap (λ z. 27 ∷ 93 ∷ g.letter ∷ (g.body ++ z)) e ∙ ap (λ z. 27 ∷ 93 ∷ g.letter ∷ z) (sym (append_assoc g.body (27 ∷ []) (92 ∷ []))))
-            (λ k. omega arith) (λ k. omega arith) (λ k. omega arith) (λ k. omega arith) no_keypad (title g) (title_free (u ++ f.tail) g)
+            (λ k. omega arith) (λ k. omega arith) (λ k. omega arith) (λ k. omega arith) no_keypad unlettered
+            (title g) free
         by_end (inr e) = by (u ++ f.tail) (27 ∷ 93 ∷ g.letter ∷ g.body) 7 (f.tail, f.longer, refl)
             (g.form ∙ ap (λ z. 27 ∷ 93 ∷ g.letter ∷ (g.body ++ z)) e)
-            (λ k. omega arith) (λ k. omega arith) (λ k. omega arith) (λ k. omega arith) no_keypad (title g) (title_free (u ++ f.tail) g)
+            (λ k. omega arith) (λ k. omega arith) (λ k. omega arith) (λ k. omega arith) no_keypad unlettered (title g) free

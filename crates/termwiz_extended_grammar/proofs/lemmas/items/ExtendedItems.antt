@@ -137,11 +137,11 @@ apart_longer reading u s (inr o) = inr (record {
 })
 
 -- a bare key isn't that
-pub joined_not_apart : (reading : Reading) (v text left : List ℕ) (event : ExtendedEvent) → IsExtra reading text event → IsBareKey text
+pub joined_not_apart : (reading : Reading) (v text left : List ℕ) (event : ExtendedEvent) → IsExtra reading text event → IsBareKey reading text
     → v ≡ text ++ left → StartsApart reading v → ⊥
 joined_not_apart reading v text left event is bare e (inl h) =
     let same = starts_once reading v h.text text h.event event h.is_extra is h.begins (left, e) in
-    h.not_bare (subst IsBareKey (sym same.0) bare)
+    h.not_bare (subst (IsBareKey reading) (sym same.0) bare)
 joined_not_apart reading v text left event is bare e (inr o) =
     extra_or_opening reading v (record { text = text; event = event; is_extra = is; begins = (left, e) }) o
 

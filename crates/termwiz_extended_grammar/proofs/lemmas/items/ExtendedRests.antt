@@ -132,9 +132,9 @@ open_short u o = omega (
 -- ESC before an extra sequence or an opening is joined to it, or is an item by itself
 pub before_extended : (reading : Reading) (v : List ℕ) (f : Bool) → StartsExtended reading v → HasItem reading (ESC ++ v) f
 before_extended reading v f (inl h) = ⊎_elim
-    (λ (bare : IsBareKey h.text).
+    (λ (bare : IsBareKey reading h.text).
     (h.begins.0, with_alt h.event, alt_key h.text h.begins.0 h.event h.is_extra bare (ap (λ z. 27 ∷ z) h.begins.1)))
-    (λ (other : ¬ IsBareKey h.text). (
+    (λ (other : ¬ IsBareKey reading h.text). (
       v,
       Input (Key escape),
       lone_escape v refl (inl (record {
@@ -145,7 +145,7 @@ before_extended reading v f (inl h) = ⊎_elim
         begins = h.begins;
       })),
     ))
-    (bare_or_not h.text)
+    (bare_or_not reading h.text)
 before_extended reading v f (inr o) = (v, Input (Key escape), lone_escape v refl (inr o))
 
 settled_before : (reading : Reading) (v : List ℕ) (f : Bool) → StartsExtended reading v → SettledExtended reading (ESC ++ v) f

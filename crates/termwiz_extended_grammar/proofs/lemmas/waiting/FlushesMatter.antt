@@ -36,12 +36,12 @@ use Rattle.termwiz_extended_events.specs.declared.types.ExtendedEvent.TheVariant
 use Rattle.termwiz_extended_events.specs.declared.types.Reading.{Reading}
 use Rattle.termwiz_extended_events.specs.declared.types.StringKind.{StringKind}
 use Rattle.termwiz_extended_events.specs.declared.types.StringKind.TheVariants.{Osc, Dcs, Apc}
-use Rattle.termwiz_extended_events.specs.Meanings.{event_of, whole_string}
+use Rattle.termwiz_extended_events.specs.Meanings.{whole_string}
 use Rattle.termwiz_extended_grammar.specs.Forms.{ST, introducer, IsForm}
 use Rattle.termwiz_extended_grammar.specs.Strings.{IsUnfinishedOpening, IsOpenString}
 use Rattle.termwiz_extended_grammar.specs.Strings.Ends.{ended, flushed}
 use Rattle.termwiz_extended_grammar.specs.Strings.Comes.{last}
-use Rattle.termwiz_extended_grammar.specs.Readings.{after_event, after_events}
+use Rattle.termwiz_extended_grammar.specs.Readings.{after_event, after_events, event_in}
 use Rattle.termwiz_extended_grammar.specs.ExtraSequences.{IsExtra, IsBareKey}
 use Rattle.termwiz_extended_grammar.specs.ExtendedGrammar.{StartsExtended, StartsApart, BeginsKnown, Stands, Steps, Means}
 use Rattle.termwiz_extended_grammar.specs.ExtendedGrammar.Stands.{extra, alt_key, lone_escape, string, usual}
@@ -233,14 +233,14 @@ module _ (reading : Reading) (x : ℕ) (p c : List ℕ) (longer : c ≢ []) (mar
 
 -- a text that goes on to an extra sequence
 extra_goes_on : (reading : Reading) (x : ℕ) (p c : List ℕ) → c ≢ [] → IsForm reading.x10_mouse (x ∷ p ++ c)
-    → ((m : Meaning) → ¬ IsSequence (x ∷ p ++ c) m) → ¬ IsBareKey (x ∷ p ++ c) → GoesOn reading x p c
+    → ((m : Meaning) → ¬ IsSequence (x ∷ p ++ c) m) → ¬ IsBareKey reading (x ∷ p ++ c) → GoesOn reading x p c
 extra_goes_on reading x p c longer form free other =
-    let is : IsExtra reading (x ∷ p ++ c) (event_of (x ∷ p ++ c)) =
+    let is : IsExtra reading (x ∷ p ++ c) (event_in reading (x ∷ p ++ c)) =
     record { is_form = form; is_free = free_from_none reading (x ∷ p ++ c) free; means = refl } in
     let whole : x ∷ p ++ c ≡ (x ∷ p ++ c) ++ [] = sym (append-nil (x ∷ p ++ c)) in
     mark_goes_on reading x p c longer (inl form)
-    (inl (record { text = x ∷ p ++ c; event = event_of (x ∷ p ++ c); is_extra = is; not_bare = other; begins = ([], whole) }))
-    (event_of (x ∷ p ++ c)) (extra (x ∷ p ++ c) [] (event_of (x ∷ p ++ c)) is whole)
+    (inl (record { text = x ∷ p ++ c; event = event_in reading (x ∷ p ++ c); is_extra = is; not_bare = other; begins = ([], whole) }))
+    (event_in reading (x ∷ p ++ c)) (extra (x ∷ p ++ c) [] (event_in reading (x ∷ p ++ c)) is whole)
 
 -- a text that goes on to an opening
 opening_goes_on : (reading : Reading) (x : ℕ) (p : List ℕ) (o : IsUnfinishedOpening (x ∷ p)) → GoesOn reading x p o.tail
@@ -465,7 +465,7 @@ module _ (reading : Reading) (x : ℕ) (p c : List ℕ) (longer : c ≢ []) (d :
 goes_on : (reading : Reading) (x : ℕ) (p : List ℕ) → BeginsKnown reading (x ∷ p) → Decision (IsUnfinishedMark reading.x10_mouse (x ∷ p))
     → (c : List ℕ) × GoesOn reading x p c
 goes_on reading x p beginning (inl (inl form)) =
-    let c = free_completion (x ∷ p) form in (c.tail, extra_goes_on reading x p c.tail c.longer c.is_form c.free c.not_bare)
+    let c = free_completion (x ∷ p) form in (c.tail, extra_goes_on reading x p c.tail c.longer c.is_form c.free (c.not_bare reading))
 goes_on reading x p beginning (inl (inr o)) = (o.tail, opening_goes_on reading x p o)
 goes_on reading x p (inl (inl h)) (inr never) =
     (h.tail, own_goes_on reading x p h.tail (sequence_own reading x p h.tail h.longer h.meaning h.is_sequence never))

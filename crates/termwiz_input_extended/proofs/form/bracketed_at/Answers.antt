@@ -1,4 +1,4 @@
-use Rattle.std.proofs.Common.{◌≡◌, ◌≢◌, ◌∷◌, ℕ, Bool, true, sym, subst, Some}
+use Rattle.std.proofs.Common.{◌≡◌, ◌∷◌, ℕ, Bool, true, sym, subst, Some}
 use Rattle.std.specs.List.{slice_get}
 use Rattle.termwiz_input_extended.specs.FormAnswers.{HasForm}
 use Rattle.termwiz_input_extended.proofs.lemmas.forms.FrontAnswers.{first_got}

@@ -2,11 +2,11 @@
 use Rattle.std.proofs.Common.{◌≡◌, ◌≢◌, ◌⊎◌, inl, inr, ℕ, zero, suc, ◌+◌, ◌-◌, ◌<◌, ◌≤◌, Bool, true, List, [], ◌∷◌, ◌++◌, length, take, drop, refl, sym, ap, ◌∙◌, subst, arith, append_assoc, length-append, get_or, Some, None}
 use Rattle.std.specs.List.{slice_get}
 use Rattle.std.specs.List.{AllByRecursion}
-use Rattle.termwiz_extended_grammar.specs.Forms.{IsMouseByte, IsConsoleLetter, IsKeypadLetter, IsModifierDigit, IsModifiedLetter, IsRxvtNumber, IsForm}
+use Rattle.termwiz_extended_grammar.specs.Forms.{IsMouseByte, IsConsoleLetter, IsKeypadLetter, IsModifierDigit, IsModifiedFront, IsLetterBehind, IsRxvtNumber, IsForm}
 use Rattle.termwiz_extended_grammar.specs.Forms.IsForm.{control, x10_report, console_key, keypad_key, modified_key, shifted_key, title}
 use Rattle.termwiz_extended_grammar.proofs.lemmas.forms.FormBytes.{form_shape, rxvt_digits}
 use Rattle.termwiz_input_extended.specs.declared.form.FormAt.TheVariants.{Whole, Unfinished, Absent}
-use Rattle.termwiz_input_extended.specs.FormAnswers.{HasForm, IsModifiedFront}
+use Rattle.termwiz_input_extended.specs.FormAnswers.{HasForm, IsPartedFirst, front_of}
 use Rattle.termwiz_input_extended.proofs.lemmas.forms.FrontAnswers.{whole_front, unfinished_front, absent_front, first_got, none_got, two_first}
 
 no_escape : {x10_mouse : Bool} (b : ℕ) (r : List ℕ) → b ≢ 27 → HasForm x10_mouse (b ∷ r) Absent
@@ -58,7 +58,7 @@ keypad_whole b r is = whole_front (27 ∷ 79 ∷ b ∷ []) r 3 refl (keypad_form
 data Keypad (t x : List ℕ) : Type 0 where
   lettered : (letter : ℕ) → t ≡ letter ∷ x → IsKeypadLetter letter → Keypad t x
   modified : (front : List ℕ) (digit letter : ℕ) → t ≡ front ++ digit ∷ letter ∷ x → IsModifiedFront front → IsModifierDigit digit
-      → IsModifiedLetter letter → Keypad t x
+      → IsLetterBehind front letter → Keypad t x
 
 keypad_of : {x10_mouse : Bool} (text x t : List ℕ) → IsForm x10_mouse text → text ++ x ≡ 27 ∷ 79 ∷ t → Keypad t x
 keypad_of text x t (keypad_key f) e =
@@ -93,7 +93,7 @@ keypad_of text x t (title f) e = absurd (
 keypad_none : {x10_mouse : Bool} (r : List ℕ) → ((x y : List ℕ) → Keypad (r ++ y) x → ⊥) → HasForm x10_mouse (27 ∷ 79 ∷ r) Absent
 keypad_none r never = absent_front (27 ∷ 79 ∷ r) (λ text x y f e. never x y (keypad_of text x (r ++ y) f e))
 
-modified_form : {x10_mouse : Bool} (front : List ℕ) (digit letter : ℕ) → IsModifiedFront front → IsModifierDigit digit → IsModifiedLetter letter
+modified_form : {x10_mouse : Bool} (front : List ℕ) (digit letter : ℕ) → IsModifiedFront front → IsModifierDigit digit → IsLetterBehind front letter
     → IsForm x10_mouse (27 ∷ 79 ∷ (front ++ digit ∷ letter ∷ []))
 modified_form front digit letter front_is digit_is letter_is = modified_key (record {
   front = front;
@@ -108,56 +108,74 @@ modified_form front digit letter front_is digit_is letter_is = modified_key (rec
 two_is : IsModifierDigit 50
 two_is = (omega arith, omega arith)
 
-p_is : IsModifiedLetter 80
-p_is = inl (omega arith, omega arith)
+-- P is the letter of a key behind whatever may stand before the digit
+p_is : (front : List ℕ) → IsLetterBehind front 80
+p_is front = (inl (omega arith, omega arith), λ e. (omega arith, omega arith))
+
+-- 0; and 1; may stand there
+front_with : (first : ℕ) → IsPartedFirst first → IsModifiedFront (first ∷ 59 ∷ [])
+front_with first (inl e) = inr (inl (ap (λ z. z ∷ 59 ∷ []) e))
+front_with first (inr e) = inr (inr (ap (λ z. z ∷ 59 ∷ []) e))
+
+-- and nothing else with a semicolon
+parted : (front : List ℕ) → (front ≡ 48 ∷ 59 ∷ []) ⊎ (front ≡ 49 ∷ 59 ∷ []) → (first : ℕ) × (front ≡ first ∷ 59 ∷ []) × IsPartedFirst first
+parted front (inl e) = (48, e, inl refl)
+parted front (inr e) = (49, e, inr refl)
 
 -- a byte that begins no key of the keypad, nor one with modifiers
-keypad_absent : {x10_mouse : Bool} (b : ℕ) (r : List ℕ) → ¬ IsKeypadLetter b → ¬ IsModifierDigit b → b ≢ 48 → HasForm x10_mouse (27 ∷ 79 ∷ b ∷ r) Absent
-keypad_absent b r no_letter no_digit no_zero = keypad_none (b ∷ r) never
+keypad_absent : {x10_mouse : Bool} (b : ℕ) (r : List ℕ) → ¬ IsKeypadLetter b → ¬ IsModifierDigit b → ¬ IsPartedFirst b
+    → HasForm x10_mouse (27 ∷ 79 ∷ b ∷ r) Absent
+keypad_absent b r no_letter no_digit no_first = keypad_none (b ∷ r) never
   where
     never : (x y : List ℕ) → Keypad (b ∷ r ++ y) x → ⊥
     never x y (lettered letter e is) = no_letter (subst IsKeypadLetter (let same : letter ≡ b = cc (e) in same) is)
     never x y (modified front digit letter e (inl none) digit_is letter_is) =
         let all : b ∷ (r ++ y) ≡ digit ∷ letter ∷ x = e ∙ ap (λ z. z ++ digit ∷ letter ∷ x) none in
         no_digit (subst IsModifierDigit (let same : digit ≡ b = cc (all) in same) digit_is)
-    never x y (modified front digit letter e (inr zero_first) digit_is letter_is) =
-        let all : b ∷ (r ++ y) ≡ 48 ∷ 59 ∷ digit ∷ letter ∷ x = e ∙ ap (λ z. z ++ digit ∷ letter ∷ x) zero_first in
-        no_zero (cc (all))
+    never x y (modified front digit letter e (inr part) digit_is letter_is) =
+        let p = parted front part in
+        let all : b ∷ (r ++ y) ≡ p.0 ∷ 59 ∷ digit ∷ letter ∷ x = e ∙ ap (λ z. z ++ digit ∷ letter ∷ x) p.1 in
+        no_first (subst IsPartedFirst (let same : p.0 ≡ b = cc (all) in same) p.2)
 
--- 0 and what follows it
-zero_unfinished : {x10_mouse : Bool} → HasForm x10_mouse (27 ∷ 79 ∷ 48 ∷ []) Unfinished
-zero_unfinished = unfinished_front (27 ∷ 79 ∷ 48 ∷ []) (59 ∷ 50 ∷ 80 ∷ []) (λ h. cc (h)) (modified_form (48 ∷ 59 ∷ []) 50 80 (inr refl) two_is p_is)
+-- 0 or 1, and what follows it
+begun_unfinished : {x10_mouse : Bool} (first : ℕ) → IsPartedFirst first → HasForm x10_mouse (27 ∷ 79 ∷ first ∷ []) Unfinished
+begun_unfinished first is = unfinished_front (27 ∷ 79 ∷ first ∷ []) (59 ∷ 50 ∷ 80 ∷ []) (λ h. cc (h))
+    (modified_form (first ∷ 59 ∷ []) 50 80 (front_with first is) two_is (p_is (first ∷ 59 ∷ [])))
 
-zero_absent : {x10_mouse : Bool} (b : ℕ) (r : List ℕ) → b ≢ 59 → HasForm x10_mouse (27 ∷ 79 ∷ 48 ∷ b ∷ r) Absent
-zero_absent b r other = keypad_none (48 ∷ b ∷ r) never
+begun_absent : {x10_mouse : Bool} (first b : ℕ) (r : List ℕ) → IsPartedFirst first → b ≢ 59 → HasForm x10_mouse (27 ∷ 79 ∷ first ∷ b ∷ r) Absent
+begun_absent first b r first_is other = keypad_none (first ∷ b ∷ r) never
   where
-    never : (x y : List ℕ) → Keypad (48 ∷ b ∷ r ++ y) x → ⊥
-    never x y (lettered letter e is) = (let same : 48 ≡ letter = cc (e) in omega (arith, is))
+    never : (x y : List ℕ) → Keypad (first ∷ b ∷ r ++ y) x → ⊥
+    never x y (lettered letter e is) = (let same : first ≡ letter = cc (e) in omega (arith, is, first_is))
     never x y (modified front digit letter e (inl none) digit_is letter_is) =
-        let all : 48 ∷ b ∷ (r ++ y) ≡ digit ∷ letter ∷ x = e ∙ ap (λ z. z ++ digit ∷ letter ∷ x) none in
-        let same : 48 ≡ digit = cc (all) in omega (arith, digit_is)
-    never x y (modified front digit letter e (inr zero_first) digit_is letter_is) =
-        let all : 48 ∷ b ∷ (r ++ y) ≡ 48 ∷ 59 ∷ digit ∷ letter ∷ x = e ∙ ap (λ z. z ++ digit ∷ letter ∷ x) zero_first in
+        let all : first ∷ b ∷ (r ++ y) ≡ digit ∷ letter ∷ x = e ∙ ap (λ z. z ++ digit ∷ letter ∷ x) none in
+        let same : first ≡ digit = cc (all) in omega (arith, digit_is, first_is)
+    never x y (modified front digit letter e (inr part) digit_is letter_is) =
+        let p = parted front part in
+        let all : first ∷ b ∷ (r ++ y) ≡ p.0 ∷ 59 ∷ digit ∷ letter ∷ x = e ∙ ap (λ z. z ++ digit ∷ letter ∷ x) p.1 in
         other (cc (all))
 
-parted_unfinished : {x10_mouse : Bool} → HasForm x10_mouse (27 ∷ 79 ∷ 48 ∷ 59 ∷ []) Unfinished
-parted_unfinished = unfinished_front (27 ∷ 79 ∷ 48 ∷ 59 ∷ []) (50 ∷ 80 ∷ []) (λ h. cc (h)) (modified_form (48 ∷ 59 ∷ []) 50 80 (inr refl) two_is p_is)
+parted_unfinished : {x10_mouse : Bool} (first : ℕ) → IsPartedFirst first → HasForm x10_mouse (27 ∷ 79 ∷ first ∷ 59 ∷ []) Unfinished
+parted_unfinished first is = unfinished_front (27 ∷ 79 ∷ first ∷ 59 ∷ []) (50 ∷ 80 ∷ []) (λ h. cc (h))
+    (modified_form (first ∷ 59 ∷ []) 50 80 (front_with first is) two_is (p_is (first ∷ 59 ∷ [])))
 
-parted_absent : {x10_mouse : Bool} (b : ℕ) (r : List ℕ) → ¬ IsModifierDigit b → HasForm x10_mouse (27 ∷ 79 ∷ 48 ∷ 59 ∷ b ∷ r) Absent
-parted_absent b r other = keypad_none (48 ∷ 59 ∷ b ∷ r) never
+parted_absent : {x10_mouse : Bool} (first b : ℕ) (r : List ℕ) → IsPartedFirst first → ¬ IsModifierDigit b
+    → HasForm x10_mouse (27 ∷ 79 ∷ first ∷ 59 ∷ b ∷ r) Absent
+parted_absent first b r first_is other = keypad_none (first ∷ 59 ∷ b ∷ r) never
   where
-    never : (x y : List ℕ) → Keypad (48 ∷ 59 ∷ b ∷ r ++ y) x → ⊥
-    never x y (lettered letter e is) = (let same : 48 ≡ letter = cc (e) in omega (arith, is))
+    never : (x y : List ℕ) → Keypad (first ∷ 59 ∷ b ∷ r ++ y) x → ⊥
+    never x y (lettered letter e is) = (let same : first ≡ letter = cc (e) in omega (arith, is, first_is))
     never x y (modified front digit letter e (inl none) digit_is letter_is) =
-        let all : 48 ∷ 59 ∷ b ∷ (r ++ y) ≡ digit ∷ letter ∷ x = e ∙ ap (λ z. z ++ digit ∷ letter ∷ x) none in
-        let same : 48 ≡ digit = cc (all) in omega (arith, digit_is)
-    never x y (modified front digit letter e (inr zero_first) digit_is letter_is) =
-        let all : 48 ∷ 59 ∷ b ∷ (r ++ y) ≡ 48 ∷ 59 ∷ digit ∷ letter ∷ x = e ∙ ap (λ z. z ++ digit ∷ letter ∷ x) zero_first in
+        let all : first ∷ 59 ∷ b ∷ (r ++ y) ≡ digit ∷ letter ∷ x = e ∙ ap (λ z. z ++ digit ∷ letter ∷ x) none in
+        let same : first ≡ digit = cc (all) in omega (arith, digit_is, first_is)
+    never x y (modified front digit letter e (inr part) digit_is letter_is) =
+        let p = parted front part in
+        let all : first ∷ 59 ∷ b ∷ (r ++ y) ≡ p.0 ∷ 59 ∷ digit ∷ letter ∷ x = e ∙ ap (λ z. z ++ digit ∷ letter ∷ x) p.1 in
         other (subst IsModifierDigit (let same : digit ≡ b = cc (all) in same) digit_is)
 
 -- a digit and what follows it
-modified_whole : {x10_mouse : Bool} (front : List ℕ) (digit b : ℕ) (r : List ℕ) → IsModifiedFront front → IsModifierDigit digit → IsModifiedLetter b
-    → HasForm x10_mouse (27 ∷ 79 ∷ (front ++ digit ∷ b ∷ r)) (Whole (3 + length front + 1))
+modified_whole : {x10_mouse : Bool} (front : List ℕ) (digit b : ℕ) (r : List ℕ) → IsModifiedFront front → IsModifierDigit digit
+    → IsLetterBehind front b → HasForm x10_mouse (27 ∷ 79 ∷ (front ++ digit ∷ b ∷ r)) (Whole (3 + length front + 1))
 modified_whole {x10_mouse = x10_mouse} front digit b r front_is digit_is letter_is =
     subst (λ u. HasForm x10_mouse u (Whole (3 + length front + 1))) (ap (λ z. 27 ∷ 79 ∷ z) (append_assoc front (digit ∷ b ∷ []) r))
     (whole_front (27 ∷ 79 ∷ (front ++ digit ∷ b ∷ [])) r (3 + length front + 1) (omega (arith, length-append front (digit ∷ b ∷ [])))
@@ -166,10 +184,11 @@ modified_whole {x10_mouse = x10_mouse} front digit b r front_is digit_is letter_
 modified_unfinished : {x10_mouse : Bool} (front : List ℕ) (digit : ℕ) → IsModifiedFront front → IsModifierDigit digit
     → HasForm x10_mouse (27 ∷ 79 ∷ (front ++ digit ∷ [])) Unfinished
 modified_unfinished {x10_mouse = x10_mouse} front digit front_is digit_is = unfinished_front (27 ∷ 79 ∷ (front ++ digit ∷ [])) (80 ∷ []) (λ h. cc (h))
-    (subst (λ z. IsForm x10_mouse (27 ∷ 79 ∷ z)) (sym (append_assoc front (digit ∷ []) (80 ∷ []))) (modified_form front digit 80 front_is digit_is p_is))
+    (subst (λ z. IsForm x10_mouse (27 ∷ 79 ∷ z)) (sym (append_assoc front (digit ∷ []) (80 ∷ [])))
+    (modified_form front digit 80 front_is digit_is (p_is front)))
 
-modified_absent : {x10_mouse : Bool} (front : List ℕ) (digit b : ℕ) (r : List ℕ) → IsModifiedFront front → IsModifierDigit digit → ¬ IsModifiedLetter b
-    → HasForm x10_mouse (27 ∷ 79 ∷ (front ++ digit ∷ b ∷ r)) Absent
+modified_absent : {x10_mouse : Bool} (front : List ℕ) (digit b : ℕ) (r : List ℕ) → IsModifiedFront front → IsModifierDigit digit
+    → ¬ IsLetterBehind front b → HasForm x10_mouse (27 ∷ 79 ∷ (front ++ digit ∷ b ∷ r)) Absent
 modified_absent {x10_mouse = x10_mouse} front digit b r (inl none) digit_is other =
     subst (λ z. HasForm x10_mouse (27 ∷ 79 ∷ (z ++ digit ∷ b ∷ r)) Absent) (sym none) (keypad_none (digit ∷ b ∷ r) never)
   where
@@ -177,21 +196,32 @@ modified_absent {x10_mouse = x10_mouse} front digit b r (inl none) digit_is othe
     never x y (lettered letter e is) = (let same : digit ≡ letter = cc (e) in omega (arith, is, digit_is))
     never x y (modified front2 d l e (inl none2) d_is l_is) =
         let all : digit ∷ b ∷ (r ++ y) ≡ d ∷ l ∷ x = e ∙ ap (λ z. z ++ d ∷ l ∷ x) none2 in
-        other (subst IsModifiedLetter (let same : l ≡ b = cc (all) in same) l_is)
-    never x y (modified front2 d l e (inr zero_first) d_is l_is) =
-        let all : digit ∷ b ∷ (r ++ y) ≡ 48 ∷ 59 ∷ d ∷ l ∷ x = e ∙ ap (λ z. z ++ d ∷ l ∷ x) zero_first in
-        let same : digit ≡ 48 = cc (all) in omega (arith, digit_is)
-modified_absent {x10_mouse = x10_mouse} front digit b r (inr zeroed) digit_is other =
-    subst (λ z. HasForm x10_mouse (27 ∷ 79 ∷ (z ++ digit ∷ b ∷ r)) Absent) (sym zeroed) (keypad_none (48 ∷ 59 ∷ digit ∷ b ∷ r) never)
+        let letter : l ≡ b = cc (all) in
+        other (subst (λ z. IsLetterBehind z b) (none2 ∙ sym none) (subst (IsLetterBehind front2) letter l_is))
+    never x y (modified front2 d l e (inr part) d_is l_is) =
+        let p = parted front2 part in
+        let all : digit ∷ b ∷ (r ++ y) ≡ p.0 ∷ 59 ∷ d ∷ l ∷ x = e ∙ ap (λ z. z ++ d ∷ l ∷ x) p.1 in
+        let same : digit ≡ p.0 = cc (all) in omega (arith, digit_is, p.2)
+modified_absent {x10_mouse = x10_mouse} front digit b r (inr with_part) digit_is other =
+    subst (λ z. HasForm x10_mouse (27 ∷ 79 ∷ (z ++ digit ∷ b ∷ r)) Absent) (sym (parted front with_part).1)
+    (keypad_none ((parted front with_part).0 ∷ 59 ∷ digit ∷ b ∷ r) never)
   where
-    never : (x y : List ℕ) → Keypad (48 ∷ 59 ∷ digit ∷ b ∷ r ++ y) x → ⊥
-    never x y (lettered letter e is) = (let same : 48 ≡ letter = cc (e) in omega (arith, is))
+    never : (x y : List ℕ) → Keypad ((parted front with_part).0 ∷ 59 ∷ digit ∷ b ∷ r ++ y) x → ⊥
+    never x y (lettered letter e is) =
+        let q = parted front with_part in
+        let same : q.0 ≡ letter = cc (e) in omega (arith, is, q.2)
     never x y (modified front2 d l e (inl none2) d_is l_is) =
-        let all : 48 ∷ 59 ∷ digit ∷ b ∷ (r ++ y) ≡ d ∷ l ∷ x = e ∙ ap (λ z. z ++ d ∷ l ∷ x) none2 in
-        let same : 48 ≡ d = cc (all) in omega (arith, d_is)
-    never x y (modified front2 d l e (inr zero_first) d_is l_is) =
-        let all : 48 ∷ 59 ∷ digit ∷ b ∷ (r ++ y) ≡ 48 ∷ 59 ∷ d ∷ l ∷ x = e ∙ ap (λ z. z ++ d ∷ l ∷ x) zero_first in
-        other (subst IsModifiedLetter (let same : l ≡ b = cc (all) in same) l_is)
+        let q = parted front with_part in
+        let all : q.0 ∷ 59 ∷ digit ∷ b ∷ (r ++ y) ≡ d ∷ l ∷ x = e ∙ ap (λ z. z ++ d ∷ l ∷ x) none2 in
+        let same : q.0 ≡ d = cc (all) in omega (arith, d_is, q.2)
+    never x y (modified front2 d l e (inr part) d_is l_is) =
+        let q = parted front with_part in
+        let p = parted front2 part in
+        let all : q.0 ∷ 59 ∷ digit ∷ b ∷ (r ++ y) ≡ p.0 ∷ 59 ∷ d ∷ l ∷ x = e ∙ ap (λ z. z ++ d ∷ l ∷ x) p.1 in
+        let first : p.0 ≡ q.0 = cc (all) in
+        let letter : l ≡ b = cc (all) in
+        let same : front2 ≡ front = p.1 ∙ ap (λ z. z ∷ 59 ∷ []) first ∙ sym q.1 in
+        other (subst (λ z. IsLetterBehind z b) same (subst (IsLetterBehind front2) letter l_is))
 
 console_form : {x10_mouse : Bool} (letter : ℕ) → IsConsoleLetter letter → IsForm x10_mouse (27 ∷ 91 ∷ 91 ∷ letter ∷ [])
 console_form letter is = console_key (record { letter = letter; form = refl; letter_is = is })
@@ -336,40 +366,48 @@ pub keypad_whole_at : {x10_mouse : Bool} (r : List ℕ) (b : ℕ) → Some b ≡
 keypad_whole_at {x10_mouse = x10_mouse} r b e is =
     subst (λ z. HasForm x10_mouse (27 ∷ 79 ∷ z) (Whole 3)) (first_got r b e) (keypad_whole b (take (length r - 1) (drop 1 r)) is)
 
-pub keypad_absent_at : {x10_mouse : Bool} (r : List ℕ) (b : ℕ) → Some b ≡ slice_get r 0 → ¬ IsKeypadLetter b → ¬ IsModifierDigit b → b ≢ 48
+pub keypad_absent_at : {x10_mouse : Bool} (r : List ℕ) (b : ℕ) → Some b ≡ slice_get r 0 → ¬ IsKeypadLetter b → ¬ IsModifierDigit b → ¬ IsPartedFirst b
     → HasForm x10_mouse (27 ∷ 79 ∷ r) Absent
 keypad_absent_at {x10_mouse = x10_mouse} r b e n m o =
     subst (λ z. HasForm x10_mouse (27 ∷ 79 ∷ z) Absent) (first_got r b e) (keypad_absent b (take (length r - 1) (drop 1 r)) n m o)
 
-pub zero_at_end : {x10_mouse : Bool} (r : List ℕ) → None ≡ slice_get r 0 → HasForm x10_mouse (27 ∷ 79 ∷ 48 ∷ r) Unfinished
-zero_at_end {x10_mouse = x10_mouse} r e = subst (λ z. HasForm x10_mouse (27 ∷ 79 ∷ 48 ∷ z) Unfinished) (sym (none_got r e)) zero_unfinished
+pub begun_at_end : {x10_mouse : Bool} (first : ℕ) (r : List ℕ) → IsPartedFirst first → None ≡ slice_get r 0
+    → HasForm x10_mouse (27 ∷ 79 ∷ first ∷ r) Unfinished
+begun_at_end {x10_mouse = x10_mouse} first r is e =
+    subst (λ z. HasForm x10_mouse (27 ∷ 79 ∷ first ∷ z) Unfinished) (sym (none_got r e)) (begun_unfinished first is)
 
-pub zero_absent_at : {x10_mouse : Bool} (r : List ℕ) (b : ℕ) → Some b ≡ slice_get r 0 → b ≢ 59 → HasForm x10_mouse (27 ∷ 79 ∷ 48 ∷ r) Absent
-zero_absent_at {x10_mouse = x10_mouse} r b e n =
-    subst (λ z. HasForm x10_mouse (27 ∷ 79 ∷ 48 ∷ z) Absent) (first_got r b e) (zero_absent b (take (length r - 1) (drop 1 r)) n)
+pub begun_absent_at : {x10_mouse : Bool} (first : ℕ) (r : List ℕ) (b : ℕ) → IsPartedFirst first → Some b ≡ slice_get r 0 → b ≢ 59
+    → HasForm x10_mouse (27 ∷ 79 ∷ first ∷ r) Absent
+begun_absent_at {x10_mouse = x10_mouse} first r b is e n =
+    subst (λ z. HasForm x10_mouse (27 ∷ 79 ∷ first ∷ z) Absent) (first_got r b e) (begun_absent first b (take (length r - 1) (drop 1 r)) is n)
 
-pub parted_at_end : {x10_mouse : Bool} (r : List ℕ) → None ≡ slice_get r 0 → HasForm x10_mouse (27 ∷ 79 ∷ 48 ∷ 59 ∷ r) Unfinished
-parted_at_end {x10_mouse = x10_mouse} r e = subst (λ z. HasForm x10_mouse (27 ∷ 79 ∷ 48 ∷ 59 ∷ z) Unfinished) (sym (none_got r e)) parted_unfinished
+pub parted_at_end : {x10_mouse : Bool} (first : ℕ) (r : List ℕ) → IsPartedFirst first → None ≡ slice_get r 0
+    → HasForm x10_mouse (27 ∷ 79 ∷ first ∷ 59 ∷ r) Unfinished
+parted_at_end {x10_mouse = x10_mouse} first r is e =
+    subst (λ z. HasForm x10_mouse (27 ∷ 79 ∷ first ∷ 59 ∷ z) Unfinished) (sym (none_got r e)) (parted_unfinished first is)
 
-pub parted_absent_at : {x10_mouse : Bool} (r : List ℕ) (b : ℕ) → Some b ≡ slice_get r 0 → ¬ IsModifierDigit b
-    → HasForm x10_mouse (27 ∷ 79 ∷ 48 ∷ 59 ∷ r) Absent
-parted_absent_at {x10_mouse = x10_mouse} r b e n =
-    subst (λ z. HasForm x10_mouse (27 ∷ 79 ∷ 48 ∷ 59 ∷ z) Absent) (first_got r b e) (parted_absent b (take (length r - 1) (drop 1 r)) n)
+pub parted_absent_at : {x10_mouse : Bool} (first : ℕ) (r : List ℕ) (b : ℕ) → IsPartedFirst first → Some b ≡ slice_get r 0 → ¬ IsModifierDigit b
+    → HasForm x10_mouse (27 ∷ 79 ∷ first ∷ 59 ∷ r) Absent
+parted_absent_at {x10_mouse = x10_mouse} first r b is e n =
+    subst (λ z. HasForm x10_mouse (27 ∷ 79 ∷ first ∷ 59 ∷ z) Absent) (first_got r b e) (parted_absent first b (take (length r - 1) (drop 1 r)) is n)
+
+-- the front of a part may stand before the digit
+pub front_parted : (first : ℕ) → IsPartedFirst first → IsModifiedFront (front_of (Some first))
+front_parted first is = front_with first is
 
 pub modified_at_end : {x10_mouse : Bool} (front r : List ℕ) (digit : ℕ) → None ≡ slice_get r 0 → IsModifiedFront front → IsModifierDigit digit
     → HasForm x10_mouse (27 ∷ 79 ∷ (front ++ digit ∷ r)) Unfinished
 modified_at_end {x10_mouse = x10_mouse} front r digit e front_is digit_is =
     subst (λ z. HasForm x10_mouse (27 ∷ 79 ∷ (front ++ digit ∷ z)) Unfinished) (sym (none_got r e)) (modified_unfinished front digit front_is digit_is)
 
-pub modified_whole_at : {x10_mouse : Bool} (front r : List ℕ) (digit b before : ℕ) → Some b ≡ slice_get r 0 → IsModifiedFront front → IsModifierDigit digit
-    → IsModifiedLetter b → before ≡ 3 + length front → HasForm x10_mouse (27 ∷ 79 ∷ (front ++ digit ∷ r)) (Whole (before + 1))
-modified_whole_at {x10_mouse = x10_mouse} front r digit b before e front_is digit_is letter_is same =
-    subst (λ n. HasForm x10_mouse (27 ∷ 79 ∷ (front ++ digit ∷ r)) (Whole (n + 1))) (sym same)
-    (subst (λ z. HasForm x10_mouse (27 ∷ 79 ∷ (front ++ digit ∷ z)) (Whole (3 + length front + 1))) (first_got r b e)
-    (modified_whole front digit b (take (length r - 1) (drop 1 r)) front_is digit_is letter_is))
+pub modified_whole_at : {x10_mouse : Bool} (front r : List ℕ) (digit b : ℕ) → Some b ≡ slice_get r 0 → IsModifiedFront front → IsModifierDigit digit
+    → IsLetterBehind front b → HasForm x10_mouse (27 ∷ 79 ∷ (front ++ digit ∷ r)) (Whole (3 + length front + 1))
+modified_whole_at {x10_mouse = x10_mouse} front r digit b e front_is digit_is letter_is =
+    subst (λ z. HasForm x10_mouse (27 ∷ 79 ∷ (front ++ digit ∷ z)) (Whole (3 + length front + 1))) (first_got r b e)
+    (modified_whole front digit b (take (length r - 1) (drop 1 r)) front_is digit_is letter_is)
 
 pub modified_absent_at : {x10_mouse : Bool} (front r : List ℕ) (digit b : ℕ) → Some b ≡ slice_get r 0 → IsModifiedFront front → IsModifierDigit digit
-    → ¬ IsModifiedLetter b → HasForm x10_mouse (27 ∷ 79 ∷ (front ++ digit ∷ r)) Absent
+    → ¬ IsLetterBehind front b → HasForm x10_mouse (27 ∷ 79 ∷ (front ++ digit ∷ r)) Absent
 modified_absent_at {x10_mouse = x10_mouse} front r digit b e front_is digit_is other =
     subst (λ z. HasForm x10_mouse (27 ∷ 79 ∷ (front ++ digit ∷ z)) Absent) (first_got r b e)
     (modified_absent front digit b (take (length r - 1) (drop 1 r)) front_is digit_is other)

@@ -5,9 +5,9 @@ use Rattle.termwiz_keys.specs.Introducers.{ESC}
 use Rattle.termwiz_extended_events.specs.declared.types.ExtendedEvent.{ExtendedEvent}
 use Rattle.termwiz_extended_events.specs.declared.types.ExtendedEvent.TheVariants.{Input, Csi, Osc, Dcs, Apc, Key, FocusGained, FocusLost, CursorPosition, Resize, KeyboardFlags, SideButton, StringPart, StringCut}
 use Rattle.termwiz_extended_events.specs.declared.types.Reading.{Reading}
-use Rattle.termwiz_extended_events.specs.Meanings.{event_of, IsKey, NeedsMemory}
+use Rattle.termwiz_extended_events.specs.Meanings.{IsKey, NeedsMemory}
 use Rattle.termwiz_extended_grammar.specs.ExtraSequences.{with_alt}
-use Rattle.termwiz_extended_grammar.specs.Readings.{after_event}
+use Rattle.termwiz_extended_grammar.specs.Readings.{after_event, event_in}
 use Rattle.termwiz_extended_grammar.specs.ExtendedGrammar.{HasItem, IsRest, Steps}
 use Rattle.termwiz_extended_grammar.specs.ExtendedGrammar.Stands.{alt_key}
 use Rattle.termwiz_input_extended.specs.Buffered.{Buffered}
@@ -101,24 +101,24 @@ module _ (reading : Reading) (u v : List ℕ) (len : ℕ) (f : Bool) (split : u 
   alt_left : drop len v ≡ drop (1 + len) u
   alt_left = sym (ap (λ x. drop (suc len) x) split) ∙ ap (λ n. drop n u) (let one : suc len ≡ 1 + len = omega arith in one)
 
-  pub alt_step : (made : ExtendedEvent) → made ≡ with_alt (event_of (take len v)) → Steps reading u f (made ∷ []) (drop (1 + len) u)
+  pub alt_step : (made : ExtendedEvent) → made ≡ with_alt (event_in reading (take len v)) → Steps reading u f (made ∷ []) (drop (1 + len) u)
   alt_step made means = (
     drop len v,
-    rw means (alt_key (take len v) (drop len v) (event_of (take len v)) is.0.1 is.1 alt_split),
+    rw means (alt_key (take len v) (drop len v) (event_in reading (take len v)) is.0.1 is.1 alt_split),
     alt_left,
   )
 
-  pub alt_refused : NeedsMemory (event_of (take len v)) → HasItemThatNeedsMemory reading u f
+  pub alt_refused : NeedsMemory (event_in reading (take len v)) → HasItemThatNeedsMemory reading u f
   alt_refused needs = record {
     left = drop len v;
-    event = with_alt (event_of (take len v));
-    stands = alt_key (take len v) (drop len v) (event_of (take len v)) is.0.1 is.1 alt_split;
-    needs = alt_needs (event_of (take len v)) is.1.is_key needs;
+    event = with_alt (event_in reading (take len v));
+    stands = alt_key (take len v) (drop len v) (event_in reading (take len v)) is.0.1 is.1 alt_split;
+    needs = alt_needs (event_in reading (take len v)) is.1.is_key needs;
   }
 
   pub alt_has_item : HasItem reading u f
   alt_has_item = (
     drop len v,
-    with_alt (event_of (take len v)),
-    alt_key (take len v) (drop len v) (event_of (take len v)) is.0.1 is.1 alt_split,
+    with_alt (event_in reading (take len v)),
+    alt_key (take len v) (drop len v) (event_in reading (take len v)) is.0.1 is.1 alt_split,
   )

@@ -1,5 +1,6 @@
 -- Whether a form is an extra sequence, and what extra sequence or opening begins a text by the form that does.
-use Rattle.std.proofs.Common.{◌≡◌, inl, inr, ℕ, ◌<◌, Bool, List, ◌++◌, length, take, drop, refl, sym, ap, ◌∙◌, subst, arith, append_assoc, take-append-drop, Contains}
+use Rattle.std.proofs.Common.{◌≡◌, inl, inr, ℕ, ◌<◌, Bool, true, false, List, ◌++◌, length, take, drop, refl, sym, ap, ◌∙◌, subst, arith, append_assoc, take-append-drop, Contains, Option, Some, None}
+use Rattle.std.specs.Prelude.{IfSome}
 use Rattle.termwiz_keymap.specs.Bytes.{Begins}
 use Rattle.termwiz_keymap.proofs.lemmas.lists.CommonPrefixes.{append-some, length-some}
 use Rattle.termwiz_keys.specs.declared.types.KeyEvent.{KeyEvent}
@@ -10,11 +11,15 @@ use Rattle.termwiz_grammar.specs.Sequences.{Meaning, IsSequence}
 use Rattle.termwiz_grammar.specs.Sequences.Meaning.{Row, Report}
 use Rattle.termwiz_grammar.specs.Grammar.{IsUnfinishedSequence}
 use Rattle.termwiz_extended_events.specs.declared.types.ExtendedEvent.{ExtendedEvent}
+use Rattle.termwiz_extended_events.specs.declared.types.ExtendedEvent.TheVariants.{Key}
+use Rattle.termwiz_extended_events.specs.declared.types.PlainReport.{PlainReport}
+use Rattle.termwiz_extended_events.specs.KeyReports.{plain_report}
 use Rattle.termwiz_extended_events.specs.declared.types.Reading.{Reading}
 use Rattle.termwiz_extended_events.specs.declared.types.Protocol.TheVariants.{Kitty}
 use Rattle.termwiz_extended_events.specs.Meanings.{event_of, IsKeyOrPosition}
 use Rattle.termwiz_extended_grammar.specs.Forms.{introducer, IsForm}
 use Rattle.termwiz_extended_grammar.specs.ExtraSequences.{IsFree, IsExtra, IsRow, Overrides}
+use Rattle.termwiz_extended_grammar.specs.Readings.{event_in, is_asking}
 use Rattle.termwiz_extended_grammar.specs.Strings.{IsUnfinishedOpening, StartsWithOpening}
 use Rattle.termwiz_extended_grammar.specs.ExtendedGrammar.{BeginsExtended, StartsExtended}
 use Rattle.termwiz_input_extended.specs.NextItems.{IsReported, IsSomeExtra, IsUnfinishedFront}
@@ -34,7 +39,7 @@ pub unknown_is_extra : (reading : Reading) (text : List ℕ) → IsForm reading.
     → (((key : KeyEvent) × Contains table_rows (text, key)) → ⊥) → (event : ExtendedEvent) × IsExtra reading text event
 unfolding IsSequence
 unknown_is_extra reading text form no_report no_row =
-    (event_of text, record { is_form = form; is_free = free_from_none reading text unknown; means = refl })
+    (event_in reading text, record { is_form = form; is_free = free_from_none reading text unknown; means = refl })
   where
     unknown : (m : Meaning) → IsSequence text m → ⊥
     unknown (Row key) is = no_row (key, is)
@@ -44,14 +49,14 @@ unknown_is_extra reading text form no_report no_row =
 pub reported_is_extra : (reading : Reading) (text : List ℕ) → IsForm reading.x10_mouse text → (((r : MouseEvent) × IsMouseReport text r) → ⊥)
     → IsReported reading text → IsSomeExtra reading text
 unfolding IsSequence
-reported_is_extra reading text form no_report reported = (event_of text, record { is_form = form; is_free = free; means = refl })
+reported_is_extra reading text form no_report reported = (event_in reading text, record { is_form = form; is_free = free; means = refl })
   where
     free : IsFree reading text
     free (Row key) is = (key, refl, reported)
     free (Report r) is = absurd (no_report (r, is))
 
 pub reported_event_is : (reading : Reading) (text : List ℕ) (event : ExtendedEvent) → IsForm reading.x10_mouse text
-    → (((r : MouseEvent) × IsMouseReport text r) → ⊥) → IsReported reading text → event ≡ event_of text → IsExtra reading text event
+    → (((r : MouseEvent) × IsMouseReport text r) → ⊥) → IsReported reading text → event ≡ event_in reading text → IsExtra reading text event
 reported_event_is reading text event form no_report reported means =
     let is = reported_is_extra reading text form no_report reported in
     record { is_form = form; is_free = is.1.is_free; means = means }
@@ -60,6 +65,18 @@ pub row_not_extra : (reading : Reading) (text : List ℕ) (key : KeyEvent) → C
     → (IsReported reading text → ⊥) → IsSomeExtra reading text → ⊥
 unfolding IsSequence
 row_not_extra reading text key row never h = never (h.1.is_free (Row key) row).2
+
+-- a plain report is read the same whether a question is open or not
+pub plain_in : (reading : Reading) (text : List ℕ) (found : Option PlainReport)
+    → IfSome found (λ report. event_of true text ≡ Key (plain_report report))
+    → IfSome found (λ report. event_of false text ≡ Key (plain_report report))
+    → IfSome found (λ report. event_in reading text ≡ Key (plain_report report))
+plain_in reading text None asked unasked = tt
+plain_in reading text (Some report) asked unasked = go (is_asking reading)
+  where
+    go : (asks : Bool) → event_of asks text ≡ Key (plain_report report)
+    go true = asked
+    go false = unasked
 
 -- under `Protocol::Kitty` a report of a key or of a position isn't left to the port
 module _ (reading : Reading) (event : ExtendedEvent) (kitty : reading.protocol ≡ Kitty) where
@@ -79,7 +96,7 @@ unfolding IsSequence
 row_stored text h = h
 
 -- the event of an extra sequence is that of its bytes
-pub event_is : (reading : Reading) (text : List ℕ) → IsSomeExtra reading text → IsExtra reading text (event_of text)
+pub event_is : (reading : Reading) (text : List ℕ) → IsSomeExtra reading text → IsExtra reading text (event_in reading text)
 event_is reading text is = record { is_form = is.1.is_form; is_free = is.1.is_free; means = refl }
 
 -- a form has three bytes or more

@@ -11,7 +11,7 @@ use Rattle.termwiz_grammar.proofs.lemmas.items.ItemStable.{item_begins}
 use Rattle.termwiz_extended_events.specs.declared.types.ExtendedEvent.{ExtendedEvent}
 use Rattle.termwiz_extended_events.specs.declared.types.ExtendedEvent.TheVariants.{Input}
 use Rattle.termwiz_extended_events.specs.declared.types.Reading.{Reading}
-use Rattle.termwiz_extended_events.specs.Meanings.{event_of, NeedsMemory}
+use Rattle.termwiz_extended_events.specs.Meanings.{NeedsMemory}
 use Rattle.termwiz_extended_grammar.specs.ExtraSequences.{IsExtra}
 use Rattle.termwiz_extended_grammar.specs.Strings.{StartsWithOpening}
 use Rattle.termwiz_extended_grammar.specs.ExtendedGrammar.{BeginsExtended, BeginsKnown, HasItem, IsRest, Stands, StartsApart, StartsExtended, Steps}
@@ -22,6 +22,7 @@ use Rattle.termwiz_extended_grammar.proofs.lemmas.forms.FormBytes.{mark_shape}
 use Rattle.termwiz_extended_grammar.proofs.lemmas.items.StringItems.{string_opening}
 use Rattle.termwiz_extended_grammar.proofs.lemmas.items.ExtendedItems.{apart_starts, starts_shape, starts_with, second_not_escape}
 use Rattle.termwiz_extended_grammar.proofs.lemmas.cuts.SameAsPort.{usual_item, rest_of_port}
+use Rattle.termwiz_extended_grammar.specs.Readings.{event_in}
 use Rattle.termwiz_input_extended.specs.NextItems.{HasItemThatNeedsMemory, IsPortsOwn, IsUnfinishedFront}
 use Rattle.termwiz_input_extended.specs.FormAnswers.{NoFormBegins}
 use Rattle.termwiz_input_extended.proofs.lemmas.fronts.ExtraAnswers.{no_extra_without_form, no_form_within}
@@ -74,7 +75,7 @@ own_refused reading u f own (bytes, text, stands) =
 
 -- an extra sequence is one step, and needs memory if its event does
 pub extra_step : (reading : Reading) (u : List ℕ) (len : ℕ) (event : ExtendedEvent) (f : Bool) → IsExtra reading (take len u) event
-    → (made : ExtendedEvent) → made ≡ event_of (take len u) → Steps reading u f (made ∷ []) (drop len u)
+    → (made : ExtendedEvent) → made ≡ event_in reading (take len u) → Steps reading u f (made ∷ []) (drop len u)
 extra_step reading u len event f is made means = (
   drop len u,
   extra (take len u) (drop len u) made (record { is_form = is.is_form; is_free = is.is_free; means = means }) (sym (take-append-drop len u)),

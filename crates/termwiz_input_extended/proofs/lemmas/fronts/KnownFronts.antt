@@ -24,7 +24,6 @@ use Rattle.termwiz_extended_events.specs.declared.types.ExtendedEvent.{ExtendedE
 use Rattle.termwiz_extended_events.specs.declared.types.ExtendedEvent.TheVariants.{Input}
 use Rattle.termwiz_extended_events.specs.declared.types.Reading.{Reading}
 use Rattle.termwiz_extended_events.specs.declared.types.Protocol.TheVariants.{Legacy}
-use Rattle.termwiz_extended_events.specs.Meanings.{event_of}
 use Rattle.termwiz_extended_grammar.specs.Forms.{IsForm}
 use Rattle.termwiz_extended_grammar.specs.ExtraSequences.{IsExtra, Overrides}
 use Rattle.termwiz_extended_grammar.specs.Strings.{StartsWithOpening}
@@ -34,6 +33,7 @@ use Rattle.termwiz_extended_grammar.proofs.lemmas.forms.ExtraFacts.{completed_ma
 use Rattle.termwiz_extended_grammar.proofs.lemmas.forms.FormBytes.{IsMark}
 use Rattle.termwiz_extended_grammar.proofs.lemmas.forms.FormEnds.{sequence_after_mark, mark_after_sequence}
 use Rattle.termwiz_extended_grammar.proofs.lemmas.items.StringFronts.{no_opening_after}
+use Rattle.termwiz_extended_grammar.specs.Readings.{event_in}
 use Rattle.termwiz_input_extended.specs.NextItems.{IsLongRowAt, IsPortsOwn, IsShortRowAt}
 use Rattle.termwiz_input_extended.proofs.lemmas.fronts.FrontItems.{not_two_escapes, own_after_escape, own_after_two_escapes, own_item, own_without_escape, two_escapes_finished}
 use Rattle.termwiz_input_extended.proofs.lemmas.fronts.MouseForms.{report_escape, report_item, report_no_extra, report_not_unfinished, report_one}
@@ -134,8 +134,8 @@ module _ (reading : Reading) (u : List ℕ) (f : Bool) (key : KeyEvent) (len : �
   row_is_never_extra : ((event : ExtendedEvent) × IsExtra reading (take len u) event) → ⊥
   unfolding IsSequence
   row_is_never_extra h =
-      let open_question : Overrides Legacy reading.questions (event_of (take len u)) =
-      subst (λ p. Overrides p reading.questions (event_of (take len u))) is.port.0 (h.1.is_free (Row key) is.row.1.is_sequence).2 in
+      let open_question : Overrides Legacy reading.questions (event_in reading (take len u)) =
+      subst (λ p. Overrides p reading.questions (event_in reading (take len u))) is.port.0 (h.1.is_free (Row key) is.row.1.is_sequence).2 in
       omega (arith, open_question.0, is.port.1)
 
   pub long_row_own : Begins ESC u → (Begins (ESC ++ ESC) u → ⊥) → (StartsWithOpening u → ⊥) → IsPortsOwn reading u f

@@ -3,14 +3,14 @@ use Rattle.std.specs.Prelude.{IfSome}
 use Rattle.termwiz_keymap.proofs.lemmas.lists.PrefixTest.{denied}
 use Rattle.termwiz_extended_events.specs.Meanings.{IsKey}
 use Rattle.termwiz_extended_grammar.specs.Forms.{IsKeypadKey}
-use Rattle.termwiz_extended_grammar.specs.ExtraSequences.{EndsAsRxvt, IsRow, IsRxvtFunction}
+use Rattle.termwiz_extended_grammar.specs.ExtraSequences.{EndsAsRxvt, IsLetteredKey, IsRow, IsRxvtFunction}
 use Rattle.termwiz_input_extended.proofs.lemmas.fronts.ExtraAnswers.{row_known, row_stored}
 use Rattle.termwiz_input_extended.proofs.next_item.is_bare_key.Goals as goal
 
 pub returns : goal.returns
-returns c = (
+returns c = λ reading means. (
   λ t. record {
-    is_key = subst (λ m. IfSome m IsKey) c.requires (c.is_key.ensures.0 c.if-not-is_key.false);
+    is_key = subst (λ m. IfSome m IsKey) means (c.is_key.ensures.0 c.if-not-is_key.false);
     layout = inl (row_known c.args.form.now (c.is_table_row.ensures.0 t));
   },
   λ bare. c.is_table_row.ensures.1 (⊎_elim
@@ -19,7 +19,10 @@ returns c = (
       (λ (keypad : IsKeypadKey c.args.form.now). denied c.is_keypad_key.ensures.1 c.if-is_keypad_key.false keypad)
       (λ rxvt. ⊎_elim
       (λ (ends : EndsAsRxvt c.args.form.now). denied c.ends_as_rxvt.ensures.1 c.if-ends_as_rxvt.false ends)
+      (λ other. ⊎_elim
       (λ (function : IsRxvtFunction c.args.form.now). denied c.is_rxvt_function.ensures.1 c.if-is_rxvt_function.false function)
+      (λ (key : IsLetteredKey c.args.form.now). denied c.is_lettered_key.ensures.1 c.if-is_lettered_key.false key)
+      other)
       rxvt)
       h))
       bare.layout),

@@ -1,5 +1,4 @@
 use Rattle.std.proofs.Common.{inl, inr, take, drop, refl, sym, take-append-drop, arith}
-use Rattle.termwiz_keymap.proofs.lemmas.lists.PrefixTest.{denied}
 use Rattle.termwiz_extended_grammar.proofs.lemmas.forms.ExtraFacts.{mark_from_unfinished}
 use Rattle.termwiz_input_extended.proofs.lemmas.fronts.ExtraAnswers.{event_is, no_extra_starts, no_extra_unfinished, no_extra_without_form, unfinished_from_front}
 use Rattle.termwiz_input_extended.proofs.lemmas.fronts.FrontItems.{own_after_two_escapes, waits_after_escape}

@@ -1,7 +1,8 @@
 use Rattle.std.proofs.Common.{take, refl, sym, subst}
-use Rattle.termwiz_extended_events.specs.Meanings.{IsKeyOrPosition, event_of}
+use Rattle.termwiz_extended_events.specs.Meanings.{IsKeyOrPosition}
+use Rattle.termwiz_extended_grammar.specs.Readings.{event_in}
 use Rattle.termwiz_input_extended.proofs.lemmas.fronts.EmittedItems.{if_some}
-use Rattle.termwiz_input_extended.proofs.lemmas.fronts.ExtraAnswers.{kitty_reports, reported_event_is}
+use Rattle.termwiz_input_extended.proofs.lemmas.fronts.ExtraAnswers.{kitty_reports, plain_in, reported_event_is}
 use Rattle.termwiz_input_extended.proofs.next_item.plain_report_at.Goals as goal
 
 pub returns-in-Kitty : goal.returns-in-Kitty
@@ -11,8 +12,8 @@ returns-in-Kitty c =
     if_some c.plain_report.result (λ report means. (
       (
         form.within,
-        reported_event_is c.args.reading text (event_of text) form.form (λ h. form.no_mouse h.0 h.1)
-            (kitty_reports c.args.reading (event_of text) c.in-Kitty.is (subst IsKeyOrPosition (sym means) tt)) refl,
+        reported_event_is c.args.reading text (event_in c.args.reading text) form.form (λ h. form.no_mouse h.0 h.1)
+            (kitty_reports c.args.reading (event_in c.args.reading text) c.in-Kitty.is (subst IsKeyOrPosition (sym means) tt)) refl,
       ),
       means,
-    )) c.plain_report.ensures
+    )) (plain_in c.args.reading text c.plain_report.result c.plain_report.ensures.asked c.plain_report.ensures.unasked)

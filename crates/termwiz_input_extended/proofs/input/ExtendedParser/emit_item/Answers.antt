@@ -3,8 +3,8 @@ use Rattle.termwiz_keys.specs.Keys.{escape, with_alt}
 use Rattle.termwiz_keys.specs.declared.types.InputEvent.TheVariants.{Key, Mouse}
 use Rattle.termwiz_extended_events.specs.declared.types.ExtendedEvent.TheVariants.{Input, Key as Reported}
 use Rattle.termwiz_extended_events.specs.KeyReports.{plain_report}
-use Rattle.termwiz_extended_events.specs.Meanings.{event_of}
 use Rattle.termwiz_extended_grammar.specs.ExtendedGrammar.{Steps}
+use Rattle.termwiz_extended_grammar.specs.Readings.{event_in}
 use Rattle.termwiz_input_extended.specs.Buffered.{Buffered}
 use Rattle.termwiz_input_extended.specs.NextItems.{IsExtraAt}
 use Rattle.termwiz_input_extended.proofs.lemmas.fronts.EmittedItems.{emits_event, emits_none}
@@ -70,9 +70,10 @@ returns-in-Some c =
     let reading = ap (λ (b : Buffered). b.reading) c.self.view_is in
     let u = c.args.self.now.text in
     let found =
-    subst (λ t. IsExtraAt c.self.inside.reading t c.in-Form.len × (event_of (take c.in-Form.len t) ≡ Reported (plain_report c.in-Some.report)))
-    c.waiting_text.ensures c.in-Some.ensures in
-    let is = subst (λ r. IsExtraAt r u c.in-Form.len) reading found.0 in
+    subst (λ r. IsExtraAt r u c.in-Form.len × (event_in r (take c.in-Form.len u) ≡ Reported (plain_report c.in-Some.report))) reading
+    (subst (λ t. IsExtraAt c.self.inside.reading t c.in-Form.len × (event_in c.self.inside.reading (take c.in-Form.len t) ≡ Reported (plain_report c.in-Some.report)))
+    c.waiting_text.ensures c.in-Some.ensures) in
+    let is = found.0 in
     emits_event c.args.self.now _ c.args.maybe_more (Reported c.whole.result)
     (subst (λ t. Steps c.args.self.now.reading u c.args.maybe_more (Reported c.whole.result ∷ []) t)
     (sym (ap (λ (b : Buffered). b.text) c.consume-in-Some.ensures))

@@ -4,8 +4,8 @@ use Rattle.termwiz_grammar.specs.Grammar as port
 use Rattle.termwiz_extended_events.specs.declared.types.ExtendedEvent.{ExtendedEvent}
 use Rattle.termwiz_extended_events.specs.declared.types.Reading.{Reading}
 use Rattle.termwiz_extended_events.specs.declared.types.StringKind.{StringKind}
-use Rattle.termwiz_extended_events.specs.Meanings.{event_of}
 use Rattle.termwiz_extended_grammar.specs.ExtendedGrammar.{HasItem, IsRest, Steps}
+use Rattle.termwiz_extended_grammar.specs.Readings.{event_in}
 use Rattle.termwiz_input_extended.specs.declared.next_item.NextItem.{NextItem}
 use Rattle.termwiz_input_extended.specs.declared.next_item.NextItem.TheVariants.{Control, Key, Form, AltForm, String, MouseReport, Escape, AltEscape, Paste, Usual, Incomplete}
 use Rattle.termwiz_extended_grammar.specs.Strings.{IsOpenString}
@@ -63,7 +63,7 @@ returns-in-Form-clause-some c = λ t.
     let is = subst (λ r. IsExtraAt r u c.in-Form.len) reading
     (subst (λ t. IsExtraAt c.self.inside.reading t c.in-Form.len) c.waiting_text-text.ensures (c.is_extra_at.ensures.some c.if-is_extra_at.true)) in
     stepped c.args.self.now.reading u _ c.args.maybe_more _
-    (extra_step c.args.self.now.reading u c.in-Form.len (event_of (take c.in-Form.len u)) c.args.maybe_more is.1 (event_of (take c.in-Form.len u)) refl)
+    (extra_step c.args.self.now.reading u c.in-Form.len (event_in c.args.self.now.reading (take c.in-Form.len u)) c.args.maybe_more is.1 (event_in c.args.self.now.reading (take c.in-Form.len u)) refl)
 
 pub returns-in-Form-2-clause-some : goal.returns-in-Form-2-clause-some
 returns-in-Form-2-clause-some c = λ t.

@@ -1,9 +1,9 @@
 use Rattle.std.proofs.Common.{◌≡◌, ◌∷◌, [], take, refl, sym, ap, ◌∙◌, subst, Some}
 use Rattle.std.specs.Prelude.{IfSome}
-use Rattle.termwiz_extended_events.specs.Meanings.{NeedsMemory, event_from, event_of}
+use Rattle.termwiz_extended_events.specs.Meanings.{NeedsMemory, event_from}
 use Rattle.termwiz_extended_grammar.specs.ExtraSequences.{with_alt}
 use Rattle.termwiz_extended_grammar.specs.ExtendedGrammar.{Steps}
-use Rattle.termwiz_extended_grammar.specs.Readings.{after_event}
+use Rattle.termwiz_extended_grammar.specs.Readings.{after_event, event_in}
 use Rattle.termwiz_input_extended.specs.Buffered.{Buffered}
 use Rattle.termwiz_input_extended.proofs.lemmas.fronts.EmittedItems.{after_escape_bytes, alt_reading, alt_refused, alt_step, emits_event, emits_refused}
 use Rattle.termwiz_input_extended.proofs.input.ExtendedParser.next_alt_form.Goals as goal
@@ -13,7 +13,8 @@ returns-in_err-event c =
     let u = c.args.self.now.text in
     let v = c.requires.0 in
     let bytes = after_escape_bytes c.waiting_text-text.result.now u v c.args.len c.waiting_text-text.ensures c.requires.1 in
-    let means : event_from c.meaning_of.result ≡ Some (event_of (take c.args.len v)) = cc (c.meaning_of.ensures, bytes) in
+    let same = ap (λ (b : Buffered). b.reading) c.self.view_is in
+    let means : event_from c.meaning_in.result ≡ Some (event_in c.args.self.now.reading (take c.args.len v)) = cc (c.meaning_in.ensures, bytes, same) in
     emits_refused c.args.self.now _ c.args.maybe_more _ c.from_residual.ensures.0
     (alt_refused c.args.self.now.reading u v c.args.len c.args.maybe_more c.requires.1 c.requires.2
     (subst (λ made. IfSome made NeedsMemory) means c.in_err-event.ensures.refused))
@@ -26,10 +27,11 @@ returns c =
     let v = c.requires.0 in
     let event = c.with_alt.result in
     let bytes = after_escape_bytes c.waiting_text-text.result.now u v c.args.len c.waiting_text-text.ensures c.requires.1 in
-    let key : c.in_ok-event.event ≡ event_of (take c.args.len v) = cc (c.meaning_of.ensures, c.in_ok-event.ensures.ok, bytes) in
-    let made : event ≡ with_alt (event_of (take c.args.len v)) = c.with_alt.ensures ∙ ap with_alt key in
+    let same = ap (λ (b : Buffered). b.reading) c.self.view_is in
+    let key : c.in_ok-event.event ≡ event_in reading (take c.args.len v) = cc (c.meaning_in.ensures, c.in_ok-event.ensures.ok, bytes, same) in
+    let made : event ≡ with_alt (event_in reading (take c.args.len v)) = c.with_alt.ensures ∙ ap with_alt key in
     emits_event c.args.self.now _ c.args.maybe_more event
     (subst (λ t. Steps reading u c.args.maybe_more (event ∷ []) t) (sym (ap (λ (b : Buffered). b.text) c.consume.ensures))
     (alt_step reading u v c.args.len c.args.maybe_more c.requires.1 c.requires.2 event made))
     (ap (λ (b : Buffered). b.reading) c.consume.ensures
-    ∙ sym (ap (λ e. after_event reading e) made ∙ alt_reading reading (event_of (take c.args.len v)) c.requires.2.1.is_key))
+    ∙ sym (ap (λ e. after_event reading e) made ∙ alt_reading reading (event_in reading (take c.args.len v)) c.requires.2.1.is_key))

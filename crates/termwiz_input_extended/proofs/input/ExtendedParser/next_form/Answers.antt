@@ -1,8 +1,8 @@
 use Rattle.std.proofs.Common.{◌≡◌, ◌∷◌, [], take, refl, sym, ap, ◌∙◌, subst, Some}
 use Rattle.std.specs.Prelude.{IfSome}
-use Rattle.termwiz_extended_events.specs.Meanings.{NeedsMemory, event_from, event_of}
+use Rattle.termwiz_extended_events.specs.Meanings.{NeedsMemory, event_from}
 use Rattle.termwiz_extended_grammar.specs.ExtendedGrammar.{Steps}
-use Rattle.termwiz_extended_grammar.specs.Readings.{after_event}
+use Rattle.termwiz_extended_grammar.specs.Readings.{after_event, event_in}
 use Rattle.termwiz_input_extended.specs.Buffered.{Buffered}
 use Rattle.termwiz_input_extended.specs.NextItems.{IsExtraAt, IsPortsOwn}
 use Rattle.termwiz_input_extended.proofs.lemmas.fronts.EmittedItems.{emits_event, emits_refused}
@@ -15,8 +15,9 @@ returns-in_err-event c =
     let u = c.args.self.now.text in
     let is = subst (λ r. IsExtraAt r u c.args.len) reading
     (subst (λ t. IsExtraAt c.self.inside.reading t c.args.len) c.waiting_text-text.ensures (c.is_extra_at.ensures.some c.if-not-is_extra_at.false)) in
-    let means = subst (λ t. event_from c.meaning_of-meaning.result ≡ Some (event_of (take c.args.len t))) c.waiting_text-text.ensures
-    c.meaning_of-meaning.ensures in
+    let means = subst (λ r. event_from c.meaning_in-meaning.result ≡ Some (event_in r (take c.args.len u))) reading
+    (subst (λ t. event_from c.meaning_in-meaning.result ≡ Some (event_in c.self.inside.reading (take c.args.len t))) c.waiting_text-text.ensures
+    c.meaning_in-meaning.ensures) in
     emits_refused c.args.self.now _ c.args.maybe_more _ c.from_residual.ensures.0
     (extra_refused c.args.self.now.reading u c.args.len _ c.args.maybe_more is.1
     (subst (λ made. IfSome made NeedsMemory) means c.in_err-event.ensures.refused))
@@ -29,8 +30,9 @@ returns c =
     let event = c.in_ok-event.event in
     let is = subst (λ r. IsExtraAt r u c.args.len) reading
     (subst (λ t. IsExtraAt c.self.inside.reading t c.args.len) c.waiting_text-text.ensures (c.is_extra_at.ensures.some c.if-not-is_extra_at.false)) in
-    let means = subst (λ t. event_from c.meaning_of-meaning.result ≡ Some (event_of (take c.args.len t))) c.waiting_text-text.ensures
-    c.meaning_of-meaning.ensures in
+    let means = subst (λ r. event_from c.meaning_in-meaning.result ≡ Some (event_in r (take c.args.len u))) reading
+    (subst (λ t. event_from c.meaning_in-meaning.result ≡ Some (event_in c.self.inside.reading (take c.args.len t))) c.waiting_text-text.ensures
+    c.meaning_in-meaning.ensures) in
     emits_event c.args.self.now _ c.args.maybe_more event
     (subst (λ t. Steps c.args.self.now.reading u c.args.maybe_more (event ∷ []) t) (sym (ap (λ (b : Buffered). b.text) c.note_event.ensures ∙ ap (λ (b : Buffered). b.text) c.consume.ensures))
     (extra_step c.args.self.now.reading u c.args.len _ c.args.maybe_more is.1 event (cc (means, c.in_ok-event.ensures.ok))))
