@@ -5,6 +5,7 @@ docs/GRAMMAR.md, and the keys and reports of docs/EXTENDED.md. Strings and paste
 a lone ESC, and ESC and one byte, are flushed."""
 import functools
 import re
+import unicodedata
 
 from presses import ALT, CTRL, SHIFT, press
 
@@ -20,9 +21,11 @@ RXVT_HIGH = {str(35 + it): f"f{21 + it}" for it in range(4)}
 TILDE = EDIT | NUMBERED | HIGH | RXVT_HIGH
 URXVT = {it: EDIT[it] for it in "235678"} | NUMBERED | RXVT_HIGH
 URXVT_ENDS = {"^": CTRL, "@": CTRL | SHIFT, "$": SHIFT}
-RXVT_OR_KEYPAD = re.compile(rb"\x1bO[MXEj-y]|\x1b\[(\d+[$^@]|3[5-8]~)")
+RXVT_OR_KEYPAD = re.compile(
+    rb"\x1bO[MXEGj-y]|\x1b\[(\d+[$^@]|3[5-8]~|[0-9;:]*Z|[2-8][A-FHP-S]|G)"
+)
 SHIFTED = re.compile(rb"\x1b\[(%s)\$" % "|".join(URXVT).encode())
-KEYPAD = {"M": 57414, "X": 57415, "E": "keypadbegin"}
+KEYPAD = {"M": 57414, "X": 57415, "E": "keypadbegin", "G": "keypadbegin"}
 KEYPAD |= dict(zip("jklmno", "multiply add separator subtract decimal divide".split()))
 KEYPAD |= dict(zip("pqrstuvwxy", (f"numpad{it}" for it in range(10))))
 SUFFIXES = {"": 0} | {f";{it}": it - 1 for it in range(1, 9)}
@@ -98,10 +101,9 @@ def scalar(text):
 
 def key_of(text):
     code = ord(scalar(text))
-    named = {9: "tab", 13: "enter", 27: "escape", 127: "backspace"}
-    if 57344 <= code <= 63743:
+    if code == 0 or 57344 <= code <= 63743:
         return code
-    return named.get(code, chr(code))
+    return OF_CODE.get(code, chr(code))
 
 
 def report(key, mods, kind="", **more):
@@ -113,7 +115,7 @@ def report(key, mods, kind="", **more):
 
 
 def key_report(t):
-    """The event of ESC [ and t as a key or a cursor's position, or None."""
+    """The event of ESC [ and t as a key or a cursor's position, or None. Nobody asks for one."""
     number, mods = r"(\d{1,7})", r"(?:;(\d{0,7})(:\d)?)?"
     letters = CURSOR | FUNCTION | {"E": "keypadbegin"}
     try:
@@ -129,12 +131,23 @@ def key_report(t):
             if code in TILDE or 57344 <= int(code) <= 63743:
                 return report(TILDE.get(code) or key_of(code), held, kind or "")
         if m := re.fullmatch(rf"27;{number};{number}~", t):
-            return report(OF_CODE.get(int(m[2])) or scalar(m[2]), m[1])
+            key = OF_CODE.get(int(m[2])) or (scalar(m[2]) if int(m[2]) else 0)
+            is_shifted = (int(m[1]) - 1) & SHIFT and unicodedata.category(scalar(m[2])) != "Cc"
+            return report(key, m[1], shifted=key if is_shifted else None)
+        if (m := re.fullmatch(rf"1?{mods}R", t)) and 1 <= int(m[1] or 1) <= 256:
+            return report("f3", m[1], m[2] or "")
         if m := re.fullmatch(r"\??(\d{1,5});(\d{1,5})R|\?(\d{1,5});(\d{1,5});(\d{1,5})R", t):
             if all(int(it) <= 65535 for it in m.groups() if it):
                 return ("reply", t)
         if (m := re.fullmatch(rf"1?{mods}([A-Z])", t)) and m[3] in letters:
             return report(letters[m[3]], m[1], m[2] or "")
+        if m := re.fullmatch(r"1?;(\d{0,7})(:\d)?Z", t):
+            kind, key, held, more = report("tab", m[1], m[2] or "")
+            return kind, key, held | SHIFT, more
+        if m := re.fullmatch(r"([2-8])([A-FHP-S])", t):
+            return ("key", (letters | {"R": "f3"})[m[2]], int(m[1]) - 1, {})
+        if t == "G":
+            return ("key", "keypadbegin", 0, {})
         if (m := re.fullmatch(r"(\d+)([$^@])", t)) and m[1] in URXVT:
             return ("key", URXVT[m[1]], URXVT_ENDS[m[2]], {})
     except ValueError:
@@ -146,11 +159,11 @@ def extra(text, is_kitty):
     """The extra sequence that begins a text, as its length and its event, or None."""
     if m := re.match(rb"\x1b\[\[([A-E])", text):
         return 4, ("key", f"f{m[1][0] - 64}", 0, {})
-    if m := re.match(rb"\x1bO([MXEj-y])", text):
+    if m := re.match(rb"\x1bO([MXEGj-y])", text):
         return 3, ("key", KEYPAD[m[1].decode()], 0, {})
-    if m := re.match(rb"\x1bO(?:0;)?([2-8])([P-SMXj-y])", text):
-        letter = m[2].decode()
-        return m.end(), ("key", (FUNCTION | KEYPAD)[letter], int(m[1]) - 1, {})
+    if m := re.match(rb"\x1bO(?:(?:0;)?([2-8])([P-SMXj-y])|1;([2-8])([P-S]))", text):
+        held, letter = (it.decode() for it in m.groups() if it)
+        return m.end(), ("key", (FUNCTION | KEYPAD)[letter], int(held) - 1, {})
     m = SHIFTED.match(text) or re.match(rb"\x1b\[(?!\[|[1-8]\$)[ -?]*[@-~]", text)
     if not m or len(m[0]) > 256:
         return None
@@ -175,7 +188,7 @@ def is_open(text):
         return True
     if SHIFTED.match(text):
         return False
-    begun = rb"\x1b\[(?![1-8]\$)[ -?]*|\x1b\[\[|\x1bO([2-8]|0|0;[2-8]?)?"
+    begun = rb"\x1b\[(?![1-8]\$)[ -?]*|\x1b\[\[|\x1bO([2-8]|[01]|[01];[2-8]?)?"
     return len(text) < 256 and bool(re.fullmatch(begun, text))
 
 

@@ -22,7 +22,8 @@ const ESC: &[u8] = b"\x1b";
 // 8: ends of forms. With one of these each text that properly begins a form is a whole one, and it
 // is no sequence of the port, since no row ends with `x`.
 const ENDS_OF_FORMS: &[&[u8]] = &[
-    b"[x", b"x", b"   ", b"  ", b" ", b"A", b"M", b"l\x07", b"\x07", b"\\", b";2x", b"2x",
+    b"[x", b"x", b"   ", b"  ", b" ", b"A", b"M", b"l\x07", b"\x07", b"\\", b";2x", b"2x", b";2P",
+    b"2P", b"P",
 ];
 
 // 11: the key Escape.
@@ -107,7 +108,7 @@ impl PlainReader {
         if !is_form(text, self.reading.x10_mouse) || report_of(text).is_some() {
             return None;
         }
-        let event = event_of(text)?;
+        let event = event_of(text, self.reading.questions > 0)?;
         if self.is_row(text) && !overrides(self.reading, &event) {
             return None;
         }
@@ -131,9 +132,14 @@ impl PlainReader {
     // 11: whether an extra sequence is a bare key.
     fn is_bare(&self, text: &[u8], event: &ExtendedEvent) -> bool {
         let is_key = matches!(event, ExtendedEvent::Key(_));
-        let is_rxvt = matches!(text, [.., b'^' | b'@' | b'$'])
-            || matches!(text, [0x1b, b'[', b'3', b'5'..=b'8', b'~']);
-        is_key && (self.is_row(text) || is_keypad_key(text) || is_rxvt)
+        let is_control = matches!(
+            text,
+            [0x1b, b'[', .., b'^' | b'@' | b'$' | b'Z']
+                | [0x1b, b'[', b'3', b'5'..=b'8', b'~']
+                | [0x1b, b'[', b'G']
+                | [0x1b, b'[', b'2'..=b'8', b'A'..=b'F' | b'H' | b'P'..=b'S']
+        );
+        is_key && (self.is_row(text) || is_keypad_key(text) || is_control)
     }
 
     // 11: the item of a bare key after ESC.

@@ -45,7 +45,7 @@ fn is_console_key(text: &[u8]) -> bool {
 }
 
 pub fn is_keypad_key(text: &[u8]) -> bool {
-    matches!(text, [0x1b, b'O', b'M' | b'X' | b'E' | b'j'..=b'y'])
+    matches!(text, [0x1b, b'O', b'M' | b'X' | b'E' | b'G' | b'j'..=b'y'])
 }
 
 // A keypad key or F1 to F4 with modifiers.
@@ -54,6 +54,7 @@ fn is_modified_key(text: &[u8]) -> bool {
         text,
         [0x1b, b'O', b'2'..=b'8', b'P'..=b'S' | b'M' | b'X' | b'j'..=b'y']
             | [0x1b, b'O', b'0', b';', b'2'..=b'8', b'P'..=b'S' | b'M' | b'X' | b'j'..=b'y']
+            | [0x1b, b'O', b'1', b';', b'2'..=b'8', b'P'..=b'S']
     )
 }
 

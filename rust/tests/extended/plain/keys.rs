@@ -97,19 +97,21 @@ fn functional_key(number: u32) -> ReportedKey {
 // The key of c.
 pub fn key_of(c: char) -> ReportedKey {
     let key = match u32::from(c) {
+        0 => return ReportedKey::Functional(0),
         9 => KeyCode::Tab,
-        13 => KeyCode::Enter,
+        10 | 13 => KeyCode::Enter,
         27 => KeyCode::Escape,
-        127 => KeyCode::Backspace,
+        8 | 127 => KeyCode::Backspace,
         number @ 57344..=63743 => return functional_key(number),
         _ => KeyCode::Char(c),
     };
     ReportedKey::Named(key)
 }
 
-// The key of the rule `modify_other_keys`, and `Char` of c from 128 on.
+// The key of the rule `modify_other_keys`, none for 0, and `Char` of c from 128 on.
 pub fn other_key_of(c: char) -> ReportedKey {
     let key = match u32::from(c) {
+        0 => return ReportedKey::Functional(0),
         8 | 127 => KeyCode::Backspace,
         27 => KeyCode::Escape,
         9 => KeyCode::Tab,
@@ -122,6 +124,14 @@ pub fn other_key_of(c: char) -> ReportedKey {
 // The key of a letter.
 pub fn key_of_letter(letter: u8) -> Option<ReportedKey> {
     listed(LETTERS, letter)
+}
+
+// The key of a letter, and F3 of `R`.
+pub fn key_of_short_letter(letter: u8) -> Option<ReportedKey> {
+    match letter {
+        b'R' => Some(ReportedKey::Named(KeyCode::Function(3))),
+        _ => key_of_letter(letter),
+    }
 }
 
 // The key of a code of the rules of function keys.
@@ -179,7 +189,7 @@ pub fn console_key_of(letter: u8) -> Option<ReportedKey> {
 pub fn modified_keypad_key_of(letter: u8) -> Option<ReportedKey> {
     match letter {
         b'P'..=b'S' => Some(ReportedKey::Named(KeyCode::Function(letter - b'P' + 1))),
-        b'E' => None,
+        b'E' | b'G' => None,
         _ => keypad_key_of(letter),
     }
 }
@@ -189,7 +199,7 @@ pub fn keypad_key_of(letter: u8) -> Option<ReportedKey> {
     let key = match letter {
         b'M' => return Some(ReportedKey::Functional(57414)),
         b'X' => return Some(ReportedKey::Functional(57415)),
-        b'E' => KeyCode::KeyPadBegin,
+        b'E' | b'G' => KeyCode::KeyPadBegin,
         b'j' => KeyCode::Multiply,
         b'k' => KeyCode::Add,
         b'l' => KeyCode::Separator,

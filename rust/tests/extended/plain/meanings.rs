@@ -1,7 +1,7 @@
 // "Events": the event of a text of a form. `t` is what follows ESC `[`.
 use super::keys::{
-    console_key_of, key_of, key_of_letter, key_of_number, keypad_key_of, modified_keypad_key_of,
-    other_key_of, rxvt_key_of,
+    console_key_of, key_of, key_of_letter, key_of_number, key_of_short_letter, keypad_key_of,
+    modified_keypad_key_of, other_key_of, rxvt_key_of,
 };
 use super::strings::event_of_string;
 use crate::port::plain::buttons_of;
@@ -166,7 +166,7 @@ fn lettered_key(t: &[u8]) -> Option<KeyReport> {
     ))
 }
 
-// The line of F3 where no position can be meant.
+// The lines of F3: no position can be meant, or none is asked for.
 fn third_function_key(t: &[u8]) -> Option<ExtendedEvent> {
     let manner = manner_before_letter(t.strip_suffix(b"R")?)?;
     let key = ReportedKey::Named(KeyCode::Function(3));
@@ -211,7 +211,11 @@ fn other_key(t: &[u8]) -> Option<KeyReport> {
         modifiers: modifiers_before(m)?,
         kind: KeyEventKind::Press,
     };
-    Some(report_of(other_key_of(c), manner))
+    let is_shifted = manner.modifiers.contains(KittyModifiers::SHIFT) && !c.is_control();
+    Some(KeyReport {
+        shifted: is_shifted.then_some(c),
+        ..report_of(other_key_of(c), manner)
+    })
 }
 
 // The lines of keys.
@@ -364,14 +368,41 @@ fn console_key(t: &[u8]) -> Option<ExtendedEvent> {
     }
 }
 
-// The first line that fits.
-fn event_of_control(t: &[u8]) -> ExtendedEvent {
+// The line of Tab with Shift.
+fn back_tab(t: &[u8]) -> Option<ExtendedEvent> {
+    let body = t.strip_suffix(b"Z")?;
+    let field = body.strip_prefix(b"1").unwrap_or(body).strip_prefix(b";")?;
+    let mut manner = manner_of(field)?;
+    manner.modifiers |= KittyModifiers::SHIFT;
+    let key = ReportedKey::Named(KeyCode::Tab);
+    Some(ExtendedEvent::Key(report_of(key, manner)))
+}
+
+// The lines of a letter after a digit, and of `G`.
+fn short_key(t: &[u8]) -> Option<ExtendedEvent> {
+    let report = match t {
+        [m @ b'2'..=b'8', letter] => {
+            let manner = Manner {
+                modifiers: modifiers_of(&[*m])?,
+                kind: KeyEventKind::Press,
+            };
+            report_of(key_of_short_letter(*letter)?, manner)
+        }
+        [b'G'] => report_of(ReportedKey::Named(KeyCode::KeyPadBegin), PRESSED),
+        _ => return None,
+    };
+    Some(ExtendedEvent::Key(report))
+}
+
+// The first line that fits, while a question for the cursor is open or not.
+fn event_of_control(t: &[u8], is_asked: bool) -> ExtendedEvent {
     match t {
         [b'I'] => return ExtendedEvent::FocusGained,
         [b'O'] => return ExtendedEvent::FocusLost,
         _ => (),
     }
     key_event(t)
+        .or_else(|| third_function_key(t).filter(|_| !is_asked))
         .or_else(|| cursor_position(t))
         .or_else(|| keyboard_flags(t))
         .or_else(|| resize(t))
@@ -381,6 +412,8 @@ fn event_of_control(t: &[u8]) -> ExtendedEvent {
         .or_else(|| x10_report(t))
         .or_else(|| sgr_side_button(t))
         .or_else(|| console_key(t))
+        .or_else(|| back_tab(t))
+        .or_else(|| short_key(t))
         .unwrap_or_else(|| ExtendedEvent::Csi(t.to_vec()))
 }
 
@@ -394,21 +427,23 @@ fn modified_key(m: u8, letter: u8) -> Option<ExtendedEvent> {
     Some(ExtendedEvent::Key(report))
 }
 
-// The event of a text of a form.
-pub fn event_of(text: &[u8]) -> Option<ExtendedEvent> {
+// The event of a text of a form, while a question for the cursor is open or not.
+pub fn event_of(text: &[u8], is_asked: bool) -> Option<ExtendedEvent> {
     if text.starts_with(b"\x1b]") {
         let end = if text.ends_with(b"\x07") { 1 } else { 2 };
         return Some(event_of_string(&text[..text.len() - end]));
     }
     if let Some(t) = text.strip_prefix(b"\x1b[") {
-        return Some(event_of_control(t));
+        return Some(event_of_control(t, is_asked));
     }
     match text {
         [0x1b, b'O', letter] => Some(ExtendedEvent::Key(report_of(
             keypad_key_of(*letter)?,
             PRESSED,
         ))),
-        [0x1b, b'O', m, letter] | [0x1b, b'O', b'0', b';', m, letter] => modified_key(*m, *letter),
+        [0x1b, b'O', m, letter] | [0x1b, b'O', b'0' | b'1', b';', m, letter] => {
+            modified_key(*m, *letter)
+        }
         _ => None,
     }
 }
