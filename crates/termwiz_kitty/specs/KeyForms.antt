@@ -1,11 +1,11 @@
 -- How kitty's keyboard protocol writes keys: by a letter, by a number and a tilde, or by a number and the letter u. From the table
 -- of functional keys of the protocol ("Comprehensive keyboard handling in terminals", "Functional key definitions").
-use Rattle.std.specs.Prelude.{ℕ, Bool, true, false, ◌+◌, ◌&&◌, List, [], ◌∷◌, nat_le, Option, Some, None, option_map, unwrap_or, if◌then◌else◌}
+use Rattle.std.specs.Prelude.{ℕ, Bool, true, false, ◌+◌, ◌==◌, ◌&&◌, ◌||◌, List, [], ◌∷◌, nat_le, Option, Some, None, option_map, unwrap_or, if◌then◌else◌}
 use Rattle.termwiz_keys.specs.declared.types.KeyCode.{KeyCode}
 use Rattle.termwiz_keys.specs.declared.types.KeyCode.TheVariants.{Char, Function, Tab, Enter, Escape, Backspace, UpArrow, DownArrow, RightArrow, LeftArrow, KeyPadBegin, End, Home, Insert, Delete, PageUp, PageDown, CapsLock, ScrollLock, NumLock, PrintScreen, Pause, Applications, Numpad0, Numpad1, Numpad2, Numpad3, Numpad4, Numpad5, Numpad6, Numpad7, Numpad8, Numpad9, Decimal, Divide, Multiply, Subtract, Add, Separator, KeyPadPageUp, KeyPadPageDown, KeyPadHome, KeyPadEnd, MediaPlayPause, MediaStop, MediaNextTrack, MediaPrevTrack, VolumeDown, VolumeUp, VolumeMute, LeftShift, LeftControl, LeftAlt, LeftWindows, RightShift, RightControl, RightAlt, RightWindows}
 use Rattle.termwiz_extended_events.specs.declared.types.ReportedKey.{ReportedKey}
 use Rattle.termwiz_extended_events.specs.declared.types.ReportedKey.TheVariants.{Named, Functional}
-use Rattle.termwiz_extended_events.specs.ReportedKeys.{entry_at, is_functional, key_of, functional_key}
+use Rattle.termwiz_extended_events.specs.ReportedKeys.{entry_at, is_functional, no_key, key_of, functional_key}
 use Rattle.termwiz_kitty.specs.declared.key_forms.KeyForm.{KeyForm}
 use Rattle.termwiz_kitty.specs.declared.key_forms.KeyForm.TheVariants.{Letter, Number, Code}
 
@@ -81,12 +81,16 @@ named_form RightAlt = Some (Code 57449)
 named_form RightWindows = Some (Code 57450)
 named_form key = None
 
+-- the number of a functional key, or that of a text that no key typed
+abbrev pub has_number : ℕ → Bool
+has_number n = (n == no_key) || is_functional n
+
 -- the form of a key, if the protocol has one
 abbrev pub form_of : ReportedKey → Option KeyForm
 form_of (Named key) = named_form key
-form_of (Functional n) = if is_functional n then Some (Code n) else None
+form_of (Functional n) = if has_number n then Some (Code n) else None
 
--- the key that the number of a key is read as: Char of 27 is Escape, and Functional of 57358 is CapsLock
+-- the key that the number of a key is read as: Char of 27 is Escape, that of 0 is no key, and Functional of 57358 is CapsLock
 unfoldable pub normal_key : ReportedKey → ReportedKey
 normal_key (Named (Char c)) = key_of c
 normal_key (Functional n) = functional_key n

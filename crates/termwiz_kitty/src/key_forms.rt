@@ -120,12 +120,13 @@ fn named_form(key: KeyCode) -> Option<KeyForm>
     Some(form)
 }
 
-/// The form of a key, if the protocol has one.
+/// The form of a key, if the protocol has one. The number 0 is that of a text that no key typed.
 pub fn form_of(key: ReportedKey) -> Option<KeyForm>
     ensures { result ≡ form_of key }
 {
     match key {
         ReportedKey::Named(key) => named_form(key),
+        ReportedKey::Functional(0) => Some(KeyForm::Code(0)),
         ReportedKey::Functional(number @ 57344..=63743) => Some(KeyForm::Code(number)),
         ReportedKey::Functional(_) => None,
     }

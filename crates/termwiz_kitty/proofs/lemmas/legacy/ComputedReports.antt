@@ -13,6 +13,7 @@ use Rattle.termwiz_extended_events.specs.declared.types.ExtendedEvent.TheVariant
 use Rattle.termwiz_extended_events.specs.declared.types.Reading.{Reading}
 use Rattle.termwiz_extended_events.specs.EventKeys.{pressed_key, key_of_event}
 use Rattle.termwiz_extended_events.specs.Meanings.{event_of, IsKeyOrPosition}
+use Rattle.termwiz_extended_grammar.specs.Readings.{event_in, is_asking}
 use Rattle.termwiz_kitty.specs.KittyLaws.{IsReadAs}
 use Rattle.termwiz_kitty.proofs.lemmas.PortKeys.{xterm_modes}
 use Rattle.termwiz_kitty.proofs.lemmas.legacy.ReadAsOne.{ReadAs}
@@ -29,9 +30,10 @@ report_or (Key r) other = Some r
 report_or (CursorPosition row column) other = None
 report_or _ other = Some other
 
--- the report of a text that the port reads as this key; none where what follows its first byte is a report too
-abbrev pub told_report : List ℕ → KeyReport → Option KeyReport
-told_report text other = if is_report (event_of (drop 1 text)) then None else report_or (event_of text) other
+-- The report of a text that the port reads as this key, while a question for the cursor's position is open or not; none where what follows its
+-- first byte is a report too.
+abbrev pub told_report : Bool → List ℕ → KeyReport → Option KeyReport
+told_report asks text other = if is_report (event_of asks (drop 1 text)) then None else report_or (event_of asks text) other
 
 reports_tested : (e : ExtendedEvent) → IsKeyOrPosition e → is_report e ≡ true
 reports_tested (Input event) h = absurd h
@@ -71,31 +73,32 @@ some_if false o r e = (refl, e)
 
 -- a text whose report is that of its key is read as that key
 pub told_is_read : (reading : Reading) (text : List ℕ) (k : KeyEvent) (more : Bool) → ReadAs reading text k more
-    → told_report text (pressed_key k) ≡ Some (pressed_key k) → IsReadAs reading text more (pressed_key k)
+    → told_report (is_asking reading) text (pressed_key k) ≡ Some (pressed_key k) → IsReadAs reading text more (pressed_key k)
 told_is_read reading text k more (as_key means) e = (Input (input.Key k), means, refl)
 told_is_read reading text k more (as_report is means) e =
-    let both = some_if (is_report (event_of (drop 1 text))) (report_or (event_of text) (pressed_key k)) (pressed_key k) e in
-    (event_of text, means, key_is (event_of text) (pressed_key k) is.reports both.1)
+    let both = some_if (is_report (event_in reading (drop 1 text))) (report_or (event_in reading text) (pressed_key k)) (pressed_key k) e in
+    (event_in reading text, means, key_is (event_in reading text) (pressed_key k) is.reports both.1)
 told_is_read reading text k more (apart v splits is) e =
-    let both = some_if (is_report (event_of (drop 1 text))) (report_or (event_of text) (pressed_key k)) (pressed_key k) e in
-    let test : is_report (event_of v) ≡ false = subst (λ t. is_report (event_of (drop 1 t)) ≡ false) splits both.0 in
-    let no = reports_tested (event_of v) is.reports in absurd (cc (test, no))
+    let both = some_if (is_report (event_in reading (drop 1 text))) (report_or (event_in reading text) (pressed_key k)) (pressed_key k) e in
+    let test : is_report (event_in reading v) ≡ false = subst (λ t. is_report (event_in reading (drop 1 t)) ≡ false) splits both.0 in
+    let no = reports_tested (event_in reading v) is.reports in absurd (cc (test, no))
 
-abbrev pub report_if_some : Option (List ℕ) → KeyReport → Option KeyReport
-report_if_some (Some text) other = told_report text other
-report_if_some None other = None
+abbrev pub report_if_some : Bool → Option (List ℕ) → KeyReport → Option KeyReport
+report_if_some asks (Some text) other = told_report asks text other
+report_if_some asks None other = None
 
-abbrev pub told_of : Held → Option KeyReport
-told_of p = report_if_some (enc p.0 (record { 0 = p.1 }) xterm_modes) (pressed_key (key_with p.0 p.1))
+abbrev pub told_of : Bool → Held → Option KeyReport
+told_of asks p = report_if_some asks (enc p.0 (record { 0 = p.1 }) xterm_modes) (pressed_key (key_with p.0 p.1))
 
 abbrev pub expected : Held → Option KeyReport
 expected p = Some (pressed_key (key_with p.0 p.1))
 
+-- each is told as itself, whether a question is open or not
 abbrev pub AllTold : List Held → Type 0
-AllTold cases = map told_of cases ≡ map expected cases
+AllTold cases = (asks : Bool) → map (told_of asks) cases ≡ map expected cases
 
-pub told_in : (cases : List Held) (p : Held) (text : List ℕ) → AllTold cases → Contains cases p
+pub told_in : (cases : List Held) (p : Held) (asks : Bool) (text : List ℕ) → AllTold cases → Contains cases p
     → enc p.0 (record { 0 = p.1 }) xterm_modes ≡ Some text
-    → told_report text (pressed_key (key_with p.0 p.1)) ≡ Some (pressed_key (key_with p.0 p.1))
-told_in cases p text test here sends =
-    ap (λ o. report_if_some o (pressed_key (key_with p.0 p.1))) (sym sends) ∙ same_on told_of expected cases p test here
+    → told_report asks text (pressed_key (key_with p.0 p.1)) ≡ Some (pressed_key (key_with p.0 p.1))
+told_in cases p asks text test here sends =
+    ap (λ o. report_if_some asks o (pressed_key (key_with p.0 p.1))) (sym sends) ∙ same_on (told_of asks) expected cases p (test asks) here

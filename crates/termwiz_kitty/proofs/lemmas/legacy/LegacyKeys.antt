@@ -32,6 +32,7 @@ use Rattle.termwiz_extended_events.specs.declared.types.Reading.{Reading}
 use Rattle.termwiz_extended_events.specs.EventKeys.{pressed_key}
 use Rattle.termwiz_extended_events.proofs.Examples.{written_out as events_written_out}
 use Rattle.termwiz_extended_grammar.proofs.lemmas.forms.FormBytes.{form_shape}
+use Rattle.termwiz_extended_grammar.specs.Readings.{is_asking}
 use Rattle.termwiz_kitty.specs.declared.legacy.LegacyText.{LegacyText}
 use Rattle.termwiz_kitty.specs.declared.legacy.LegacyText.TheVariants.{AfterEscape}
 use Rattle.termwiz_kitty.specs.declared.telling.Telling.TheVariants.{Nothing, Typed, Legacy, Reported}
@@ -97,7 +98,7 @@ by_list reading cases key held text more read told here sends apart' =
     let back = reads_back_in xterm_modes cases key (record { 0 = held }) read here in
     told_is_read reading text (key_with key held) more
     (read_as reading text (key_with key held) more (is_read reading key held text more back sends apart'))
-    (told_in cases (key, held) text told here sends)
+    (told_in cases (key, held) (is_asking reading) text told here sends)
 
 in_chars : (codes' held' : List ℕ) (c held : ℕ) → Contains codes' c → Contains held' held
     → Contains (pairs (chars codes') held') (Char c, held)
@@ -162,7 +163,8 @@ own_keys_read = refl
 
 own_keys_told : AllTold (map in_port own_keys)
 unfolding enc_written_out events_written_out numbers digits
-own_keys_told = refl
+own_keys_told true = refl
+own_keys_told false = refl
 
 -- what is sent as before the protocol is that text
 
@@ -241,7 +243,8 @@ printable_read = refl
 
 printable_told : AllTold printable_with_alt
 unfolding enc_written_out events_written_out numbers digits
-printable_told = refl
+printable_told true = refl
+printable_told false = refl
 
 -- a character beyond ASCII
 char_with_alt : (c : ℕ) → 128 ≤ c → Sends (Char c) port_alt (ESC ++ encode_utf8 c)

@@ -23,9 +23,10 @@ use Rattle.termwiz_extended_events.specs.declared.types.ExtendedEvent.TheVariant
 use Rattle.termwiz_extended_events.specs.declared.types.Protocol.{Protocol}
 use Rattle.termwiz_extended_events.specs.declared.types.Protocol.TheVariants.{Legacy, Kitty}
 use Rattle.termwiz_extended_events.specs.declared.types.Reading.{Reading}
-use Rattle.termwiz_extended_events.specs.Meanings.{event_of, IsPosition, IsKeyOrPosition}
+use Rattle.termwiz_extended_events.specs.Meanings.{IsPosition, IsKeyOrPosition}
 use Rattle.termwiz_extended_grammar.specs.Forms.{introducer}
 use Rattle.termwiz_extended_grammar.specs.ExtraSequences.{Overrides, IsExtra}
+use Rattle.termwiz_extended_grammar.specs.Readings.{event_in}
 use Rattle.termwiz_extended_grammar.specs.Strings.{StartsWithOpening}
 use Rattle.termwiz_extended_grammar.specs.ExtendedGrammar.{StartsExtended, IsOpen, IsUsual, Steps, Means}
 use Rattle.termwiz_extended_grammar.specs.ExtendedGrammar.Stands.{usual}
@@ -40,8 +41,8 @@ use Rattle.termwiz_kitty.proofs.lemmas.read_back.SequencesMean.{means_alone}
 
 -- the whole text is one extra sequence, a row that reports a key or the cursor's position
 pub record IsReportText (reading : Reading) (text : List ℕ) : Type 0 where
-  pub is_extra : IsExtra reading text (event_of text)
-  pub reports : IsKeyOrPosition (event_of text)
+  pub is_extra : IsExtra reading text (event_in reading text)
+  pub reports : IsKeyOrPosition (event_in reading text)
 
 pub row_is : (s : List ℕ) (k : KeyEvent) → Contains rows (s, k) → IsSequence s (Row k)
 unfolding IsSequence
@@ -105,7 +106,7 @@ whole reading v j (by_row c) (inl s) =
     let extra : IsExtra reading v s.event = subst (λ t. IsExtra reading t s.event) (sym same) s.is_extra in
     record {
       is_extra = record { is_form = extra.is_form; is_free = extra.is_free; means = refl };
-      reports = override_reports reading.protocol reading.questions (event_of v) (extra.is_free (Row j) is).2;
+      reports = override_reports reading.protocol reading.questions (event_in reading v) (extra.is_free (Row j) is).2;
     }
 whole reading v j (by_row c) (inr o) = absurd (row_no_opening v j (row_is v j c) o)
 whole reading v j (by_character c scalar e k) s =
@@ -187,7 +188,7 @@ as_in_port reading text k f means whole' after = record { steps = from means.ste
 -- what a text that the port reads as one key is read as
 pub data ReadAs (reading : Reading) (text : List ℕ) (k : KeyEvent) (f : Bool) : Type 0 where
   as_key : Means reading text f (Input (input.Key k) ∷ []) [] → ReadAs reading text k f
-  as_report : IsReportText reading text → Means reading text f (event_of text ∷ []) [] → ReadAs reading text k f
+  as_report : IsReportText reading text → Means reading text f (event_in reading text ∷ []) [] → ReadAs reading text k f
   apart : (v : List ℕ) → text ≡ ESC ++ v → IsReportText reading v → ReadAs reading text k f
 
 -- The port reads the text as the key, also if more may come; and neither the text nor what follows its ESC is open.
@@ -221,5 +222,5 @@ read_as reading text k f is = go (starts_extended_or_not reading text)
     go : Decision (StartsExtended reading text) → ReadAs reading text k f
     go (inl s) =
         let report = starts_whole reading text k is_single s in
-        as_report report (means_alone reading text f (event_of text) report.is_extra)
+        as_report report (means_alone reading text f (event_in reading text) report.is_extra)
     go (inr none) = behind none text refl

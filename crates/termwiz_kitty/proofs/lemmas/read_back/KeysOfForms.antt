@@ -1,5 +1,5 @@
 -- The form of a key is read as that key.
-use Rattle.std.proofs.Common.{◌≡◌, ℕ, ◌+◌, ◌-◌, ◌<◌, ◌≤◌, Bool, true, false, not, ◌&&◌, List, [], ◌∷◌, refl, subst, arith, nat_le, nat_lt, ⊎_elim, Option, Some, None}
+use Rattle.std.proofs.Common.{◌≡◌, ℕ, ◌+◌, ◌-◌, ◌<◌, ◌≤◌, Bool, true, false, not, ◌&&◌, List, [], ◌∷◌, refl, sym, subst, arith, nat_le, nat_lt, ⊎_elim, Option, Some, None}
 use Rattle.std.specs.Prelude.{◌==◌, option_map}
 use Rattle.std.specs.Char.{IsScalar}
 use Rattle.std.specs.List.{AllByRecursion}
@@ -11,7 +11,7 @@ use Rattle.termwiz_keys.specs.declared.types.KeyCode.TheVariants.{Char, Function
 use Rattle.termwiz_extended_events.specs.declared.types.ReportedKey.{ReportedKey}
 use Rattle.termwiz_extended_events.specs.declared.types.ReportedKey.TheVariants.{Named, Functional}
 use Rattle.termwiz_extended_events.specs.Numbers.{is_scalar}
-use Rattle.termwiz_extended_events.specs.ReportedKeys.{entry_at, lettered_keys, is_functional, is_high_function, functional_key, key_of, tilde_key}
+use Rattle.termwiz_extended_events.specs.ReportedKeys.{entry_at, lettered_keys, is_functional, is_high_function, functional_key, no_key, key_of, tilde_key}
 use Rattle.termwiz_kitty.specs.declared.key_forms.KeyForm.{KeyForm}
 use Rattle.termwiz_kitty.specs.declared.key_forms.KeyForm.TheVariants.{Letter, Number, Code}
 use Rattle.termwiz_kitty.specs.KeyForms.{function_forms, function_form, named_form, form_of, normal_key}
@@ -67,8 +67,9 @@ high_functions n low high =
     let inside : is_functional (57363 + n) ≡ true = grind (arith, nat_tests) in
     let among : is_high_function (57363 + n) ≡ true = grind (arith, nat_tests) in
     let scalar : is_scalar (57363 + n) ≡ true = grind (arith, nat_tests) in
+    let some : (57363 + n == no_key) ≡ false = grind (arith, nat_tests) in
     let back : (57363 + n) - 57363 ≡ n = omega arith in
-    record { read = rw (inside, among, back) refl; is_sound = scalar }
+    record { read = rw (some, inside, among, back) refl; is_sound = scalar }
 
 function_reads : (n : ℕ) → ReadsFunction n (function_form n)
 function_reads n = go (nat_le 13 n && nat_le n 35) refl
@@ -105,13 +106,21 @@ named_reads (Char c) is = record { read = refl; is_sound = scalar_is c is }
 named_reads (Function n) is = function_reads n
 named_reads key is = record { read = refl; is_sound = refl }
 
+no_key_reads : Reads (form_of (Functional no_key)) (normal_key (Functional no_key))
+unfolding normal_key key_of functional_key
+no_key_reads = record { read = refl; is_sound = refl }
+
 functional_reads : (n : ℕ) → Reads (form_of (Functional n)) (normal_key (Functional n))
 unfolding normal_key key_of
-functional_reads n = go (is_functional n) refl
+functional_reads n = go (n == no_key) refl (is_functional n) refl
   where
-    go : (b : Bool) → is_functional n ≡ b → Reads (form_of (Functional n)) (normal_key (Functional n))
-    go true inside = rw inside (record { read = rw inside refl; is_sound = functional_scalar n inside })
-    go false outside = rw outside (record { read = refl; is_sound = refl })
+    go : (z : Bool) → (n == no_key) ≡ z → (b : Bool) → is_functional n ≡ b → Reads (form_of (Functional n)) (normal_key (Functional n))
+    go true none b inside =
+        let same : n ≡ 0 = grind (arith, nat_tests) in
+        subst (λ m. Reads (form_of (Functional m)) (normal_key (Functional m))) (sym same) no_key_reads
+    go false some true inside =
+        rw (some, inside) (record { read = rw (some, inside) refl; is_sound = functional_scalar n inside })
+    go false some false outside = rw (some, outside) (record { read = refl; is_sound = refl })
 
 pub form_reads : (key : ReportedKey) → IsKey key → Reads (form_of key) (normal_key key)
 form_reads (Named key) is = named_reads key is

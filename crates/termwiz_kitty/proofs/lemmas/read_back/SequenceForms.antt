@@ -8,10 +8,11 @@ use Rattle.termwiz_grammar.proofs.lemmas.mouse.OneReport.{report_plain}
 use Rattle.termwiz_extended_events.specs.declared.types.ExtendedEvent.{ExtendedEvent}
 use Rattle.termwiz_extended_events.specs.declared.types.Protocol.TheVariants.{Kitty}
 use Rattle.termwiz_extended_events.specs.declared.types.Reading.{Reading}
-use Rattle.termwiz_extended_events.specs.Meanings.{event_of, IsKeyOrPosition}
+use Rattle.termwiz_extended_events.specs.Meanings.{IsKeyOrPosition}
 use Rattle.termwiz_extended_grammar.specs.Forms.{IsInner, IsControl}
 use Rattle.termwiz_extended_grammar.specs.Forms.IsForm.{control}
 use Rattle.termwiz_extended_grammar.specs.ExtraSequences.{Overrides, IsFree, IsExtra}
+use Rattle.termwiz_extended_grammar.specs.Readings.{event_in}
 
 -- a digit, a colon or a semicolon
 abbrev pub IsParameter : ℕ → Type 0
@@ -71,17 +72,17 @@ is_control body l a end short = record {
 
 -- where the sequence is read as a key or the cursor's position, a row is too
 is_free : (reading : Reading) (body : List ℕ) (l : ℕ) (e : ExtendedEvent) → reading.protocol ≡ Kitty → AllByRecursion IsParameter body
-    → IsKeyEnd l → IsKeyOrPosition e → event_of (written body l) ≡ e → IsFree reading (written body l)
+    → IsKeyEnd l → IsKeyOrPosition e → event_in reading (written body l) ≡ e → IsFree reading (written body l)
 unfolding IsSequence
 is_free reading body l e kitty a end reports same (Row key) s =
-    let told : IsKeyOrPosition (event_of (written body l)) = subst IsKeyOrPosition (sym same) reports in
-    (key, refl, subst (λ p. Overrides p reading.questions (event_of (written body l))) (sym kitty) told)
+    let told : IsKeyOrPosition (event_in reading (written body l)) = subst IsKeyOrPosition (sym same) reports in
+    (key, refl, subst (λ p. Overrides p reading.questions (event_in reading (written body l))) (sym kitty) told)
 is_free reading body l e kitty a end reports same (Report report) s =
     let plain = report_plain (written body l) report s in
     absurd (no_sign body l plain.0 a end (cc (plain.1)))
 
 pub is_extra : (reading : Reading) (body : List ℕ) (l : ℕ) (e : ExtendedEvent) → reading.protocol ≡ Kitty → AllByRecursion IsParameter body
-    → IsKeyEnd l → length (written body l) ≤ 256 → IsKeyOrPosition e → event_of (written body l) ≡ e
+    → IsKeyEnd l → length (written body l) ≤ 256 → IsKeyOrPosition e → event_in reading (written body l) ≡ e
     → IsExtra reading (written body l) e
 is_extra reading body l e kitty a end short reports same = record {
   is_form = control (is_control body l a end short);

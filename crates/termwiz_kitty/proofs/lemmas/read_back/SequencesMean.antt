@@ -25,7 +25,7 @@ use Rattle.termwiz_extended_events.specs.KeyReports.{key_report}
 use Rattle.termwiz_extended_grammar.specs.ExtraSequences.{IsExtra}
 use Rattle.termwiz_extended_grammar.specs.ExtendedGrammar.{Means}
 use Rattle.termwiz_extended_grammar.specs.ExtendedGrammar.Stands.{extra}
-use Rattle.termwiz_extended_grammar.specs.Readings.{after_event}
+use Rattle.termwiz_extended_grammar.specs.Readings.{after_event, is_asking}
 use Rattle.termwiz_extended_grammar.proofs.lemmas.items.ExtendedRests.{empty_is_rest}
 use Rattle.termwiz_extended_grammar.proofs.lemmas.forms.FormBytes.{all_append}
 use Rattle.termwiz_kitty.specs.declared.key_forms.KeyForm.{KeyForm}
@@ -56,7 +56,7 @@ written_means : (reading : Reading) (body : List ℕ) (l : ℕ) (r : KeyReport) 
     → Means reading (written body l) more (Key r ∷ []) []
 written_means reading body l r more kitty a end gained lost short e =
     means_alone reading (written body l) more (Key r)
-    (is_extra reading body l (Key r) kitty a end short tt (event_back body l r gained lost e))
+    (is_extra reading body l (Key r) kitty a end short tt (event_back (is_asking reading) body l r gained lost e))
 
 in_parameters : (b : ℕ) → IsFieldByte b → IsParameter b
 in_parameters b f = (omega arith, omega arith)

@@ -218,7 +218,7 @@ no_focus [] l gained lost =
 no_focus (x ∷ []) l gained lost = refl
 no_focus (x ∷ y ∷ body) l gained lost = refl
 
-pub event_back : (body : List ℕ) (l : ℕ) (r : KeyReport) → l ≢ 73 → l ≢ 79 → key_report (body ++ l ∷ []) ≡ Some r
-    → event_of (27 ∷ 91 ∷ (body ++ l ∷ [])) ≡ Key r
+pub event_back : (asks : Bool) (body : List ℕ) (l : ℕ) (r : KeyReport) → l ≢ 73 → l ≢ 79 → key_report (body ++ l ∷ []) ≡ Some r
+    → event_of asks (27 ∷ 91 ∷ (body ++ l ∷ [])) ≡ Key r
 unfolding event_of event_after reported
-event_back body l r gained lost e = rw (no_focus body l gained lost, e) refl
+event_back asks body l r gained lost e = rw (no_focus body l gained lost, e) refl
