@@ -782,7 +782,7 @@ fn keys_without_bytes() {
         application.encode(Flags::NONE),
         Err(KittyEncodeError::UnknownKey)
     );
-    for number in [0, 57343, 63744, u32::MAX] {
+    for number in [1, 57343, 63744, u32::MAX] {
         let functional = KeyReport {
             key: ReportedKey::Functional(number),
             ..copy.clone()
@@ -793,6 +793,12 @@ fn keys_without_bytes() {
             "{number}"
         );
     }
+    let without_key = KeyReport {
+        key: ReportedKey::Functional(0),
+        ..copy.clone()
+    };
+    check(&without_key, Flags::NONE, "\x1b[0u");
+    check(&without_key, Flags::all(), "\x1b[0u");
     let first_functional = KeyReport {
         key: ReportedKey::Functional(57344),
         ..copy
