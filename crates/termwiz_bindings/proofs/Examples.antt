@@ -1,9 +1,9 @@
 -- Events, reports and their presses, computed from the definitions.
-use Rattle.std.specs.Prelude.{◌≡◌, ℕ, ◌+◌, List, [], codes, Option, Some, None, refl}
+use Rattle.std.specs.Prelude.{◌≡◌, ℕ, ◌+◌, List, [], ◌∷◌, codes, Option, Some, None, refl}
 use Rattle.std.specs.Str.{chars}
 use Rattle.termwiz_keys.specs.Keys.{key_with}
 use Rattle.termwiz_keys.specs.declared.types.KeyCode.{KeyCode}
-use Rattle.termwiz_keys.specs.declared.types.KeyCode.TheVariants.{Char, ApplicationUpArrow, UpArrow, Tab, Enter, Numpad5, LeftControl, Function}
+use Rattle.termwiz_keys.specs.declared.types.KeyCode.TheVariants.{Char, ApplicationUpArrow, UpArrow, Tab, Enter, Backspace, Numpad5, LeftControl, Function}
 use Rattle.termwiz_extended_events.specs.declared.types.KeyReport.{KeyReport}
 use Rattle.termwiz_extended_events.specs.declared.types.KeyEventKind.{KeyEventKind}
 use Rattle.termwiz_extended_events.specs.declared.types.KeyEventKind.TheVariants.{Press, Repeat, Release}
@@ -12,15 +12,17 @@ use Rattle.termwiz_extended_events.specs.declared.types.ReportedKey.TheVariants.
 use Rattle.termwiz_extended_events.specs.ReportedKeys.{functional_key}
 use Rattle.termwiz_extended_events.specs.KeyReports.{report_of}
 use Rattle.termwiz_bindings.specs.declared.press.KeyPress.{KeyPress}
+use Rattle.termwiz_bindings.specs.Letters as letters
 use Rattle.termwiz_bindings.specs.MainKeys as keys
 use Rattle.termwiz_bindings.specs.Presses as rules
-use Rattle.termwiz_bindings.specs.Presses.{SHIFT, ALT, CTRL, canonical, event_report, second, typed_text}
+use Rattle.termwiz_bindings.specs.Presses.{SHIFT, ALT, CTRL, canonical, event_report, second, text_of_press, typed_text}
 
 -- the press of an event: to unfold this is to unfold every rule
 unfoldable pub event_press : KeyCode → ℕ → Option KeyPress
-unfolding canonical rules.settled rules.main_press rules.shown_press rules.control_press rules.capital_press
-    rules.unshifted_press rules.lowered_press rules.cased_press rules.typed_press rules.kitty_bits keys.makes_no_press
-    keys.main_code keys.main_of_named functional_key chars
+unfolding canonical rules.settled rules.plain_press rules.main_press rules.control_press rules.told_press rules.shown_press
+    rules.lowered_press rules.cased_press rules.typed_press rules.kitty_bits letters.has_near_capital
+    letters.has_far_capital letters.capital_of letters.letter_of letters.is_shifted_sign letters.shown_with_shift
+    keys.makes_no_press keys.main_code keys.main_of_named functional_key chars
 event_press key bits = canonical (event_report (key_with key bits))
 
 -- the press of a report, and a second one
@@ -29,7 +31,7 @@ unfolding event_press
 report_press r = canonical r
 
 unfoldable pub second_press : KeyReport → Option KeyPress
-unfolding event_press second
+unfolding event_press second rules.placed_second rules.untold_second rules.sending_second
 second_press r = second r
 
 -- a press that is there
@@ -181,3 +183,147 @@ dvorak = refl
 dvorak_second : second_press (typed (Char 99) CTRL None (Some 105) []) ≡ None
 unfolding second_press
 dvorak_second = refl
+
+eight_byte : event_press (Char 8) 0 ≡ pressed (Char 104) CTRL
+unfolding event_press
+eight_byte = refl
+
+eight_byte_with_alt : event_press (Char 8) port_alt ≡ pressed (Char 104) (ALT + CTRL)
+unfolding event_press
+eight_byte_with_alt = refl
+
+line_feed : event_press (Char 10) 0 ≡ pressed (Char 106) CTRL
+unfolding event_press
+line_feed = refl
+
+delete_character : event_press (Char 127) port_shift ≡ pressed Backspace SHIFT
+unfolding event_press
+delete_character = refl
+
+eight_second : second_press (typed (Char 8) (0) None None []) ≡ pressed Backspace CTRL
+unfolding second_press
+eight_second = refl
+
+eight_second_with_alt : second_press (typed (Char 8) (ALT) None None []) ≡ pressed Backspace (ALT + CTRL)
+unfolding second_press
+eight_second_with_alt = refl
+
+line_feed_second : second_press (typed (Char 10) (0) None None []) ≡ pressed Enter 0
+unfolding second_press
+line_feed_second = refl
+
+told_letter_second : second_press (typed (Char 104) (CTRL) None None []) ≡ None
+unfolding second_press
+told_letter_second = refl
+
+digit : report_press (typed (Char 49) (CTRL) None None []) ≡ pressed (Char 49) CTRL
+unfolding report_press
+digit = refl
+
+digit_with_shift : report_press (typed (Char 49) (SHIFT + CTRL) None None []) ≡ pressed (Char 49) (SHIFT + CTRL)
+unfolding report_press
+digit_with_shift = refl
+
+shifted_digit_second : second_press (typed (Char 49) (SHIFT + CTRL) (Some 33) None []) ≡ pressed (Char 49) (SHIFT + CTRL)
+unfolding second_press
+shifted_digit_second = refl
+
+typed_sign_second : second_press (typed (Char 49) (SHIFT) (Some 33) None []) ≡ None
+unfolding second_press
+typed_sign_second = refl
+
+told_sign : report_press (typed (Char 33) (SHIFT + CTRL) (Some 33) None []) ≡ pressed (Char 33) CTRL
+unfolding report_press
+told_sign = refl
+
+told_sign_second : second_press (typed (Char 33) (SHIFT + CTRL) (Some 33) None []) ≡ None
+unfolding second_press
+told_sign_second = refl
+
+untold_sign : report_press (typed (Char 33) (SHIFT + CTRL) None None []) ≡ pressed (Char 33) CTRL
+unfolding report_press
+untold_sign = refl
+
+untold_sign_second : second_press (typed (Char 33) (SHIFT + CTRL) None None []) ≡ None
+unfolding second_press
+untold_sign_second = refl
+
+sharp_s : report_press (typed (Char 0xdf) (SHIFT + CTRL) (Some 63) (Some 45) []) ≡ pressed (Char 63) CTRL
+unfolding report_press
+sharp_s = refl
+
+sharp_s_second : second_press (typed (Char 0xdf) (SHIFT + CTRL) (Some 63) (Some 45) []) ≡ pressed (Char 95) CTRL
+unfolding second_press
+sharp_s_second = refl
+
+sharp_s_without_place : second_press (typed (Char 0xdf) (SHIFT + CTRL) (Some 63) None []) ≡ pressed (Char 0xdf) (SHIFT + CTRL)
+unfolding second_press
+sharp_s_without_place = refl
+
+digit_of_a_letter : report_press (typed (Char 0xe9) (SHIFT + CTRL) (Some 50) None []) ≡ pressed (Char 50) CTRL
+unfolding report_press
+digit_of_a_letter = refl
+
+digit_of_a_letter_second : second_press (typed (Char 0xe9) (SHIFT + CTRL) (Some 50) None []) ≡ None
+unfolding second_press
+digit_of_a_letter_second = refl
+
+short_i : report_press (typed (Char 0x439) (SHIFT + CTRL) None None []) ≡ pressed (Char 0x439) (SHIFT + CTRL)
+unfolding report_press
+short_i = refl
+
+short_i_told : report_press (typed (Char 0x439) (SHIFT + CTRL) (Some 0x419) None []) ≡ pressed (Char 0x439) (SHIFT + CTRL)
+unfolding report_press
+short_i_told = refl
+
+short_i_capital : report_press (typed (Char 0x419) (SHIFT + CTRL) (Some 0x419) None []) ≡ pressed (Char 0x439) (SHIFT + CTRL)
+unfolding report_press
+short_i_capital = refl
+
+short_i_second : second_press (typed (Char 0x439) (SHIFT + CTRL) (Some 0x419) None []) ≡ None
+unfolding second_press
+short_i_second = refl
+
+u_umlaut_told : report_press (typed (Char 0xfc) (SHIFT + ALT) (Some 0xdc) None []) ≡ pressed (Char 0xdc) ALT
+unfolding report_press
+u_umlaut_told = refl
+
+u_umlaut : report_press (typed (Char 0xfc) (SHIFT + ALT) None None []) ≡ pressed (Char 0xdc) ALT
+unfolding report_press
+u_umlaut = refl
+
+u_umlaut_capital : event_press (Char 0xdc) port_alt ≡ pressed (Char 0xdc) ALT
+unfolding event_press
+u_umlaut_capital = refl
+
+text_alone : report_press (told (Functional 0) 0 Press) ≡ None
+unfolding report_press
+text_alone = refl
+
+text_alone_told : report_press (record (told (Functional 0) CAPS Press) { text = 0xc3 ∷ 0xa5 ∷ [] }) ≡ pressed (Char 0xe5) 0
+unfolding report_press
+text_alone_told = refl
+
+text_alone_with_ctrl : report_press (record (told (Functional 0) CTRL Press) { text = codes "a" }) ≡ None
+unfolding report_press
+text_alone_with_ctrl = refl
+
+text_alone_of_several : typed_text (record (told (Functional 0) SHIFT Press) { text = codes "ab" }) ≡ codes "ab"
+unfolding typed_text event_press
+text_alone_of_several = refl
+
+text_of_digit : text_of_press (record { key = Named (Char 49); held = 0 }) ≡ Some 49
+unfolding text_of_press
+text_of_digit = refl
+
+text_of_digit_with_shift : text_of_press (record { key = Named (Char 49); held = SHIFT }) ≡ None
+unfolding text_of_press
+text_of_digit_with_shift = refl
+
+text_of_space_with_shift : text_of_press (record { key = Named (Char 32); held = SHIFT }) ≡ Some 32
+unfolding text_of_press
+text_of_space_with_shift = refl
+
+text_with_alt : text_of_press (record { key = Named (Char 97); held = ALT }) ≡ None
+unfolding text_of_press
+text_with_alt = refl

@@ -8,6 +8,7 @@ use Rattle.termwiz_bindings.specs.declared.press.KeyPress.{KeyPress}
 use Rattle.termwiz_bindings.specs.declared.names.ReadError.{ReadError}
 use Rattle.termwiz_bindings.specs.declared.names.ReadErrorKind.{ReadErrorKind}
 use Rattle.termwiz_bindings.specs.declared.names.ReadErrorKind.TheVariants.{ControlCharacter, ModifierTwice, UnknownModifier, MissingKey, BadNumber, UnknownName, Ambiguous, NotAKey, ShiftedCharacter, Empty}
+use Rattle.termwiz_bindings.specs.Letters as letters
 use Rattle.termwiz_bindings.specs.MainKeys as keys
 use Rattle.termwiz_bindings.specs.Presses as rules
 use Rattle.termwiz_bindings.specs.Words as words
@@ -26,8 +27,9 @@ unfolding read control_at read_keys names.read_key names.between_brackets names.
     names.named_key names.spelled_key names.code_point_key names.code_point_number names.word_key names.kitty_key
     names.function_key names.numbered names.number_within names.value_in names.one_character words.modifier_of_word
     words.modifier_words words.key_of_word words.other_words words.worded_key words.worded_keys words.printed_word
-    rules.canonical rules.settled rules.main_press rules.shown_press rules.control_press rules.capital_press
-    rules.unshifted_press rules.lowered_press rules.cased_press rules.typed_press keys.makes_no_press keys.main_code
+    rules.canonical rules.settled rules.plain_press rules.main_press rules.control_press rules.told_press rules.shown_press
+    rules.lowered_press rules.cased_press rules.typed_press letters.has_near_capital letters.has_far_capital
+    letters.capital_of letters.letter_of letters.is_shifted_sign letters.shown_with_shift keys.makes_no_press keys.main_code
     keys.main_of_named functional_key chars is_utf8 encode
 chord_of text = read text
 
@@ -96,9 +98,50 @@ tabs_and_blanks : Prints (9 ∷ codes "  g" ++ 9 ∷ codes " g ") (codes "g g")
 unfolding round_of
 tabs_and_blanks = refl
 
-shifted_digit : Fails (codes "shift+1") ShiftedCharacter 6
+shifted_digit : Prints (codes "shift+1") (codes "shift+1")
 unfolding round_of
 shifted_digit = refl
+
+shifted_digit_with_ctrl : Prints (codes "C-S-1") (codes "ctrl+shift+1")
+unfolding round_of
+shifted_digit_with_ctrl = refl
+
+shifted_capital : Prints (codes "shift+A") (codes "A")
+unfolding round_of
+shifted_capital = refl
+
+-- the bytes of U+00E9 and U+00C9
+accented_letter : Prints (codes "shift+" ++ 0xc3 ∷ 0xa9 ∷ []) (0xc3 ∷ 0x89 ∷ [])
+unfolding round_of
+accented_letter = refl
+
+accented_with_ctrl : Prints (codes "ctrl+" ++ 0xc3 ∷ 0x89 ∷ []) (codes "ctrl+shift+" ++ 0xc3 ∷ 0xa9 ∷ [])
+unfolding round_of
+accented_with_ctrl = refl
+
+small_number : Prints (codes "u+0041") (codes "A")
+unfolding round_of
+small_number = refl
+
+number_in_brackets : Prints (codes "C-<u+0041>") (codes "ctrl+a")
+unfolding round_of
+number_in_brackets = refl
+
+eight_by_number : Prints (codes "U+0008") (codes "ctrl+h")
+unfolding round_of
+eight_by_number = refl
+
+shifted_sign : Fails (codes "shift+!") ShiftedCharacter 6
+unfolding round_of
+shifted_sign = refl
+
+shifted_plus : Fails (codes "x S-plus") ShiftedCharacter 4
+unfolding round_of
+shifted_plus = refl
+
+letters_alone : Fails (codes "M-A-") MissingKey 4
+unfolding round_of
+letters_alone = refl
 
 two_letters : Fails (codes "gg") UnknownName 0
 unfolding round_of

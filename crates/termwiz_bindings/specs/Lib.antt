@@ -4,6 +4,7 @@ pub mod Chords
 pub mod ChordLaws
 pub mod Codes
 pub mod CodeLaws
+pub mod Letters
 pub mod MainKeys
 pub mod Matchers
 pub mod Matching

@@ -1,5 +1,5 @@
 -- Which keys make a press, and under which name a key is known whatever mode the terminal is in.
-use Rattle.std.specs.Prelude.{ℕ, Bool, true, false, not, ◌&&◌, ◌||◌, List, [], ◌∷◌, nat_le, option_map, unwrap_or}
+use Rattle.std.specs.Prelude.{ℕ, Bool, true, false, not, ◌==◌, ◌&&◌, ◌||◌, List, [], ◌∷◌, nat_le, option_map, unwrap_or}
 use Rattle.termwiz_keys.specs.declared.types.KeyCode.{KeyCode}
 use Rattle.termwiz_keys.specs.declared.types.KeyCode.TheVariants.{Char, Hyper, Super, Meta, Shift, LeftShift, RightShift, Control, LeftControl, RightControl, Alt, LeftAlt, RightAlt, LeftWindows, RightWindows, Menu, LeftMenu, RightMenu, CapsLock, NumLock, ScrollLock, InternalPasteStart, InternalPasteEnd, Enter, UpArrow, DownArrow, LeftArrow, RightArrow, Home, End, PageUp, PageDown, Insert, Delete, ApplicationLeftArrow, ApplicationRightArrow, ApplicationUpArrow, ApplicationDownArrow, KeyPadHome, KeyPadEnd, KeyPadPageUp, KeyPadPageDown, Numpad0, Numpad1, Numpad2, Numpad3, Numpad4, Numpad5, Numpad6, Numpad7, Numpad8, Numpad9, Multiply, Add, Separator, Subtract, Decimal, Divide}
 use Rattle.termwiz_extended_events.specs.declared.types.ReportedKey.{ReportedKey}
@@ -44,6 +44,11 @@ is_modifier_number n = (nat_le 57358 n && nat_le n 57360) || (nat_le 57441 n && 
 unfoldable pub makes_no_press : ReportedKey → Bool
 makes_no_press (Named key) = is_modifier key || is_menu_lock_or_mark key
 makes_no_press (Functional n) = is_modifier_number n || not (is_functional n)
+
+-- text that comes without a key
+abbrev pub is_no_key : ReportedKey → Bool
+is_no_key (Functional n) = n == 0
+is_no_key (Named key) = false
 
 -- a functional key by its name, if it has one
 abbrev pub named : ReportedKey → ReportedKey

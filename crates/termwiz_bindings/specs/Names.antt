@@ -3,7 +3,7 @@
 use Rattle.std.specs.Prelude.{ℕ, ◌+◌, ◌-◌, Bool, true, false, not, ◌==◌, ◌&&◌, ◌||◌, List, [], ◌∷◌, ◌++◌, length, take, drop, replicate, codes, nat_lt, nat_le, slice_index, bit_or, Option, Some, None, option_map, option_and_then, unwrap_or, is_some, Result, Ok, Err, if◌then◌else◌}
 use Rattle.std.specs.Option.{option_or, ok_or}
 use Rattle.std.specs.List.{list_all, list_any}
-use Rattle.std.specs.Char.{is_digit, is_ascii_alphabetic, to_ascii_lowercase, encode_utf8}
+use Rattle.std.specs.Char.{is_digit, to_ascii_lowercase, encode_utf8}
 use Rattle.std.specs.Str.{chars, is_utf8, bytes_eq, str_eq_ignore_ascii_case}
 use Rattle.std.specs.Str.Parse.{digits_value}
 use Rattle.std.specs.Fmt.{decimal, digits}
@@ -21,6 +21,7 @@ use Rattle.termwiz_bindings.specs.declared.names.ReadErrorKind.{ReadErrorKind}
 use Rattle.termwiz_bindings.specs.declared.names.ReadErrorKind.TheVariants.{ModifierTwice, UnknownModifier, MissingKey, BadNumber, UnknownName, Ambiguous, NotAKey, ShiftedCharacter}
 use Rattle.termwiz_bindings.specs.declared.names.keys.Style.{Style}
 use Rattle.termwiz_bindings.specs.declared.names.keys.Style.TheVariants.{Vim, Emacs}
+use Rattle.termwiz_bindings.specs.Letters.{is_shifted_sign}
 use Rattle.termwiz_bindings.specs.MainKeys.{main_key}
 use Rattle.termwiz_bindings.specs.Presses.{SHIFT, ALT, CTRL, SUPER, HYPER, META, canonical, character, has_any, has_shift}
 use Rattle.termwiz_bindings.specs.Words.{key_of_word, modifier_of_word, printed_word}
@@ -84,10 +85,10 @@ word_key name =
     if bytes_eq name (codes "DEL") then Err Ambiguous
     else unwrap_or (option_or (function_key name) (kitty_key name)) (ok_or (option_map Named (key_of_word name)) UnknownName)
 
--- the number behind U+, if four to six hexadecimal digits follow
+-- the number behind U+ in any case, if four to six hexadecimal digits follow
 unfoldable pub code_point_number : List ℕ → Option ℕ
 code_point_number name =
-    if (slice_index name 0 == 85) && (slice_index name 1 == 43) && nat_le 6 (length name) && nat_le (length name) 8
+    if (to_ascii_lowercase (slice_index name 0) == 117) && (slice_index name 1 == 43) && nat_le 6 (length name) && nat_le (length name) 8
     then value_in 16 (drop 2 name) else None
 
 -- the character with this number
@@ -116,13 +117,13 @@ lowered_key key held = key
 abbrev pub named_report : ReportedKey → ℕ → KeyReport
 named_report key held = report_of (lowered_key key held) (record { modifiers = held; kind = Press })
 
--- SHIFT stands with a letter of ASCII or the space, or with a key that types no character
-abbrev pub may_have_shift : Option ℕ → Bool
-may_have_shift (Some c) = c == 32 || is_ascii_alphabetic c
-may_have_shift None = true
+-- a sign that is typed with SHIFT: on another keyboard it is typed otherwise, so SHIFT doesn't stand with it
+abbrev pub is_sign : Option ℕ → Bool
+is_sign (Some c) = is_shifted_sign c
+is_sign None = false
 
 abbrev pub is_shifted_character : ReportedKey → ℕ → Bool
-is_shifted_character key held = has_shift held && not (may_have_shift (character (main_key key)))
+is_shifted_character key held = has_shift held && is_sign (character (main_key key))
 
 unfoldable pub press_of : ReportedKey → ℕ → Result KeyPress ReadErrorKind
 press_of key held =
@@ -196,9 +197,9 @@ between_brackets text =
     if (slice_index text 0 == 60) && (slice_index text (length text - 1) == 62) && nat_le 3 (length text)
     then Some (take (length text - 2) (drop 1 text)) else None
 
--- to Emacs a word may have brackets
+-- to Emacs a word or a number may have brackets
 abbrev pub emacs_key : ℕ → ℕ → List ℕ → Option (List ℕ) → Result KeyPress ReadError
-emacs_key held at name (Some word) = named_press held (at + 1) (word_key word)
+emacs_key held at name (Some word) = named_press held (at + 1) (spelled_key word)
 emacs_key held at name None = named_press held at (named_key name)
 
 -- the name behind letters of Emacs's
@@ -211,11 +212,12 @@ lettered_name style held at [] = Err (error_at MissingKey at)
 lettered_name Vim held at name = named_press held at (if held == 0 then spelled_key name else named_key name)
 lettered_name Emacs held at name = emacs_name held at name
 
--- Letters, each with - behind it, and a name.
+-- Letters, each with - behind it, and a name. Where nothing stands behind them the key is missing, also if a modifier is there twice.
 unfoldable pub lettered_press : Style → ℕ → ℕ → List ℕ → Result KeyPress ReadError
 lettered_press style held at (letter ∷ dash ∷ rest) = elim (modifier_before style letter dash) [
-  | Some modifier ↦ if has_any held modifier then Err (error_at ModifierTwice at)
-      else lettered_press style (with_modifier held modifier) (at + 2) rest
+  | Some modifier ↦ if is_empty rest then Err (error_at MissingKey (at + 2))
+      else (if has_any held modifier then Err (error_at ModifierTwice at)
+      else lettered_press style (with_modifier held modifier) (at + 2) rest)
   | None ↦ lettered_name style held at (letter ∷ dash ∷ rest)
 ]
 lettered_press style held at name = lettered_name style held at name

@@ -1,5 +1,5 @@
 -- The laws of presses.
-use Rattle.std.specs.Prelude.{◌≡◌, ◌↔◌, ◌⊎◌, ◌<◌, ◌≤◌, ℕ, ◌+◌, true, false, List, [], Some, None, IsSome, bit_and}
+use Rattle.std.specs.Prelude.{◌≡◌, ◌≢◌, ◌↔◌, ◌⊎◌, ◌<◌, ◌≤◌, ℕ, ◌+◌, true, false, List, [], Some, None, IsSome, bit_and}
 use Rattle.std.specs.Char.{is_control}
 use Rattle.termwiz_base.specs.declared.modifiers.Modifiers.{Modifiers}
 use Rattle.termwiz_keys.specs.declared.types.KeyCode.TheVariants.{Char}
@@ -9,7 +9,8 @@ use Rattle.termwiz_extended_events.specs.declared.types.KeyEventKind.TheVariants
 use Rattle.termwiz_extended_events.specs.declared.types.ReportedKey.TheVariants.{Named}
 use Rattle.termwiz_extended_events.specs.KeyReports.{report_of}
 use Rattle.termwiz_bindings.specs.declared.press.KeyPress.{KeyPress}
-use Rattle.termwiz_bindings.specs.Presses.{canonical, second, typed_text, with_text, all_but_locks, is_shortcut, event_report}
+use Rattle.termwiz_bindings.specs.Letters.{shown_with_shift}
+use Rattle.termwiz_bindings.specs.Presses.{canonical, second, typed_text, with_text, all_but_locks, is_shortcut, has_shift, plain_press, reported, event_report}
 
 -- a press as the report of a press that says no more
 abbrev pub report_of_press : KeyPress → KeyReport
@@ -51,12 +52,28 @@ SidesChangeNothing = (k : KeyEvent) (held : Modifiers)
 abbrev pub NeverBoth : Type 0
 NeverBoth = (r : KeyReport) → (canonical r ≡ None) ⊎ (typed_text r ≡ [])
 
--- the report has a press with a modifier beside SHIFT, its key a character that isn't of ASCII, and a base character
-pub record IsTriedTwice (r : KeyReport) : Type 0 where
-  pub press : IsSome (canonical r)
+-- the key is a character that isn't of ASCII, a modifier is held beside SHIFT, and what its place types on a PC-101 keyboard is told
+pub record HasPlace (r : KeyReport) : Type 0 where
   pub shortcut : is_shortcut r.modifiers ≡ true
   pub beyond_ascii : (c : ℕ) × (r.key ≡ Named (Char c)) × (128 ≤ c)
   pub base : (b : ℕ) × (r.base ≡ Some b) × (is_control b ≡ false)
+
+-- SHIFT and another modifier are held. By its main name the key is a character but the space, of which only the keyboard knows what it is
+-- with SHIFT, and another character is told.
+pub record LostShift (r : KeyReport) : Type 0 where
+  pub shortcut : is_shortcut r.modifiers ≡ true
+  pub shift : has_shift r.modifiers ≡ true
+  pub key : (c : ℕ) × ((plain_press (reported r)).key ≡ Named (Char c)) × (c ≢ 32) × (shown_with_shift c ≡ None)
+      × ((s : ℕ) × (r.shifted ≡ Some s) × (is_control s ≡ false) × (c ≢ s))
+
+-- the key is U+0008 or U+000A
+abbrev pub IsSentByAnother : KeyReport → Type 0
+IsSentByAnother r = (r.key ≡ Named (Char 8)) ⊎ (r.key ≡ Named (Char 10))
+
+-- the key makes a press, and there is another one to try
+pub record IsTriedTwice (r : KeyReport) : Type 0 where
+  pub press : IsSome (canonical (with_text r []))
+  pub other : HasPlace r ⊎ (LostShift r ⊎ IsSentByAnother r)
 
 -- Exactly such a report has a second press.
 abbrev pub SecondOnlyOf : Type 0

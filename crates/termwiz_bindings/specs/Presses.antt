@@ -1,6 +1,7 @@
 -- The press of a key report. Rules 1 to 4 decide at once, the first that fits. Rules 5 to 10 are applied in turn to any other report.
 use Rattle.std.specs.Prelude.{ℕ, ◌+◌, Bool, true, false, not, ◌==◌, ◌&&◌, ◌||◌, List, [], ◌∷◌, nat_le, bit_and, bit_or, Option, Some, None, option_and_then, is_some, if◌then◌else◌}
-use Rattle.std.specs.Char.{is_control, is_ascii_control, is_ascii_uppercase, to_ascii_uppercase, to_ascii_lowercase}
+use Rattle.std.specs.Option.{option_or}
+use Rattle.std.specs.Char.{is_control, is_ascii_control}
 use Rattle.std.specs.List.{list_any}
 use Rattle.std.specs.Str.{chars}
 use Rattle.termwiz_base.specs.Modifiers.{xterm_number}
@@ -16,7 +17,8 @@ use Rattle.termwiz_extended_events.specs.declared.types.ReportedKey.TheVariants.
 use Rattle.termwiz_extended_events.specs.ReportedKeys.{entry_at}
 use Rattle.termwiz_extended_events.specs.KeyReports.{report_of}
 use Rattle.termwiz_bindings.specs.declared.press.KeyPress.{KeyPress}
-use Rattle.termwiz_bindings.specs.MainKeys.{makes_no_press, main_key}
+use Rattle.termwiz_bindings.specs.Letters.{standard_shifted, shown_with_shift, letter_of}
+use Rattle.termwiz_bindings.specs.MainKeys.{makes_no_press, is_no_key, main_key}
 
 -- kitty's bits of the modifiers that a press may have
 abbrev pub SHIFT : ℕ
@@ -45,9 +47,9 @@ all_but_locks = SHIFT + ALT + CTRL + SUPER + HYPER + META
 abbrev pub all_but_shift : ℕ
 all_but_shift = ALT + CTRL + SUPER + HYPER + META
 
--- those with which a letter is told in lower case
-abbrev pub all_but_shift_and_alt : ℕ
-all_but_shift_and_alt = CTRL + SUPER + HYPER + META
+-- the strong ones: with them a letter is told in lower case
+abbrev pub strong : ℕ
+strong = CTRL + SUPER + HYPER + META
 
 -- some of these modifiers are held
 abbrev pub has_any : ℕ → ℕ → Bool
@@ -59,6 +61,9 @@ has_shift held = has_any held SHIFT
 -- a shortcut: a modifier is held beside SHIFT and the locks
 abbrev pub is_shortcut : ℕ → Bool
 is_shortcut held = has_any held all_but_shift
+
+abbrev pub is_strong : ℕ → Bool
+is_strong held = has_any held strong
 
 abbrev pub with_shift : ℕ → ℕ
 with_shift held = bit_or held SHIFT
@@ -93,9 +98,16 @@ abbrev pub is_release : KeyEventKind → Bool
 is_release Release = true
 is_release kind = false
 
+-- 2 to 4: a key may type if it makes a press. So may text that comes without a key.
+abbrev pub may_type : ReportedKey → Bool
+may_type key = is_no_key key || not (makes_no_press key)
+
 -- 3 and 4: what is typed has a text, and no modifiers but SHIFT and the locks
 abbrev pub is_typed : ℕ → List ℕ → Bool
 is_typed modifiers text = is_counted_text text && not (is_shortcut modifiers)
+
+abbrev pub types_text : KeyReport → Bool
+types_text r = may_type r.key && is_typed r.modifiers r.text
 
 -- 3: a typed character is its press. SHIFT stays with the space alone.
 abbrev pub typed_character : ℕ → ℕ → KeyPress
@@ -115,17 +127,9 @@ abbrev pub by_character : (ℕ → ℕ → KeyPress) → KeyPress → Option ℕ
 by_character rule p (Some c) = rule c p.held
 by_character rule p None = p
 
--- 6: with SHIFT a character is what it is with SHIFT, if that is told
-abbrev pub shown_character : ℕ → ℕ → Option ℕ → ℕ
-shown_character c held (Some shifted) = if has_shift held then shifted else c
-shown_character c held None = c
-
-unfoldable pub shown_press : Option ℕ → KeyPress → KeyPress
-shown_press shifted p = by_character (λ c held. character_press (shown_character c held shifted) held) p (character p.key)
-
--- 7: the keys of control characters
+-- 6: the keys of control characters
 abbrev pub control_keys : List (ℕ × KeyCode)
-control_keys = (8, Backspace) ∷ (9, Tab) ∷ (10, Enter) ∷ (13, Enter) ∷ (27, Escape) ∷ (127, Backspace) ∷ []
+control_keys = (9, Tab) ∷ (13, Enter) ∷ (27, Escape) ∷ (127, Backspace) ∷ []
 
 -- the character that CTRL makes one of the other control characters of: the space, a letter, or one of \ ] ^ _
 abbrev pub uncontrolled : ℕ → ℕ
@@ -135,72 +139,93 @@ abbrev pub control_character : ℕ → ℕ → Option KeyCode → KeyPress
 control_character c held (Some key) = record { key = Named key; held = held }
 control_character c held None = character_press (uncontrolled c) (bit_or held CTRL)
 
--- 7: a control character is its key, or CTRL with a character
+-- 6: a control character is its key, or CTRL with a character
 unfoldable pub control_press : KeyPress → KeyPress
 control_press p =
     by_character (λ c held. if is_ascii_control c then control_character c held (entry_at control_keys c)
     else character_press c held) p (character p.key)
 
--- 8: a to z with SHIFT are A to Z
-unfoldable pub capital_press : KeyPress → KeyPress
-capital_press p =
-    by_character (λ c held. character_press (if has_shift held then to_ascii_uppercase c else c) held) p (character p.key)
+-- 7: the character with SHIFT is told, of any character but the space
+abbrev pub is_told : ℕ → ℕ → Bool
+is_told c held = has_shift held && not (c == 32)
 
--- 9: a character shows whether SHIFT is held, but for the space
-unfoldable pub unshifted_press : KeyPress → KeyPress
-unshifted_press p =
-    by_character (λ c held. character_press c (if c == 32 then held else without_shift held)) p (character p.key)
+abbrev pub told_character : ℕ → ℕ → Option ℕ → KeyPress
+told_character c held (Some shifted) =
+    if is_told c held then character_press shifted (without_shift held) else character_press c held
+told_character c held None = character_press c held
 
--- 10: A to Z with CTRL, SUPER, HYPER or META are a to z with SHIFT
+-- 7: with SHIFT a character is what it is told to be, without SHIFT
+unfoldable pub told_press : Option ℕ → KeyPress → KeyPress
+told_press shifted p = by_character (λ c held. told_character c held shifted) p (character p.key)
+
+abbrev pub shown_character : ℕ → ℕ → Option ℕ → KeyPress
+shown_character c held (Some shown) = character_press shown (without_shift held)
+shown_character c held None = character_press c held
+
+-- 8 and 9: with SHIFT a cased letter is its capital, and what shows SHIFT is itself, each without SHIFT. Any other character keeps SHIFT.
+unfoldable pub shown_press : KeyPress → KeyPress
+shown_press p =
+    by_character (λ c held. if has_shift held then shown_character c held (shown_with_shift c) else character_press c held)
+    p (character p.key)
+
+abbrev pub lowered_character : ℕ → ℕ → Option ℕ → KeyPress
+lowered_character c held (Some letter) =
+    if is_strong held then character_press letter (with_shift held) else character_press c held
+lowered_character c held None = character_press c held
+
+-- 10: a capital with a strong modifier is its letter with SHIFT
 unfoldable pub lowered_press : KeyPress → KeyPress
-lowered_press p =
-    by_character (λ c held. if is_ascii_uppercase c && has_any held all_but_shift_and_alt
-    then character_press (to_ascii_lowercase c) (with_shift held)
-    else character_press c held) p (character p.key)
+lowered_press p = by_character (λ c held. lowered_character c held (letter_of c)) p (character p.key)
 
--- 8 to 10: whether SHIFT or a capital letter tells that SHIFT is held
+-- 8 to 10: whether SHIFT or a capital tells that SHIFT is held
 unfoldable pub cased_press : KeyPress → KeyPress
-cased_press p = lowered_press (unshifted_press (capital_press p))
+cased_press p = lowered_press (shown_press p)
+
+-- 5 and 6: the key by its main name, before SHIFT is looked at
+unfoldable pub plain_press : KeyPress → KeyPress
+plain_press p = control_press (main_press p)
 
 -- 5 to 10 in turn
 unfoldable pub settled : Option ℕ → KeyPress → KeyPress
-settled shifted p = cased_press (control_press (shown_press (counted shifted) (main_press p)))
+settled shifted p = cased_press (told_press (counted shifted) (plain_press p))
 
 -- a report with another text in place of its own
 abbrev pub with_text : KeyReport → List ℕ → KeyReport
 with_text r text = record r { text = text }
 
--- 5 to 10 for the key and the modifiers of a report
+-- the key and the modifiers of a report
+abbrev pub reported : KeyReport → KeyPress
+reported r = record { key = r.key; held = r.modifiers }
+
+-- 5 to 10 for these
 abbrev pub settled_report : KeyReport → KeyPress
-settled_report r = settled r.shifted (record { key = r.key; held = r.modifiers })
+settled_report r = settled r.shifted (reported r)
 
 -- The press of a report, or none.
 unfoldable pub canonical : KeyReport → Option KeyPress
 canonical r =
     if is_release r.kind then None
+    else (if types_text r then typed_press (chars r.text) r.modifiers
     else (if makes_no_press r.key then None
-    else (if is_typed r.modifiers r.text then typed_press (chars r.text) r.modifiers
     else Some (settled_report r)))
 
 -- the text of a report that has no press because it types several characters; any other text is empty
 unfoldable pub typed_text : KeyReport → List ℕ
 typed_text r =
-    if is_release r.kind || makes_no_press r.key then []
-    else (if is_typed r.modifiers r.text && not (is_some (typed_press (chars r.text) r.modifiers)) then r.text else [])
+    if is_release r.kind then []
+    else (if types_text r && not (is_some (typed_press (chars r.text) r.modifiers)) then r.text else [])
 
 -- the bits of an event's modifiers as kitty's: the port's bit of SUPER is 16
 unfoldable pub kitty_bits : ℕ → ℕ
 kitty_bits held = xterm_number held + (if holds held 16 then SUPER else 0)
 
+-- the report of the press of a key with these modifiers
+abbrev pub key_report : KeyCode → ℕ → KeyReport
+key_report key modifiers = report_of (Named key) (record { modifiers = modifiers; kind = Press })
+
 -- an event counts as the report of a press with its SHIFT, ALT, CTRL and SUPER
 abbrev pub event_report : KeyEvent → KeyReport
-event_report k = report_of (Named k.key) (record { modifiers = kitty_bits k.modifiers.0; kind = Press })
-
--- what the keys of a PC-101 keyboard type with SHIFT, but for the letters
-abbrev pub standard_shifted : List (ℕ × ℕ)
-standard_shifted =
-    (39, 34) ∷ (44, 60) ∷ (45, 95) ∷ (46, 62) ∷ (47, 63) ∷ (48, 41) ∷ (49, 33) ∷ (50, 64) ∷ (51, 35) ∷ (52, 36) ∷ (53, 37)
-    ∷ (54, 94) ∷ (55, 38) ∷ (56, 42) ∷ (57, 40) ∷ (59, 58) ∷ (61, 43) ∷ (91, 123) ∷ (92, 124) ∷ (93, 125) ∷ (96, 126) ∷ []
+event_report k = key_report k.key (kitty_bits k.modifiers.0)
 
 -- the report of the key of a PC-101 keyboard that types this character
 abbrev pub standard_report : ℕ → ℕ → KeyReport
@@ -218,15 +243,50 @@ abbrev pub is_beyond_ascii : ReportedKey → Bool
 is_beyond_ascii (Named (Char c)) = nat_le 128 c
 is_beyond_ascii key = false
 
--- a second press is tried of a shortcut whose character isn't of ASCII
-abbrev pub has_second : KeyReport → Bool
-has_second r = is_some (canonical r) && is_shortcut r.modifiers && is_beyond_ascii r.key
+-- The press of the key at the same place of a PC-101 keyboard: of a shortcut whose character isn't of ASCII, if that key is told.
+unfoldable pub placed_second : KeyReport → Option KeyPress
+placed_second r =
+    if is_shortcut r.modifiers && is_beyond_ascii r.key
+    then option_and_then (λ base. canonical (standard_report base r.modifiers)) (counted r.base) else None
 
--- the press of the key at the same place of a PC-101 keyboard, which is tried if that of the report leads nowhere
+-- rule 7 gave another character for this one, and rule 9 would have kept its SHIFT
+abbrev pub lost_shift_of : ℕ → ℕ → Option ℕ → Bool
+lost_shift_of c held (Some shifted) = is_told c held && not (c == shifted) && not (is_some (shown_with_shift c))
+lost_shift_of c held None = false
+
+abbrev pub lost_shift : Option ℕ → KeyPress → Bool
+lost_shift shifted p = elim (character p.key) [ Some c ↦ lost_shift_of c p.held shifted | None ↦ false ]
+
+-- the report of the press of the same key, with the same modifiers, that says no more
+abbrev pub untold : KeyReport → KeyReport
+untold r = report_of r.key (record { modifiers = r.modifiers; kind = Press })
+
+-- The press with SHIFT: of a shortcut that lost SHIFT to the character that was told.
+unfoldable pub untold_second : KeyReport → Option KeyPress
+untold_second r =
+    if is_shortcut r.modifiers && lost_shift (counted r.shifted) (plain_press (reported r)) then canonical (untold r) else None
+
+-- the key that sends this control character on some terminals: Backspace with CTRL, and Enter
+abbrev pub sent_by : ℕ → ℕ → Option KeyReport
+sent_by c modifiers =
+    if c == 8 then Some (key_report Backspace (bit_or modifiers CTRL))
+    else (if c == 10 then Some (key_report Enter modifiers) else None)
+
+-- The press of that key, with the other modifiers of the report.
+unfoldable pub sending_second : KeyReport → Option KeyPress
+sending_second r =
+    option_and_then canonical (option_and_then (λ c. sent_by c r.modifiers) (character r.key))
+
+-- A press that is tried if that of the report leads nowhere, the first that there is of these.
 unfoldable pub second : KeyReport → Option KeyPress
 second r =
-    if has_second r then option_and_then (λ base. canonical (standard_report base r.modifiers)) (counted r.base) else None
+    if is_release r.kind || makes_no_press r.key then None
+    else option_or (placed_second r) (option_or (untold_second r) (sending_second r))
 
--- the character that a press types: nothing but SHIFT is held, and the key is no control character
+-- the character is typed while these modifiers are held: none, or SHIFT with the space alone
+abbrev pub is_typed_with : ℕ → ℕ → Bool
+is_typed_with held c = held == 0 || (held == SHIFT && c == 32)
+
+-- The character that a press types. A control character is none.
 unfoldable pub text_of_press : KeyPress → Option ℕ
-text_of_press p = if is_shortcut p.held then None else counted (character p.key)
+text_of_press p = option_and_then (λ c. if is_typed_with p.held c then Some c else None) (counted (character p.key))

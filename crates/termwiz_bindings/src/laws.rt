@@ -4,7 +4,7 @@ ghost use Rattle.termwiz_bindings.specs.BindingLaws.{AreChordsInOrder, ChangeOne
 ghost use Rattle.termwiz_bindings.specs.Chords.{TellsChordsApart};
 ghost use Rattle.termwiz_bindings.specs.CodeLaws.{CodesBeginAsPresses, CodesHaveOneWidth, CodesTellPresses};
 ghost use Rattle.termwiz_bindings.specs.NameLaws.{NamesReadBack, ReadsPresses};
-ghost use Rattle.termwiz_bindings.specs.Presses.{main_press, shown_press, control_press, capital_press, unshifted_press, lowered_press};
+ghost use Rattle.termwiz_bindings.specs.Presses.{main_press, control_press, told_press, shown_press, lowered_press};
 ghost use Rattle.termwiz_bindings.specs.PressLaws.{IsSettled, LocksChangeNothing, NeverBoth, NoPressOfRelease, PressesHaveNoLocks, PressesSettle, SecondOnlyOf, SecondWithoutText, SidesChangeNothing};
 
 use crate::chord::Chord;
@@ -16,14 +16,13 @@ pub fn presses_settle()
     ensures held { PressesHaveNoLocks }
 {}
 
-/// Each rule changes nothing where it was applied before: that of main keys, what a key types with Shift, control characters, capital
-/// letters, where SHIFT is dropped, and where a letter is told in lower case.
+/// Each rule changes nothing where it was applied before: that of main keys, control characters, what a key is told to type with Shift,
+/// what a character is with Shift on every keyboard, and where a letter is told in lower case.
 pub fn rules_settle()
     ensures main_key { IsSettled main_press }
-    ensures shown { (shifted : Option ℕ) → IsSettled (shown_press shifted) }
     ensures control { IsSettled control_press }
-    ensures capital { IsSettled capital_press }
-    ensures unshifted { IsSettled unshifted_press }
+    ensures told { (shifted : Option ℕ) → IsSettled (told_press shifted) }
+    ensures shown { IsSettled shown_press }
     ensures lowered { IsSettled lowered_press }
 {}
 
@@ -40,8 +39,9 @@ pub fn no_press()
     ensures text { NeverBoth }
 {}
 
-/// A report has a second press exactly if it has a press with a modifier beside SHIFT, its key is a character that isn't of ASCII,
-/// and the terminal told what the same place types on a PC-101 keyboard (`only`). Its text says nothing of it (`text`).
+/// A report has a second press exactly if its key makes a press and is one of three kinds (`only`). Its character isn't of ASCII, with a
+/// modifier beside SHIFT, and the terminal told what the same place types on a PC-101 keyboard. Or it lost SHIFT to another character
+/// that was told, where SHIFT would have stayed. Or it is U+0008 or U+000A. The text of a report says nothing of it (`text`).
 pub fn second_presses()
     ensures only { SecondOnlyOf }
     ensures text { SecondWithoutText }

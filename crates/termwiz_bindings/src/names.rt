@@ -28,7 +28,7 @@ pub enum ReadErrorKind {
     /// A word before `+` or `-` is no modifier, as in `foo+x`.
     #[error("no modifier has this name")]
     UnknownModifier,
-    /// No key stands behind the modifiers, as in `ctrl+`.
+    /// No key stands behind the modifiers, as in `ctrl+` and `C-M-`.
     #[error("no key stands behind the modifiers")]
     MissingKey,
     /// A number names no key: no character has it, as `U+D800`, or it isn't in the table, as in `f256` and `kitty1`. Leading zeros
@@ -44,8 +44,8 @@ pub enum ReadErrorKind {
     /// The key makes no press by itself: a modifier, a lock or a mark of a paste.
     #[error("the key makes no press by itself")]
     NotAKey,
-    /// Shift is written with a character that isn't a letter of ASCII. Write the character that it types, as `!` for `shift+1`.
-    #[error("Shift stands with a character: write what it types")]
+    /// Shift is written with a sign that shows it, as in `shift+!`. Write the sign alone.
+    #[error("Shift stands with a sign that shows it")]
     ShiftedCharacter,
     /// The text has more keys than a chord may have.
     #[error("too many keys")]

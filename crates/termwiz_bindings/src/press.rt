@@ -4,19 +4,21 @@ ghost use Rattle.std.specs.Char.{encode_utf8};
 ghost use Rattle.std.specs.Str.{chars};
 ghost use Rattle.termwiz_extended_events.specs.declared.types.KeyEventKind.TheVariants.{Press};
 ghost use Rattle.termwiz_extended_events.specs.KeyReports.{report_of};
-ghost use Rattle.termwiz_extended_events.specs.ReportedKeys.{entry_at};
 ghost use Rattle.termwiz_bindings.specs.Codes.{IsPress, code};
 ghost use Rattle.termwiz_bindings.specs.Presses as rules;
 ghost use Rattle.termwiz_bindings.specs.Presses.{canonical, event_report};
 
 mod characters;
 mod keys;
+mod letters;
 
 use crate::numbers::{reported_detail, reported_number};
 pub(crate) use characters::character;
-use characters::{character_press, character_rules};
+use characters::{character_press, control_press, is_told, shift_rules};
 pub(crate) use keys::main_key;
-use keys::makes_no_press;
+use keys::{is_no_key, makes_no_press};
+pub(crate) use letters::is_shifted_sign;
+use letters::{shown_with_shift, standard_shifted};
 use termwiz_base::{Flags, Modifiers};
 use termwiz_extended_events::types::{KeyEventKind, KeyReport, ReportedKey};
 use termwiz_keys::types::{KeyCode, KeyEvent};
@@ -40,20 +42,19 @@ const ALL_BUT_LOCKS: u8 = 63;
 // The same without SHIFT.
 const ALL_BUT_SHIFT: u8 = 62;
 
-// The same without ALT.
-const ALL_BUT_SHIFT_AND_ALT: u8 = 60;
+// The strong ones, with which a letter is told in lower case: CTRL, SUPER, HYPER and META.
+const STRONG: u8 = 60;
 
 /// A key that was pressed, and the modifiers held with it: one name for the key, whatever mode the terminal is in and whichever
 /// protocol it speaks. So a program compares presses, and looks up by them what a key does.
 ///
-/// Letters, digits and signs are the characters that they type: Shift with `a` is `A`, and with `1` on many keyboards `!`. So
-/// SHIFT is held only with keys that have a name, with the space, and with `a` to `z` where CTRL, SUPER, HYPER or META
-/// is held too: Ctrl, Shift and `a` are `a` with CTRL and SHIFT. The keypad and the arrows in application mode are the keys of
-/// the main block. Caps Lock and Num Lock are never held.
+/// Letters, digits and signs are the characters that they type: Shift with `a` is `A`, and with `1` on many keyboards `!`. Where
+/// CTRL, SUPER, HYPER or META is held too, a letter that has a capital keeps SHIFT: Ctrl, Shift and `a` are `a` with CTRL and
+/// SHIFT. The keypad and the arrows in application mode are the keys of the main block. Caps Lock and Num Lock are never held.
 ///
 /// A program that turns Kitty's keyboard protocol on should ask for `DISAMBIGUATE_ESCAPE_CODES` and `REPORT_ALTERNATE_KEYS`, and
 /// with `REPORT_ALL_KEYS_AS_ESCAPE_CODES` for `REPORT_ASSOCIATED_TEXT` too. Otherwise Ctrl, Shift and `1` come without the `!`,
-/// and are `1` with CTRL.
+/// and are `1` with CTRL and SHIFT. That is the second press where the `!` is told.
 #[derive(Clone, Copy, PartialEq, Eq, Debug)]
 pub struct KeyPress {
     key: ReportedKey,
@@ -118,11 +119,25 @@ fn is_release(kind: KeyEventKind) -> bool
     matches!(kind, KeyEventKind::Release)
 }
 
+// Whether a key may type: it makes a press, or the text comes without a key.
+fn may_type(key: ReportedKey) -> bool
+    ensures { result ≡ rules.may_type key }
+{
+    is_no_key(key) || !makes_no_press(key)
+}
+
 // Whether a report with these modifiers and this text is typed: it has a text, and no modifiers but SHIFT and the locks.
 fn is_typed(modifiers: u8, text: &str) -> bool
     ensures { result ≡ rules.is_typed modifiers text.now }
 {
     is_counted_text(text) && !is_shortcut(modifiers)
+}
+
+// Whether a report with this text in place of its own types it.
+fn types_text(report: &KeyReport, text: &str) -> bool
+    ensures { result ≡ rules.types_text (rules.with_text report.now text.now) }
+{
+    may_type(report.key) && is_typed(report.modifiers, text)
 }
 
 // The first character of a text, and the text behind it.
@@ -147,52 +162,23 @@ fn typed_press(text: &str, held: u8) -> Option<KeyPress>
     Some(character_press(c, if c == ' ' { held & SHIFT } else { 0 }))
 }
 
+// The key by its main name, before SHIFT is looked at.
+#[tactic(auto, unfolding(crate::specs::Presses::plain_press, crate::specs::Presses::main_press))]
+fn plain_press(key: ReportedKey, modifiers: u8) -> KeyPress
+    ensures { result ≡ rules.plain_press (record { key = key; held = modifiers }) }
+{
+    control_press(KeyPress {
+        key: main_key(key),
+        held: modifiers & ALL_BUT_LOCKS,
+    })
+}
+
 // The press of a key that types no text.
-#[tactic(auto, unfolding(crate::specs::Presses::settled, crate::specs::Presses::main_press))]
+#[tactic(auto, unfolding(crate::specs::Presses::settled))]
 fn settled(key: ReportedKey, modifiers: u8, shifted: Option<char>) -> KeyPress
     ensures { result ≡ rules.settled shifted (record { key = key; held = modifiers }) }
 {
-    let press = KeyPress {
-        key: main_key(key),
-        held: modifiers & ALL_BUT_LOCKS,
-    };
-    character_rules(counted(shifted), press)
-}
-
-// What the keys of a PC-101 keyboard type with Shift, but for the letters.
-const STANDARD_SHIFTED: &[(u32, char)] = &[
-    (39, '"'),
-    (44, '<'),
-    (45, '_'),
-    (46, '>'),
-    (47, '?'),
-    (48, ')'),
-    (49, '!'),
-    (50, '@'),
-    (51, '#'),
-    (52, '$'),
-    (53, '%'),
-    (54, '^'),
-    (55, '&'),
-    (56, '*'),
-    (57, '('),
-    (59, ':'),
-    (61, '+'),
-    (91, '{'),
-    (92, '|'),
-    (93, '}'),
-    (96, '~'),
-];
-
-// What the key of a PC-101 keyboard that types this character types with Shift, if it isn't a letter.
-fn standard_shifted(c: char) -> Option<char>
-    ensures { result ≡ entry_at rules.standard_shifted c }
-{
-    let number = u32::from(c);
-    STANDARD_SHIFTED
-        .iter()
-        .find(|row| row.0 == number)
-        .map(|row| row.1)
+    shift_rules(counted(shifted), plain_press(key, modifiers))
 }
 
 // Whether the key types a character that isn't of ASCII.
@@ -208,19 +194,72 @@ fn is_beyond_ascii(key: ReportedKey) -> bool
 // The press of the key of a PC-101 keyboard that types this character.
 #[tactic(auto, unfolding(crate::specs::Presses::canonical, crate::specs::MainKeys::makes_no_press))]
 fn standard_press(base: char, modifiers: u8) -> Option<KeyPress>
-    ensures { result ≡ canonical (rules.standard_report base modifiers) }
+    ensures value { result ≡ canonical (rules.standard_report base modifiers) }
+    ensures press { IfSome result IsPress }
 {
     let key = ReportedKey::Named(KeyCode::Char(base));
     Some(settled(key, modifiers, standard_shifted(base)))
 }
 
-// Whether a second press is tried: of a shortcut whose character isn't of ASCII.
-fn has_second(report: &KeyReport) -> bool
-    ensures { result ≡ rules.has_second report.now }
+// The press of the key at the same place of a PC-101 keyboard: of a shortcut whose character isn't of ASCII.
+#[tactic(auto, unfolding(crate::specs::Presses::placed_second))]
+fn placed_second(report: &KeyReport) -> Option<KeyPress>
+    ensures value { result ≡ rules.placed_second report.now }
+    ensures press { IfSome result IsPress }
 {
-    KeyPress::of_report(report).is_some()
-        && is_shortcut(report.modifiers)
-        && is_beyond_ascii(report.key)
+    if !is_shortcut(report.modifiers) || !is_beyond_ascii(report.key) {
+        return None;
+    }
+    let base = counted(report.base)?;
+    standard_press(base, report.modifiers)
+}
+
+// Whether SHIFT was lost to another character that was told, where SHIFT would have stayed.
+fn lost_shift(shifted: Option<char>, press: KeyPress) -> bool
+    ensures { result ≡ rules.lost_shift shifted press }
+{
+    match (character(press.key), shifted) {
+        (Some(c), Some(told)) => {
+            is_told(c, press.held) && c != told && shown_with_shift(c).is_none()
+        }
+        _ => false,
+    }
+}
+
+// The press with SHIFT of a shortcut that lost SHIFT to the character that was told.
+#[tactic(auto, unfolding(crate::specs::Presses::untold_second))]
+fn untold_second(report: &KeyReport) -> Option<KeyPress>
+    ensures value { result ≡ rules.untold_second report.now }
+    ensures press { IfSome result IsPress }
+{
+    let press = plain_press(report.key, report.modifiers);
+    if !is_shortcut(report.modifiers) || !lost_shift(counted(report.shifted), press) {
+        return None;
+    }
+    KeyPress::new(report.key, report.modifiers)
+}
+
+// The press of the key that sends this control character on some terminals: Backspace with CTRL, and Enter.
+#[tactic(auto, unfolding(crate::specs::Presses::sending_second))]
+fn sending_second(report: &KeyReport) -> Option<KeyPress>
+    ensures value { result ≡ rules.sending_second report.now }
+    ensures press { IfSome result IsPress }
+{
+    match character(report.key)? {
+        '\u{8}' => KeyPress::new(
+            ReportedKey::Named(KeyCode::Backspace),
+            report.modifiers | CTRL,
+        ),
+        '\n' => KeyPress::new(ReportedKey::Named(KeyCode::Enter), report.modifiers),
+        _ => None,
+    }
+}
+
+// Whether the press types the character of its key: nothing is held, or SHIFT with the space alone.
+fn is_typed_with(held: u8, c: char) -> bool
+    ensures { result ≡ rules.is_typed_with held c }
+{
+    held == 0 || (held == SHIFT && c == ' ')
 }
 
 impl KeyPress {
@@ -263,31 +302,39 @@ impl KeyPress {
         ensures value { result ≡ canonical (rules.with_text report.now text.now) }
         ensures press { IfSome result IsPress }
     {
-        if is_release(report.kind) || makes_no_press(report.key) {
+        if is_release(report.kind) {
             return None;
         }
-        if is_typed(report.modifiers, text) {
+        if types_text(report, text) {
             return typed_press(text, report.modifiers);
+        }
+        if makes_no_press(report.key) {
+            return None;
         }
         Some(settled(report.key, report.modifiers, report.shifted))
     }
 
-    /// Returns a second press of a key report, for a program in which the first one leads nowhere: that of the key at the same
-    /// place of a PC-101 keyboard, with the same modifiers. So Ctrl with the Cyrillic letter es is tried as Ctrl with `c`.
+    /// Returns a second press of a key report, for a program in which the first one leads nowhere. It is there for three kinds of keys.
     ///
-    /// It is there only if the terminal told that key (`REPORT_ALTERNATE_KEYS` of Kitty's protocol), the report has a press, a
-    /// modifier beside SHIFT is held, and the key's character isn't of ASCII. So Ctrl with `c` on a Dvorak keyboard is never
-    /// tried as another key.
+    /// A key whose character isn't of ASCII has that of the key at the same place of a PC-101 keyboard, with the same modifiers. So Ctrl
+    /// with the Cyrillic letter es is tried as Ctrl with `c`. The terminal must tell that key (`REPORT_ALTERNATE_KEYS` of Kitty's
+    /// protocol), and a modifier beside SHIFT must be held. Ctrl with `c` on a Dvorak keyboard is never tried as another key.
+    ///
+    /// A digit or a sign whose character with Shift was told has the press with SHIFT: Ctrl with `!` is tried as Ctrl, Shift and `1`.
+    /// Letters have none such.
+    ///
+    /// The characters U+0008 and U+000A are also what Ctrl-Backspace and Enter send on some terminals, so these are tried.
     #[tactic(auto, unfolding(crate::specs::Presses::second))]
     pub fn second(report: &KeyReport) -> Option<KeyPress>
         ensures value { result ≡ rules.second report.now }
         ensures press { IfSome result IsPress }
     {
-        if !has_second(report) {
+        if is_release(report.kind) || makes_no_press(report.key) {
             return None;
         }
-        let base = counted(report.base)?;
-        standard_press(base, report.modifiers)
+        placed_second(report)
+            .or(untold_second(report))
+            .or(sending_second(report))
     }
 
     /// Returns the key.
@@ -321,16 +368,13 @@ impl KeyPress {
         ]
     }
 
-    /// Returns the character that the press types, if it does: nothing but SHIFT is held. A program inserts it if the press
-    /// does nothing else. Enter and Tab type none.
+    /// Returns the character that the press types, if it does: nothing is held, or SHIFT with the space alone. A program inserts it
+    /// if the press does nothing else. Enter and Tab type none.
     #[tactic(auto, unfolding(crate::specs::Presses::text_of_press))]
     pub fn text(self) -> Option<char>
         ensures { result ≡ rules.text_of_press self }
     {
-        if is_shortcut(self.held) {
-            return None;
-        }
-        counted(character(self.key))
+        counted(character(self.key)).filter(|c| is_typed_with(self.held, *c))
     }
 }
 
@@ -341,7 +385,7 @@ pub fn typed_text<'a>(report: &'a KeyReport) -> &'a str
     ensures { result.now ≡ rules.typed_text report.now }
 {
     let text = report.text.as_str();
-    if is_release(report.kind) || makes_no_press(report.key) || !is_typed(report.modifiers, text) {
+    if is_release(report.kind) || !types_text(report, text) {
         return "";
     }
     match typed_press(text, report.modifiers) {

@@ -1,21 +1,21 @@
--- Each of the rules 5 to 10 changes nothing where it was applied before, and neither do the rules 8 to 10 together.
-use Rattle.std.proofs.Common.{◌≡◌, ◌∙◌, ⊎_elim, ℕ, ◌+◌, ◌<◌, ◌≤◌, Bool, true, false, ◌==◌, ◌&&◌, nat_le, nat_lt, bit_and, bit_or, refl, sym, ap, subst, arith, lit<, Option, Some, None}
+-- Each of the rules changes nothing where it was applied before, and neither do the rules 8 to 10 together.
+use Rattle.std.proofs.Common.{◌≡◌, ◌∙◌, ◌⊎◌, inl, inr, ℕ, ◌+◌, ◌<◌, Bool, true, false, ◌==◌, nat_le, nat_lt, bit_and, bit_or, refl, sym, ap, subst, arith, lit<, Option, Some, None}
 use Rattle.std.specs.Prelude.{if◌then◌else◌}
 use Rattle.std.specs.List.{AllByRecursion}
-use Rattle.std.specs.Char.{is_ascii_control, is_ascii_uppercase, is_ascii_lowercase, to_ascii_uppercase, to_ascii_lowercase}
-use Rattle.std.proofs.lemmas.Bool.{and_parts}
+use Rattle.std.specs.Char.{is_ascii_control}
 use Rattle.std.proofs.lemmas.Bool.Decides.{nat_tests}
-use Rattle.std.proofs.lemmas.Str.Ascii.{uppercase-uppercase, uppercase_is, lowercase_is}
 use Rattle.termwiz_keys.specs.declared.types.KeyCode.{KeyCode}
 use Rattle.termwiz_keys.specs.declared.types.KeyCode.TheVariants.{Char}
 use Rattle.termwiz_extended_events.specs.declared.types.ReportedKey.{ReportedKey}
 use Rattle.termwiz_extended_events.specs.declared.types.ReportedKey.TheVariants.{Named}
 use Rattle.termwiz_extended_events.specs.ReportedKeys.{entry_at}
 use Rattle.termwiz_bindings.specs.declared.press.KeyPress.{KeyPress}
-use Rattle.termwiz_bindings.specs.Presses.{character, character_press, by_character, has_any, has_shift, with_shift, without_shift, all_but_shift_and_alt, shown_character, shown_press, control_keys, uncontrolled, control_character, control_press, capital_press, unshifted_press, lowered_press, cased_press, main_press}
+use Rattle.termwiz_bindings.specs.Letters.{letter_of, shown_with_shift}
+use Rattle.termwiz_bindings.specs.Presses.{character, character_press, by_character, has_shift, with_shift, without_shift, is_strong, is_told, control_keys, uncontrolled, control_character, control_press, told_press, shown_press, lowered_character, lowered_press, cased_press, main_press}
 use Rattle.termwiz_bindings.specs.MainKeys.{main_key, main_of_named, main_code, makes_no_press}
 use Rattle.termwiz_bindings.specs.PressLaws.{IsSettled}
-use Rattle.termwiz_bindings.proofs.lemmas.HeldBits.{no_shift, dropped_once, is_shifted, dropped_again, locks_held, IsHeld, more_held, some_held}
+use Rattle.termwiz_bindings.proofs.lemmas.CasedLetters.{letter_is, not_shown, shown_plain}
+use Rattle.termwiz_bindings.proofs.lemmas.HeldBits.{no_shift, dropped_once, is_shifted, dropped_again, bare_held, locks_held, IsHeld, more_held, some_held}
 use Rattle.termwiz_bindings.proofs.lemmas.MainKeyFacts.{entry_is, main_key_once, main_key_makes}
 
 -- what holds of the presses of characters, and of all others, holds of each press
@@ -41,24 +41,13 @@ main_settles p =
     ap (λ (key : ReportedKey). record { key = key; held = bit_and (bit_and p.held 63) 63 }) (main_key_once p.key)
     ∙ ap (λ (held : ℕ). record { key = main_key p.key; held = held }) (locks_held p.held)
 
--- 6
-chosen_once : (b : Bool) (c d held : ℕ)
-    → character_press (if b then d else (if b then d else c)) held ≡ character_press (if b then d else c) held
-chosen_once true c d held = refl
-chosen_once false c d held = refl
-
-pub shown_settles : (shifted : Option ℕ) → IsSettled (shown_press shifted)
-unfolding shown_press
-shown_settles None = by_key _ (λ c held. refl) (λ p none. rw (none, none) refl)
-shown_settles (Some d) = by_key _ (λ c held. chosen_once (has_shift held) c d held) (λ p none. rw (none, none) refl)
-
--- 7: the keys of control characters are no characters
+-- 6: the keys of control characters are no characters
 abbrev IsNoCharacter : ℕ → Option KeyCode → Type 0
 IsNoCharacter n None = Unit {0}
 IsNoCharacter n (Some key) = character (Named key) ≡ None
 
 control_rows : AllByRecursion (λ (row : ℕ × KeyCode). IsNoCharacter row.0 (Some row.1)) control_keys
-control_rows = (refl, (refl, (refl, (refl, (refl, (refl, tt))))))
+control_rows = (refl, (refl, (refl, (refl, tt))))
 
 control_entry : (n : ℕ) → IsNoCharacter n (entry_at control_keys n)
 control_entry n = entry_is IsNoCharacter control_keys n tt control_rows
@@ -98,7 +87,7 @@ plain_character c plain d is =
 plain_other : (key : ReportedKey) → character key ≡ None → IsPlain key
 plain_other key none c is = cc
 
--- what rule 7 makes is plain
+-- what rule 6 makes is plain
 plain_of_control : (c held : ℕ) → is_ascii_control c ≡ true → (entry : Option KeyCode) → entry_at control_keys c ≡ entry
     → IsNoCharacter c entry → IsPlain (control_character c held entry).key
 plain_of_control c held control None none is = plain_character (uncontrolled c) (uncontrolled_plain c control none)
@@ -126,104 +115,147 @@ plain_stays = by_key (λ p. IsPlain p.key → control_press p ≡ p)
 pub control_settles : IsSettled control_press
 control_settles p = plain_stays (control_press p) (control_plain p)
 
--- 8
-capital_once : (b : Bool) (c held : ℕ)
-    → character_press (if b then to_ascii_uppercase (if b then to_ascii_uppercase c else c)
-    else (if b then to_ascii_uppercase c else c)) held
-    ≡ character_press (if b then to_ascii_uppercase c else c) held
-capital_once true c held = ap (λ d. character_press d held) (uppercase-uppercase c)
-capital_once false c held = refl
+-- 7
+told_once : (c s held : ℕ) (b : Bool) → is_told c held ≡ b
+    → told_press (Some s) (if is_told c held then character_press s (without_shift held) else character_press c held)
+    ≡ (if is_told c held then character_press s (without_shift held) else character_press c held)
+unfolding told_press
+told_once c s held true is = rw (is, no_shift held) refl
+told_once c s held false is = rw (is, is) refl
 
-pub capital_settles : IsSettled capital_press
-unfolding capital_press
-capital_settles = by_key (λ p. capital_press (capital_press p) ≡ capital_press p)
-    (λ c held. capital_once (has_shift held) c held)
+pub told_settles : (shifted : Option ℕ) → IsSettled (told_press shifted)
+unfolding told_press
+told_settles None = by_key (λ p. told_press None (told_press None p) ≡ told_press None p) (λ c held. refl) (λ p none. rw (none, none) refl)
+told_settles (Some s) = by_key (λ p. told_press (Some s) (told_press (Some s) p) ≡ told_press (Some s) p)
+    (λ c held. told_once c s held (is_told c held) refl)
     (λ p none. rw (none, none) refl)
 
--- 9
-unshifted_once : (b : Bool) (c held : ℕ)
-    → character_press c (if b then (if b then held else without_shift held)
-    else without_shift (if b then held else without_shift held))
-    ≡ character_press c (if b then held else without_shift held)
-unshifted_once true c held = refl
-unshifted_once false c held = ap (λ h. character_press c h) (dropped_once held)
+-- 8 and 9: without SHIFT a character stays
+pub unshifted_stays : (c held : ℕ) → has_shift held ≡ false → shown_press (character_press c held) ≡ character_press c held
+unfolding shown_press
+unshifted_stays c held none = rw none refl
 
-pub unshifted_settles : IsSettled unshifted_press
-unfolding unshifted_press
-unshifted_settles = by_key (λ p. unshifted_press (unshifted_press p) ≡ unshifted_press p)
-    (λ c held. unshifted_once (c == 32) c held)
+-- with SHIFT it is what it is with SHIFT, or stays if only the keyboard knows
+pub shown_is : (c held shown : ℕ) → has_shift held ≡ true → shown_with_shift c ≡ Some shown
+    → shown_press (character_press c held) ≡ character_press shown (without_shift held)
+unfolding shown_press
+shown_is c held shown shift is = rw (shift, is) refl
+
+pub unknown_stays : (c held : ℕ) → shown_with_shift c ≡ None → shown_press (character_press c held) ≡ character_press c held
+unfolding shown_press
+unknown_stays c held is = rw is (go (has_shift held))
+  where
+    go : (b : Bool) → (if b then character_press c held else character_press c held) ≡ character_press c held
+    go true = refl
+    go false = refl
+
+-- what rule 8 makes of a character: it shows SHIFT and has none, or it is as it was
+abbrev IsShown : ℕ → ℕ → KeyPress → Type 0
+IsShown c held p = ((d : ℕ) × (shown_with_shift c ≡ Some d) × (has_shift held ≡ true) × (p ≡ character_press d (without_shift held)))
+    ⊎ ((p ≡ character_press c held) × ((has_shift held ≡ false) ⊎ (shown_with_shift c ≡ None)))
+
+shown_cases : (c held : ℕ) → IsShown c held (shown_press (character_press c held))
+shown_cases c held = go (has_shift held) refl (shown_with_shift c) refl
+  where
+    go : (b : Bool) → has_shift held ≡ b → (o : Option ℕ) → shown_with_shift c ≡ o
+        → IsShown c held (shown_press (character_press c held))
+    go false none o is = inr (unshifted_stays c held none, inl none)
+    go true shift None is = inr (unknown_stays c held is, inr is)
+    go true shift (Some d) is = inl (d, is, shift, shown_is c held d shift is)
+
+pub shown_settles : IsSettled shown_press
+unfolding shown_press
+shown_settles = by_key (λ p. shown_press (shown_press p) ≡ shown_press p)
+    (λ c held. characters c held (shown_cases c held))
     (λ p none. rw (none, none) refl)
+  where
+    characters : (c held : ℕ) → IsShown c held (shown_press (character_press c held))
+        → shown_press (shown_press (character_press c held)) ≡ shown_press (character_press c held)
+    characters c held (inl (d, is, shift, made)) =
+        ap shown_press made ∙ unshifted_stays d (without_shift held) (no_shift held) ∙ sym made
+    characters c held (inr (same, why)) = ap shown_press same
 
--- 10: a letter in lower case is no capital, and its capital is the letter that it was
-lowered_letter : (c : ℕ) → is_ascii_uppercase c ≡ true
-    → (is_ascii_uppercase (to_ascii_lowercase c) ≡ false) × (to_ascii_uppercase (to_ascii_lowercase c) ≡ c)
-lowered_letter c is =
-    let low : 65 ≤ c = grind (arith, nat_tests) in
-    let high : c ≤ 90 = grind (arith, nat_tests) in
-    let lower : to_ascii_lowercase c ≡ c + 32 = (lowercase_is c).0 (low, high) in
-    let not_capital : is_ascii_uppercase (c + 32) ≡ false = grind (arith, nat_tests) in
-    let back : to_ascii_uppercase (c + 32) + 32 ≡ c + 32 = (uppercase_is (c + 32)).0 (omega arith, omega arith) in
-    rw lower (not_capital, omega arith)
+-- 10: a capital with a strong modifier is its letter with SHIFT
+pub lowered_is : (c held letter : ℕ) → letter_of c ≡ Some letter → is_strong held ≡ true
+    → lowered_press (character_press c held) ≡ character_press letter (with_shift held)
+unfolding lowered_press
+lowered_is c held letter is counts = rw (is, counts) refl
 
--- the letter is told in lower case
-abbrev is_lowered : ℕ → ℕ → Bool
-is_lowered c held = is_ascii_uppercase c && has_any held all_but_shift_and_alt
+weak_stays : (c held : ℕ) → is_strong held ≡ false → lowered_press (character_press c held) ≡ character_press c held
+unfolding lowered_press
+weak_stays c held weak = go (letter_of c)
+  where
+    go : (o : Option ℕ) → lowered_character c held o ≡ character_press c held
+    go None = refl
+    go (Some letter) = rw weak refl
 
-abbrev lowered : ℕ → ℕ → KeyPress
-lowered c held =
-    if is_lowered c held then character_press (to_ascii_lowercase c) (with_shift held) else character_press c held
+pub no_capital_stays : (c held : ℕ) → letter_of c ≡ None → lowered_press (character_press c held) ≡ character_press c held
+unfolding lowered_press
+no_capital_stays c held none = rw none refl
+
+-- what rule 10 makes of a character
+abbrev IsLowered : ℕ → ℕ → KeyPress → Type 0
+IsLowered c held p =
+    ((letter : ℕ) × (letter_of c ≡ Some letter) × (is_strong held ≡ true) × (p ≡ character_press letter (with_shift held)))
+    ⊎ ((p ≡ character_press c held) × ((is_strong held ≡ false) ⊎ (letter_of c ≡ None)))
+
+lowered_cases : (c held : ℕ) → IsLowered c held (lowered_press (character_press c held))
+lowered_cases c held = go (letter_of c) refl (is_strong held) refl
+  where
+    go : (o : Option ℕ) → letter_of c ≡ o → (b : Bool) → is_strong held ≡ b
+        → IsLowered c held (lowered_press (character_press c held))
+    go None is b told = inr (no_capital_stays c held is, inr is)
+    go (Some letter) is false weak = inr (weak_stays c held weak, inl weak)
+    go (Some letter) is true counts = inl (letter, is, counts, lowered_is c held letter is counts)
 
 pub lowered_settles : IsSettled lowered_press
 unfolding lowered_press
 lowered_settles = by_key (λ p. lowered_press (lowered_press p) ≡ lowered_press p)
-    (λ c held. characters c held (is_lowered c held) refl)
+    (λ c held. characters c held (lowered_cases c held))
     (λ p none. rw (none, none) refl)
   where
-    characters : (c held : ℕ) (b : Bool) → is_lowered c held ≡ b
-        → lowered_press (lowered c held) ≡ lowered c held
-    characters c held true is =
-        let capital = and_parts (is_ascii_uppercase c) (has_any held all_but_shift_and_alt) is in
-        rw (is, (lowered_letter c capital.0).0) refl
-    characters c held false is = rw (is, is) refl
+    characters : (c held : ℕ) → IsLowered c held (lowered_press (character_press c held))
+        → lowered_press (lowered_press (character_press c held)) ≡ lowered_press (character_press c held)
+    characters c held (inl (letter, is, counts, made)) =
+        ap lowered_press made ∙ no_capital_stays letter (with_shift held) (letter_is c letter is).once ∙ sym made
+    characters c held (inr (same, why)) = ap lowered_press same
 
--- 8 to 10 of a character: after rule 8 it is c
-space_once : (held : ℕ) (b : Bool) → has_shift held ≡ b
-    → cased_press (lowered_press (unshifted_press (character_press 32 held)))
-    ≡ lowered_press (unshifted_press (character_press 32 held))
-unfolding cased_press capital_press unshifted_press lowered_press
-space_once held true is = rw is refl
-space_once held false is = rw is refl
-
-sign_once : (c held : ℕ) → (c == 32) ≡ false → (b : Bool) → is_lowered c (without_shift held) ≡ b
-    → cased_press (lowered_press (unshifted_press (character_press c held)))
-    ≡ lowered_press (unshifted_press (character_press c held))
-unfolding cased_press capital_press unshifted_press lowered_press
-sign_once c held other true is =
-    let capital = and_parts (is_ascii_uppercase c) (has_any (without_shift held) all_but_shift_and_alt) is in
-    let letter = lowered_letter c capital.0 in
-    rw (other, is, is_shifted (without_shift held), letter.1, other, dropped_again (without_shift held), dropped_once held, is) refl
-sign_once c held other false is =
-    rw (other, is, no_shift held, other, dropped_once held, is) refl
-
-told_once : (c held : ℕ) → cased_press (lowered_press (unshifted_press (character_press c held)))
-    ≡ lowered_press (unshifted_press (character_press c held))
-told_once c held = go (c == 32) refl
+-- 8 to 10 of a character without SHIFT: a letter comes back from its capital
+lowered_once : (d held : ℕ) → has_shift held ≡ false → without_shift held ≡ held
+    → cased_press (lowered_press (character_press d held)) ≡ lowered_press (character_press d held)
+unfolding cased_press
+lowered_once d held none bare = go (lowered_cases d held)
   where
-    go : (b : Bool) → (c == 32) ≡ b → cased_press (lowered_press (unshifted_press (character_press c held)))
-        ≡ lowered_press (unshifted_press (character_press c held))
-    go true is =
-        let space : c ≡ 32 = grind (arith, nat_tests) in
-        subst (λ d. cased_press (lowered_press (unshifted_press (character_press d held)))
-        ≡ lowered_press (unshifted_press (character_press d held))) (sym space)
-        (space_once held (has_shift held) refl)
-    go false is = sign_once c held is (is_lowered c (without_shift held)) refl
+    go : IsLowered d held (lowered_press (character_press d held))
+        → lowered_press (shown_press (lowered_press (character_press d held))) ≡ lowered_press (character_press d held)
+    go (inl (letter, is, counts, made)) =
+        ap (λ p. lowered_press (shown_press p)) made
+        ∙ ap lowered_press (shown_is letter (with_shift held) d (is_shifted held) (letter_is d letter is).back)
+        ∙ ap (λ h. lowered_press (character_press d h)) (dropped_again held ∙ bare)
+    go (inr (same, why)) =
+        ap (λ p. lowered_press (shown_press p)) same ∙ ap lowered_press (unshifted_stays d held none)
 
--- 8 to 10 together
-pub cased_settles : IsSettled cased_press
-unfolding cased_press capital_press unshifted_press lowered_press
-cased_settles = by_key (λ p. cased_press (cased_press p) ≡ cased_press p)
-    (λ c held. told_once (if has_shift held then to_ascii_uppercase c else c) held)
-    (λ p none. rw (none, none, none, none, none, none) refl)
+-- 8 to 10 together, without the locks
+pub cased_settles : (p : KeyPress) → IsHeld p.held → cased_press (cased_press p) ≡ cased_press p
+unfolding cased_press shown_press lowered_press
+cased_settles = by_key (λ p. IsHeld p.held → cased_press (cased_press p) ≡ cased_press p)
+    (λ c held is. characters c held is (shown_cases c held))
+    (λ p none is. rw (none, none, none, none) refl)
+  where
+    characters : (c held : ℕ) → IsHeld held → IsShown c held (shown_press (character_press c held))
+        → cased_press (lowered_press (shown_press (character_press c held))) ≡ lowered_press (shown_press (character_press c held))
+    characters c held is (inl (d, shows, shift, made)) =
+        ap (λ p. cased_press (lowered_press p)) made
+        ∙ lowered_once d (without_shift held) (no_shift held) (dropped_once held)
+        ∙ ap lowered_press (sym made)
+    characters c held is (inr (same, inl none)) =
+        ap (λ p. cased_press (lowered_press p)) same
+        ∙ lowered_once c held none (bare_held held is none)
+        ∙ ap lowered_press (sym same)
+    characters c held is (inr (same, inr unknown)) =
+        let stays : lowered_press (shown_press (character_press c held)) ≡ character_press c held =
+        ap lowered_press same ∙ no_capital_stays c held (not_shown c unknown) in
+        ap cased_press stays
 
 -- a press whose key is a main one that makes a press, with no locks
 pub record IsMainPress (p : KeyPress) : Type 0 where
@@ -255,17 +287,11 @@ IsMainCode n (Some key) = (main_key (Named key) ≡ Named key) × (makes_no_pres
 control_main : (n : ℕ) → IsMainCode n (entry_at control_keys n)
 unfolding main_of_named main_code makes_no_press
 control_main n = entry_is IsMainCode control_keys n tt
-    ((refl, refl), ((refl, refl), ((refl, refl), ((refl, refl), ((refl, refl), ((refl, refl), tt))))))
+    ((refl, refl), ((refl, refl), ((refl, refl), ((refl, refl), tt))))
 
 -- the rules on characters leave a press a main one
 abbrev KeepsMain : (KeyPress → KeyPress) → Type 0
 KeepsMain rule = (p : KeyPress) → IsMainPress p → IsMainPress (rule p)
-
-shown_main : (shifted : Option ℕ) → KeepsMain (shown_press shifted)
-unfolding shown_press
-shown_main shifted = by_key (λ p. IsMainPress p → IsMainPress (shown_press shifted p))
-    (λ c held is. character_is_main (shown_character c held shifted) held is.held)
-    (λ p none is. rw none is)
 
 control_keeps : KeepsMain control_press
 unfolding control_press
@@ -283,100 +309,103 @@ control_keeps = by_key (λ p. IsMainPress p → IsMainPress (control_press p))
     characters c held is true = named c held is (entry_at control_keys c) (control_main c)
     characters c held is false = character_is_main c held is
 
-capital_keeps : KeepsMain capital_press
-unfolding capital_press
-capital_keeps = by_key (λ p. IsMainPress p → IsMainPress (capital_press p))
-    (λ c held is. character_is_main _ held is.held)
-    (λ p none is. rw none is)
+-- a character that shows SHIFT, or the same character
+without_is : (held : ℕ) → IsHeld (without_shift held)
+without_is held = some_held held 62 refl
 
-unshifted_keeps : KeepsMain unshifted_press
-unfolding unshifted_press
-unshifted_keeps = by_key (λ p. IsMainPress p → IsMainPress (unshifted_press p))
-    (λ c held is. character_is_main c _ (held_is held is.held (c == 32)))
+pub told_keeps : (shifted : Option ℕ) → KeepsMain (told_press shifted)
+unfolding told_press
+told_keeps None = by_key (λ p. IsMainPress p → IsMainPress (told_press None p)) (λ c held is. is) (λ p none is. rw none is)
+told_keeps (Some s) = by_key (λ p. IsMainPress p → IsMainPress (told_press (Some s) p))
+    (λ c held is. characters c held is.held (is_told c held))
     (λ p none is. rw none is)
   where
-    held_is : (held : ℕ) → IsHeld held → (b : Bool) → IsHeld (if b then held else without_shift held)
-    held_is held is true = is
-    held_is held is false = some_held held 62 refl
+    characters : (c held : ℕ) → IsHeld held → (b : Bool)
+        → IsMainPress (if b then character_press s (without_shift held) else character_press c held)
+    characters c held is true = character_is_main s (without_shift held) (without_is held)
+    characters c held is false = character_is_main c held is
+
+shown_keeps : KeepsMain shown_press
+unfolding shown_press
+shown_keeps = by_key (λ p. IsMainPress p → IsMainPress (shown_press p))
+    (λ c held is. characters c held is.held (shown_cases c held))
+    (λ p none is. rw none is)
+  where
+    characters : (c held : ℕ) → IsHeld held → IsShown c held (shown_press (character_press c held))
+        → IsMainPress (shown_press (character_press c held))
+    characters c held is (inl (d, shows, shift, made)) =
+        subst IsMainPress (sym made) (character_is_main d (without_shift held) (without_is held))
+    characters c held is (inr (same, why)) = subst IsMainPress (sym same) (character_is_main c held is)
 
 lowered_keeps : KeepsMain lowered_press
 unfolding lowered_press
 lowered_keeps = by_key (λ p. IsMainPress p → IsMainPress (lowered_press p))
-    (λ c held is. characters c held is.held (is_lowered c held))
+    (λ c held is. characters c held is.held (lowered_cases c held))
     (λ p none is. rw none is)
   where
-    characters : (c held : ℕ) → IsHeld held → (b : Bool)
-        → IsMainPress (if b then character_press (to_ascii_lowercase c) (with_shift held) else character_press c held)
-    characters c held is true = character_is_main _ _ (more_held held 1 (lit< tt) is)
-    characters c held is false = character_is_main c held is
+    characters : (c held : ℕ) → IsHeld held → IsLowered c held (lowered_press (character_press c held))
+        → IsMainPress (lowered_press (character_press c held))
+    characters c held is (inl (letter, capital, counts, made)) =
+        subst IsMainPress (sym made) (character_is_main letter (with_shift held) (more_held held 1 (lit< tt) is))
+    characters c held is (inr (same, why)) = subst IsMainPress (sym same) (character_is_main c held is)
 
 cased_keeps : KeepsMain cased_press
 unfolding cased_press
-cased_keeps p is =
-    lowered_keeps (unshifted_press (capital_press p)) (unshifted_keeps (capital_press p) (capital_keeps p is))
+cased_keeps p is = lowered_keeps (shown_press p) (shown_keeps p is)
 
-pub rules_keep : (shifted : Option ℕ) → KeepsMain (λ p. cased_press (control_press (shown_press shifted p)))
-rules_keep shifted p is =
-    cased_keeps (control_press (shown_press shifted p))
-    (control_keeps (shown_press shifted p) (shown_main shifted p is))
+pub plain_keeps : KeepsMain control_press
+plain_keeps = control_keeps
 
--- the rules 8 to 10 make no control character
+pub rules_keep : (shifted : Option ℕ) → KeepsMain (λ p. cased_press (told_press shifted p))
+rules_keep shifted p is = cased_keeps (told_press shifted p) (told_keeps shifted p is)
+
+-- the rules on SHIFT make no control character
 abbrev KeepsPlain : (KeyPress → KeyPress) → Type 0
 KeepsPlain rule = (p : KeyPress) → IsPlain p.key → IsPlain (rule p).key
 
-capital_plain : (c : ℕ) → is_ascii_control c ≡ false → is_ascii_control (to_ascii_uppercase c) ≡ false
-capital_plain c plain = go (is_ascii_lowercase c) refl
-  where
-    go : (b : Bool) → is_ascii_lowercase c ≡ b → is_ascii_control (to_ascii_uppercase c) ≡ false
-    go true is =
-        let low : 97 ≤ c = grind (arith, nat_tests) in
-        let high : c ≤ 122 = grind (arith, nat_tests) in
-        let upper : to_ascii_uppercase c + 32 ≡ c = (uppercase_is c).0 (low, high) in
-        grind (arith, nat_tests)
-    go false is = ⊎_elim
-        (λ (low : c < 97). (let same : to_ascii_uppercase c ≡ c = (uppercase_is c).1 low in rw same plain))
-        (λ (high : 122 < c). (let same : to_ascii_uppercase c ≡ c = (uppercase_is c).2 high in rw same plain))
-        (grind (arith, nat_tests))
+-- the character that is told counts
+abbrev pub IsPlainOption : Option ℕ → Type 0
+IsPlainOption None = Unit {0}
+IsPlainOption (Some s) = is_ascii_control s ≡ false
 
-lower_plain : (c : ℕ) → is_ascii_uppercase c ≡ true → is_ascii_control (to_ascii_lowercase c) ≡ false
-lower_plain c is =
-    let low : 65 ≤ c = grind (arith, nat_tests) in
-    let high : c ≤ 90 = grind (arith, nat_tests) in
-    let lower : to_ascii_lowercase c ≡ c + 32 = (lowercase_is c).0 (low, high) in
-    rw lower (grind (arith, nat_tests))
-
-capital_keeps_plain : KeepsPlain capital_press
-unfolding capital_press
-capital_keeps_plain = by_key (λ p. IsPlain p.key → IsPlain (capital_press p).key)
-    (λ c held plain. plain_character _ (characters c (plain c refl) (has_shift held)))
-    (λ p none plain. rw none plain)
-  where
-    characters : (c : ℕ) → is_ascii_control c ≡ false → (b : Bool)
-        → is_ascii_control (if b then to_ascii_uppercase c else c) ≡ false
-    characters c plain true = capital_plain c plain
-    characters c plain false = plain
-
-unshifted_keeps_plain : KeepsPlain unshifted_press
-unfolding unshifted_press
-unshifted_keeps_plain = by_key (λ p. IsPlain p.key → IsPlain (unshifted_press p).key)
+pub told_keeps_plain : (shifted : Option ℕ) → IsPlainOption shifted → KeepsPlain (told_press shifted)
+unfolding told_press
+told_keeps_plain None is = by_key (λ p. IsPlain p.key → IsPlain (told_press None p).key)
     (λ c held plain. plain)
     (λ p none plain. rw none plain)
+told_keeps_plain (Some s) is = by_key (λ p. IsPlain p.key → IsPlain (told_press (Some s) p).key)
+    (λ c held plain. characters c held plain (is_told c held))
+    (λ p none plain. rw none plain)
+  where
+    characters : (c held : ℕ) → IsPlain (Named (Char c)) → (b : Bool)
+        → IsPlain (if b then character_press s (without_shift held) else character_press c held).key
+    characters c held plain true = plain_character s is
+    characters c held plain false = plain
+
+shown_keeps_plain : KeepsPlain shown_press
+unfolding shown_press
+shown_keeps_plain = by_key (λ p. IsPlain p.key → IsPlain (shown_press p).key)
+    (λ c held plain. characters c held plain (shown_cases c held))
+    (λ p none plain. rw none plain)
+  where
+    characters : (c held : ℕ) → IsPlain (Named (Char c)) → IsShown c held (shown_press (character_press c held))
+        → IsPlain (shown_press (character_press c held)).key
+    characters c held plain (inl (d, shows, shift, made)) =
+        subst (λ (p : KeyPress). IsPlain p.key) (sym made) (plain_character d (shown_plain c d shows (plain c refl)))
+    characters c held plain (inr (same, why)) = subst (λ (p : KeyPress). IsPlain p.key) (sym same) plain
 
 lowered_keeps_plain : KeepsPlain lowered_press
 unfolding lowered_press
 lowered_keeps_plain = by_key (λ p. IsPlain p.key → IsPlain (lowered_press p).key)
-    (λ c held plain. characters c held (plain c refl) (is_lowered c held) refl)
+    (λ c held plain. characters c held plain (lowered_cases c held))
     (λ p none plain. rw none plain)
   where
-    characters : (c held : ℕ) → is_ascii_control c ≡ false → (b : Bool) → is_lowered c held ≡ b
-        → IsPlain (lowered c held).key
-    characters c held plain true is =
-        let capital = and_parts (is_ascii_uppercase c) (has_any held all_but_shift_and_alt) is in
-        rw is (plain_character (to_ascii_lowercase c) (lower_plain c capital.0))
-    characters c held plain false is = rw is (plain_character c plain)
+    characters : (c held : ℕ) → IsPlain (Named (Char c)) → IsLowered c held (lowered_press (character_press c held))
+        → IsPlain (lowered_press (character_press c held)).key
+    characters c held plain (inl (letter, capital, counts, made)) =
+        subst (λ (p : KeyPress). IsPlain p.key) (sym made) (plain_character letter (letter_is c letter capital).plain)
+    characters c held plain (inr (same, why)) = subst (λ (p : KeyPress). IsPlain p.key) (sym same) plain
 
 pub cased_plain : KeepsPlain cased_press
 unfolding cased_press
-cased_plain p plain =
-    lowered_keeps_plain (unshifted_press (capital_press p))
-    (unshifted_keeps_plain (capital_press p) (capital_keeps_plain p plain))
+cased_plain p plain = lowered_keeps_plain (shown_press p) (shown_keeps_plain p plain)

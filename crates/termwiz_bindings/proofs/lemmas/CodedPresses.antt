@@ -1,5 +1,5 @@
 -- Presses and their codes.
-use Rattle.std.proofs.Common.{◌≡◌, ◌∙◌, ⊎_elim, ℕ, ◌+◌, ◌*◌, ◌/◌, ◌%◌, ◌<◌, ◌≤◌, List, [], ◌∷◌, ◌++◌, length, take, drop, get_or, Bool, true, false, Some, refl, sym, ap, ap₂, append_assoc, arith}
+use Rattle.std.proofs.Common.{◌≡◌, ◌∙◌, ⊎_elim, ℕ, ◌+◌, ◌*◌, ◌/◌, ◌%◌, ◌<◌, ◌≤◌, List, [], ◌∷◌, ◌++◌, length, take, drop, get_or, Bool, true, false, ◌&&◌, Some, None, refl, sym, ap, ap₂, append_assoc, arith}
 use Rattle.std.specs.Char.{IsScalar}
 use Rattle.std.specs.List.{All}
 use Rattle.std.proofs.Math.Utf8.{scalar_cases}
@@ -16,18 +16,25 @@ use Rattle.termwiz_bindings.specs.Codes.{IsKeyInRange, IsPress, code, code_len, 
 use Rattle.termwiz_bindings.specs.CodeLaws.{BeginPresses, CodesBeginAsPresses, CodesHaveOneWidth, CodesTellPresses}
 use Rattle.termwiz_bindings.specs.MainKeys.{makes_no_press}
 use Rattle.termwiz_bindings.specs.Numbers.{StandForReported, key_detail, reported_detail, reported_number}
-use Rattle.termwiz_bindings.specs.Presses.{canonical}
+use Rattle.termwiz_bindings.specs.Presses.{canonical, may_type}
 use Rattle.termwiz_bindings.specs.PressLaws.{report_of_press}
 use Rattle.termwiz_bindings.proofs.lemmas.KeyNumbers.{own_key, stands_for_itself}
 
 -- a press makes one
-makes_one : (p : KeyPress) → canonical (report_of_press p) ≡ Some p → makes_no_press p.key ≡ false
+no_text : (b : Bool) → (b && false) ≡ false
+no_text true = refl
+no_text false = refl
+
+none_made : (p : KeyPress) → makes_no_press p.key ≡ true → canonical (report_of_press p) ≡ None
 unfolding canonical
+none_made p is = rw (no_text (may_type p.key), is) refl
+
+makes_one : (p : KeyPress) → canonical (report_of_press p) ≡ Some p → makes_no_press p.key ≡ false
 makes_one p own = go (makes_no_press p.key) refl
   where
     go : (b : Bool) → makes_no_press p.key ≡ b → b ≡ false
     go false is = refl
-    go true is = absurd (cc (rw is at own))
+    go true is = let none : None ≡ Some p = sym (none_made p is) ∙ own in cc
 
 functional_below : (n : ℕ) → makes_no_press (Functional n) ≡ false → n < 0x1000000
 unfolding makes_no_press

@@ -8,7 +8,7 @@ use Rattle.termwiz_extended_events.specs.declared.types.KeyEventKind.TheVariants
 use Rattle.termwiz_extended_events.specs.declared.types.ReportedKey.{ReportedKey}
 use Rattle.termwiz_extended_events.specs.declared.types.ReportedKey.TheVariants.{Named}
 use Rattle.termwiz_extended_events.specs.KeyReports.{report_of}
-use Rattle.termwiz_bindings.specs.Presses.{canonical, settled, is_shortcut, typed_press, typed_character, character_press, main_press, all_but_locks, kitty_bits}
+use Rattle.termwiz_bindings.specs.Presses.{canonical, settled, is_shortcut, typed_press, typed_character, character_press, counted, main_press, plain_press, control_press, told_press, cased_press, all_but_locks, kitty_bits}
 use Rattle.termwiz_bindings.specs.PressLaws.{LocksChangeNothing, NoPressOfRelease, SidesChangeNothing, told_of_event}
 
 -- a release has no press
@@ -42,8 +42,9 @@ main_of_told key bits = rw (among bits 63 63 refl) refl
 settled_of_told : (shifted : Option ℕ) (key : ReportedKey) (bits : ℕ)
     → settled shifted (record { key = key; held = bits })
     ≡ settled shifted (record { key = key; held = bit_and bits all_but_locks })
-unfolding settled
-settled_of_told shifted key bits = rw (main_of_told key bits) refl
+unfolding settled plain_press
+settled_of_told shifted key bits =
+    ap (λ p. cased_press (told_press (counted shifted) (control_press p))) (main_of_told key bits)
 
 told_alone : (r : KeyReport) (bits : ℕ)
     → canonical (record r { modifiers = bits }) ≡ canonical (record r { modifiers = bit_and bits all_but_locks })

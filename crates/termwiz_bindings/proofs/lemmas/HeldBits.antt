@@ -1,8 +1,10 @@
 -- The bits of the modifiers that are held.
-use Rattle.std.proofs.Common.{◌≡◌, ◌∙◌, ℕ, ◌<◌, ◌≤◌, ◌%◌, true, false, not, ◌==◌, bit_and, bit_or, refl, ap, subst, arith}
+use Rattle.std.proofs.Common.{◌≡◌, ◌∙◌, ℕ, ◌<◌, ◌≤◌, ◌%◌, Bool, true, false, not, ◌==◌, ◌||◌, bit_and, bit_or, refl, ap, subst, arith}
 use Rattle.std.proofs.lemmas.Nat.{and_assoc, and_le_r, and_mask, and_or_self, and_or_apart, or_lt}
+use Rattle.std.proofs.lemmas.Bool.Decides.{nat_tests}
 use Rattle.std.specs.Int.Bits.{and_zero_r}
-use Rattle.termwiz_bindings.specs.Presses.{has_any, has_shift, with_shift, without_shift, all_but_locks, all_but_shift_and_alt}
+use Rattle.termwiz_bindings.proofs.lemmas.ModifiersRead.{below_passes}
+use Rattle.termwiz_bindings.specs.Presses.{has_shift, with_shift, without_shift, all_but_locks, is_strong}
 
 -- the bits are those of modifiers, without the locks
 abbrev pub IsHeld : ℕ → Type 0
@@ -44,15 +46,26 @@ no_shift held =
 pub dropped_once : (held : ℕ) → without_shift (without_shift held) ≡ without_shift held
 dropped_once held = and_assoc 62 held 62
 
-pub others_stay : (held : ℕ) → has_any (without_shift held) all_but_shift_and_alt ≡ has_any held all_but_shift_and_alt
+pub others_stay : (held : ℕ) → is_strong (without_shift held) ≡ is_strong held
 others_stay held = ap (λ n. not (n == 0)) (and_assoc 60 held 62)
 
 -- SHIFT was added
 pub is_shifted : (held : ℕ) → has_shift (with_shift held) ≡ true
 is_shifted held = ap (λ n. not (n == 0)) (and_or_self 1 held)
 
-pub others_with_shift : (held : ℕ) → has_any (with_shift held) all_but_shift_and_alt ≡ has_any held all_but_shift_and_alt
+pub others_with_shift : (held : ℕ) → is_strong (with_shift held) ≡ is_strong held
 others_with_shift held = ap (λ n. not (n == 0)) (and_or_apart 60 held 1 refl)
 
 pub dropped_again : (held : ℕ) → without_shift (with_shift held) ≡ without_shift held
 dropped_again held = and_or_apart 62 held 1 refl
+
+-- without SHIFT and the locks there is nothing to drop
+pub bare_held : (held : ℕ) → IsHeld held → has_shift held ≡ false → without_shift held ≡ held
+bare_held held is none =
+    let fit : (has_shift held || (without_shift held == held)) ≡ true =
+    below_passes (λ h. has_shift h || (without_shift h == h)) 64 held refl (held_below held is) in
+    go (has_shift held) none fit
+  where
+    go : (b : Bool) → b ≡ false → (b || (without_shift held == held)) ≡ true → without_shift held ≡ held
+    go false bare fit = grind (arith, nat_tests)
+    go true bare fit = cc

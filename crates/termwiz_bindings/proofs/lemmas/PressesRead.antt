@@ -1,7 +1,7 @@
 -- The printed name of a press is read as that press.
-use Rattle.std.proofs.Common.{◌≡◌, ◌∙◌, ℕ, ◌<◌, ◌≤◌, Bool, true, false, not, ◌==◌, ◌&&◌, ◌||◌, List, [], ◌∷◌, ◌++◌, codes, refl, sym, ap, subst, arith, append_assoc, Some, None, Ok, lt_trans, lit<, ⊎_elim}
+use Rattle.std.proofs.Common.{◌≡◌, ◌∙◌, ℕ, ◌+◌, ◌<◌, ◌≤◌, Bool, true, false, not, ◌==◌, ◌&&◌, ◌||◌, List, [], ◌∷◌, ◌++◌, codes, refl, sym, ap, subst, arith, append_assoc, Some, None, Ok, lt_trans, lit<, ⊎_elim}
 use Rattle.std.specs.Prelude.{if◌then◌else◌}
-use Rattle.std.specs.Char.{encode_utf8, is_ascii_alphabetic, is_ascii_uppercase, to_ascii_uppercase, to_ascii_lowercase}
+use Rattle.std.specs.Char.{encode_utf8, is_ascii_uppercase, to_ascii_lowercase}
 use Rattle.std.specs.Fmt.{decimal}
 use Rattle.std.proofs.lemmas.Bool.{cases_lt}
 use Rattle.std.proofs.lemmas.Bool.Decides.{nat_tests}
@@ -14,10 +14,13 @@ use Rattle.termwiz_extended_events.specs.declared.types.ReportedKey.TheVariants.
 use Rattle.termwiz_bindings.specs.declared.press.KeyPress.{KeyPress}
 use Rattle.termwiz_bindings.specs.declared.names.keys.Style.TheVariants.{Emacs}
 use Rattle.termwiz_bindings.specs.MainKeys.{main_key}
-use Rattle.termwiz_bindings.specs.Presses.{SHIFT, ALT, CTRL, SUPER, HYPER, META, canonical, character, character_press, has_any, has_shift, with_shift, without_shift, cased_press, capital_press, unshifted_press, lowered_press, all_but_shift_and_alt}
+use Rattle.termwiz_bindings.specs.Letters.{is_shifted_sign}
+use Rattle.termwiz_bindings.specs.Presses.{SHIFT, ALT, CTRL, SUPER, HYPER, META, canonical, character, character_press, has_any, has_shift, without_shift, is_strong, cased_press, lowered_press}
 use Rattle.termwiz_bindings.specs.PressLaws.{report_of_press}
 use Rattle.termwiz_bindings.specs.Words.{printed_word}
-use Rattle.termwiz_bindings.specs.Names.{between_brackets, modifier_of_letter, modifier_before, begins_as_emacs, worded_press, lettered_press, key_between, read_key, named_press, press_of, is_shifted_character, may_have_shift, lowered_key, printed, printed_key, printed_character, printed_modifier, printed_modifiers, is_shown, code_point}
+use Rattle.termwiz_bindings.specs.Names.{between_brackets, modifier_of_letter, modifier_before, begins_as_emacs, worded_press, lettered_press, key_between, read_key, named_press, press_of, is_shifted_character, is_sign, lowered_key, printed, printed_key, printed_character, printed_modifier, printed_modifiers, is_shown, code_point}
+use Rattle.termwiz_bindings.proofs.lemmas.CasedLetters.{shows_sign, shows_capital, sign_no_letter, ascii_capital}
+use Rattle.termwiz_bindings.proofs.lemmas.CharacterRules.{shown_is, unshifted_stays, lowered_is, no_capital_stays}
 use Rattle.termwiz_bindings.proofs.lemmas.HeldBits.{held_below, no_shift, others_stay}
 use Rattle.termwiz_bindings.proofs.lemmas.SettledPresses.{canonical_is_press}
 use Rattle.termwiz_bindings.proofs.lemmas.ModifiersRead.{below_passes, modifiers_read}
@@ -126,63 +129,64 @@ worded_only at text is = ap (key_between at text) is.bare
 
 -- ## The press of a key and modifiers of a press
 
--- SHIFT stands with letters of ASCII and the space
-shift_dropped : (c held : ℕ) → has_shift held ≡ true → (c == 32) ≡ false → is_ascii_alphabetic c ≡ false
+-- SHIFT doesn't stand with a sign that shows it
+sign_dropped : (c held : ℕ) → has_shift held ≡ true → is_shifted_sign c ≡ true
     → cased_press (character_press c held) ≡ character_press c (without_shift held)
-unfolding cased_press capital_press unshifted_press lowered_press
-shift_dropped c held shift other none =
-    let same : to_ascii_uppercase c ≡ c = grind (arith, nat_tests) in
-    let no_capital : is_ascii_uppercase c ≡ false = grind (arith, nat_tests) in
-    rw (shift, same, other, no_capital) refl
+unfolding cased_press
+sign_dropped c held shift sign =
+    ap lowered_press (shown_is c held c shift (shows_sign c sign))
+    ∙ no_capital_stays c (without_shift held) (sign_no_letter c sign)
 
-shift_stands : (c held : ℕ) → cased_press (character_press c held) ≡ character_press c held → has_shift held ≡ true
-    → (c == 32 || is_ascii_alphabetic c) ≡ true
-shift_stands c held settled shift = go (c == 32) (is_ascii_alphabetic c) refl refl
+no_sign : (c held : ℕ) → cased_press (character_press c held) ≡ character_press c held → has_shift held ≡ true
+    → is_shifted_sign c ≡ false
+no_sign c held settled shift = go (is_shifted_sign c) refl
   where
-    go : (space letter : Bool) → (c == 32) ≡ space → is_ascii_alphabetic c ≡ letter → (space || letter) ≡ true
-    go true letter is1 is2 = refl
-    go false true is1 is2 = refl
-    go false false is1 is2 =
-        let same : character_press c (without_shift held) ≡ character_press c held =
-        sym (shift_dropped c held shift is1 is2) ∙ settled in
+    go : (b : Bool) → is_shifted_sign c ≡ b → is_shifted_sign c ≡ false
+    go false is = is
+    go true is =
+        let same : character_press c (without_shift held) ≡ character_press c held = sym (sign_dropped c held shift is) ∙ settled in
         let bits : without_shift held ≡ held = ap (λ (p : KeyPress). p.held) same in
         let none : has_shift held ≡ false = subst (λ h. has_shift h ≡ false) bits (no_shift held) in
         cc
 
 -- with CTRL no capital letter stands
-ctrl_counts : (held : ℕ) → held < 64 → (not (has_any held CTRL) || has_any held all_but_shift_and_alt) ≡ true
-ctrl_counts held below = below_passes (λ h. not (has_any h CTRL) || has_any h all_but_shift_and_alt) 64 held refl below
+ctrl_counts : (held : ℕ) → held < 64 → (not (has_any held CTRL) || is_strong held) ≡ true
+ctrl_counts held below = below_passes (λ h. not (has_any h CTRL) || is_strong h) 64 held refl below
 
-capital_lowered : (c held : ℕ) (shift : Bool) → has_shift held ≡ shift → to_ascii_uppercase c ≡ c → (c == 32) ≡ false
-    → is_ascii_uppercase c ≡ true → has_any held all_but_shift_and_alt ≡ true
-    → cased_press (character_press c held) ≡ character_press (to_ascii_lowercase c) (with_shift (without_shift held))
-unfolding cased_press capital_press unshifted_press lowered_press
-capital_lowered c held true shift same other upper counts = rw (shift, same, other, upper, others_stay held, counts) refl
-capital_lowered c held false shift same other upper counts = rw (shift, other, upper, others_stay held, counts) refl
+capital_lowered : (c held : ℕ) → is_ascii_uppercase c ≡ true → is_strong held ≡ true
+    → (cased_press (character_press c held)).key ≡ Named (Char (c + 32))
+unfolding cased_press
+capital_lowered c held upper counts = go (has_shift held) refl
+  where
+    go : (b : Bool) → has_shift held ≡ b → (cased_press (character_press c held)).key ≡ Named (Char (c + 32))
+    go true shift =
+        ap (λ p. (lowered_press p).key) (shown_is c held c shift (shows_capital c (c + 32) (ascii_capital c upper)))
+        ∙ ap (λ (p : KeyPress). p.key) (lowered_is c (without_shift held) (c + 32) (ascii_capital c upper) (others_stay held ∙ counts))
+    go false none =
+        ap (λ p. (lowered_press p).key) (unshifted_stays c held none)
+        ∙ ap (λ (p : KeyPress). p.key) (lowered_is c held (c + 32) (ascii_capital c upper) counts)
 
 lower_stands : (c held : ℕ) → held < 64 → cased_press (character_press c held) ≡ character_press c held → has_any held CTRL ≡ true
     → to_ascii_lowercase c ≡ c
 lower_stands c held below settled ctrl = go (is_ascii_uppercase c) refl
   where
-    counts : has_any held all_but_shift_and_alt ≡ true
+    counts : is_strong held ≡ true
     counts = rw ctrl at (ctrl_counts held below)
 
     go : (b : Bool) → is_ascii_uppercase c ≡ b → to_ascii_lowercase c ≡ c
     go false none = grind (arith, nat_tests)
     go true upper =
-        let same : to_ascii_uppercase c ≡ c = grind (arith, nat_tests) in
-        let other : (c == 32) ≡ false = grind (arith, nat_tests) in
-        let lowered : character_press (to_ascii_lowercase c) (with_shift (without_shift held)) ≡ character_press c held =
-        sym (capital_lowered c held (has_shift held) refl same other upper counts) ∙ settled in
-        let keys : Named (Char (to_ascii_lowercase c)) ≡ Named (Char c) = ap (λ (p : KeyPress). p.key) lowered in
-        cc
+        let keys : Named (Char (c + 32)) ≡ Named (Char c) =
+        sym (capital_lowered c held upper counts) ∙ ap (λ (p : KeyPress). p.key) settled in
+        let same : c + 32 ≡ c = cc in
+        absurd (omega arith)
 
 -- the key stands with the modifiers of the press
 record IsOwnName (key : ReportedKey) (held : ℕ) : Type 0 where
   shift : is_shifted_character key held ≡ false
   lowered : lowered_key key held ≡ key
 
-no_other : (b : Bool) → (b && not true) ≡ false
+no_other : (b : Bool) → (b && false) ≡ false
 no_other true = refl
 no_other false = refl
 
@@ -193,9 +197,9 @@ own_name (Named (Char c)) held below main settled = record { shift = shift; lowe
     shift : is_shifted_character (Named (Char c)) held ≡ false
     shift = go (has_shift held) refl
       where
-        go : (b : Bool) → has_shift held ≡ b → (b && not (may_have_shift (character (main_key (Named (Char c)))))) ≡ false
+        go : (b : Bool) → has_shift held ≡ b → (b && is_sign (character (main_key (Named (Char c))))) ≡ false
         go false none = refl
-        go true some = rw (main, shift_stands c held settled some) refl
+        go true some = rw (main, no_sign c held settled some) refl
 
     lowered : lowered_key (Named (Char c)) held ≡ Named (Char c)
     lowered = go (has_any held CTRL) refl

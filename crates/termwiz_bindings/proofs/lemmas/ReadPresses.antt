@@ -12,7 +12,7 @@ use Rattle.termwiz_bindings.specs.declared.names.keys.Style.TheVariants.{Vim, Em
 use Rattle.termwiz_bindings.specs.Presses.{canonical, has_any}
 use Rattle.termwiz_bindings.specs.PressLaws.{report_of_press}
 use Rattle.termwiz_bindings.specs.Words.{modifier_of_word}
-use Rattle.termwiz_bindings.specs.Names.{is_separator, is_empty, one_character, named_press, press_at, press_of, is_shifted_character, named_report, named_key, word_key, last_press, worded_press, with_modifier, modifier_before, lettered_press, lettered_name, emacs_key, between_brackets, begins_as_emacs, key_between, read_key}
+use Rattle.termwiz_bindings.specs.Names.{is_separator, is_empty, one_character, named_press, press_at, press_of, is_shifted_character, named_report, named_key, spelled_key, last_press, worded_press, with_modifier, modifier_before, lettered_press, lettered_name, emacs_key, between_brackets, begins_as_emacs, key_between, read_key}
 use Rattle.termwiz_bindings.proofs.lemmas.SettledPresses.{presses_settle}
 use Rattle.termwiz_bindings.proofs.lemmas.WordSteps as words
 use Rattle.termwiz_bindings.proofs.lemmas.LetterSteps as letters
@@ -78,7 +78,7 @@ lettered_name_own Vim held at (b ∷ name) = named_own held at _
 lettered_name_own Emacs held at (b ∷ name) = go (between_brackets (b ∷ name))
   where
     go : (o : Option (List ℕ)) → ReadsOwn (emacs_key held at (b ∷ name) o)
-    go (Some word) = named_own held (at + 1) (word_key word)
+    go (Some word) = named_own held (at + 1) (spelled_key word)
     go None = named_own held at (named_key (b ∷ name))
 
 lettered_own : (style : Style) (held at : ℕ) (name : List ℕ) → ReadsOwn (lettered_press style held at name)
@@ -88,18 +88,21 @@ lettered_own style held at (b ∷ []) =
 lettered_own style held at (letter ∷ dash ∷ rest) =
     go (modifier_before style letter dash) refl (λ modifier. lettered_own style (with_modifier held modifier) (at + 2) rest)
   where
-    known : (modifier : ℕ) → modifier_before style letter dash ≡ Some modifier → (t : Bool) → has_any held modifier ≡ t
-        → ReadsOwn (lettered_press style (with_modifier held modifier) (at + 2) rest)
+    known : (modifier : ℕ) → modifier_before style letter dash ≡ Some modifier → (last : Bool) → is_empty rest ≡ last
+        → (t : Bool) → has_any held modifier ≡ t → ReadsOwn (lettered_press style (with_modifier held modifier) (at + 2) rest)
         → ReadsOwn (lettered_press style held at (letter ∷ dash ∷ rest))
-    known modifier named true twice later = subst ReadsOwn (sym (letters.held_letter style held at letter dash rest modifier named twice)) tt
-    known modifier named false new later = subst ReadsOwn (sym (letters.new_letter style held at letter dash rest modifier named new)) later
+    known modifier named true last t told later = subst ReadsOwn (sym (letters.last_letter style held at letter dash rest modifier named last)) tt
+    known modifier named false more true twice later =
+        subst ReadsOwn (sym (letters.held_letter style held at letter dash rest modifier named more twice)) tt
+    known modifier named false more false new later =
+        subst ReadsOwn (sym (letters.new_letter style held at letter dash rest modifier named more new)) later
 
     go : (o : Option ℕ) → modifier_before style letter dash ≡ o
         → ((modifier : ℕ) → ReadsOwn (lettered_press style (with_modifier held modifier) (at + 2) rest))
         → ReadsOwn (lettered_press style held at (letter ∷ dash ∷ rest))
     go None none later =
         subst ReadsOwn (sym (letters.no_letter style held at letter dash rest none)) (lettered_name_own style held at (letter ∷ dash ∷ rest))
-    go (Some modifier) named later = known modifier named (has_any held modifier) refl (later modifier)
+    go (Some modifier) named later = known modifier named (is_empty rest) refl (has_any held modifier) refl (later modifier)
 
 key_own : (at : ℕ) (text : List ℕ) → ReadsOwn (read_key at text)
 unfolding read_key

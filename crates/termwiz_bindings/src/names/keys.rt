@@ -11,7 +11,8 @@ use super::numbers::{code_point_key, function_key, kitty_key};
 use super::words::{key_of_word, modifier_of_word};
 use super::{ReadError, ReadErrorKind};
 use crate::press::{
-    ALT, CTRL, HYPER, KeyPress, META, SHIFT, SUPER, character, main_key, split_first,
+    ALT, CTRL, HYPER, KeyPress, META, SHIFT, SUPER, character, is_shifted_sign, main_key,
+    split_first,
 };
 use std::str;
 use termwiz_extended_events::types::ReportedKey;
@@ -100,12 +101,12 @@ fn lowered_key(key: ReportedKey, held: u8) -> ReportedKey
     }
 }
 
-// Whether SHIFT is held with a character but a letter of ASCII or the space.
+// Whether SHIFT is held with a sign that is typed with it.
 fn is_shifted_character(key: ReportedKey, held: u8) -> bool
     ensures { result ≡ rules.is_shifted_character key held }
 {
     match character(main_key(key)) {
-        Some(c) => held & SHIFT != 0 && c != ' ' && !c.is_ascii_alphabetic(),
+        Some(c) => held & SHIFT != 0 && is_shifted_sign(c),
         None => false,
     }
 }
@@ -266,7 +267,7 @@ fn emacs_name(held: u8, at: usize, name: &[u8]) -> Result<KeyPress, ReadError>
     ensures { result ≡ rules.emacs_name held at name.now }
 {
     match between_brackets(name) {
-        Some(word) => named_press(held, at + 1, word_key(word)),
+        Some(word) => named_press(held, at + 1, spelled_key(word)),
         None => named_press(held, at, named_key(name)),
     }
 }
@@ -297,6 +298,9 @@ fn lettered_press(style: Style, at: usize, text: &[u8]) -> Result<KeyPress, Read
     let mut rest = text;
     while rest.len() >= 2 {
         match modifier_before(style, rest[0], rest[1]) {
+            Some(_) if rest.len() == 2 => {
+                return Err(error_at(ReadErrorKind::MissingKey, start + 2));
+            }
             Some(modifier) => {
                 held = with_modifier(held, modifier, start)?;
                 start += 2;

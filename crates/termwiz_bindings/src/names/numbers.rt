@@ -108,12 +108,12 @@ pub(super) fn kitty_key(name: &[u8]) -> Option<Result<ReportedKey, ReadErrorKind
     }
 }
 
-// The number behind `U+`, if four to six hexadecimal digits follow.
+// The number behind `U+` in any case, if four to six hexadecimal digits follow.
 #[tactic(auto, unfolding(crate::specs::Names::code_point_number))]
 fn code_point_number(name: &[u8]) -> Option<u32>
     ensures { result ≡ rules.code_point_number name.now }
 {
-    if name.len() < 6 || name.len() > 8 || name[0] != b'U' || name[1] != b'+' {
+    if name.len() < 6 || name.len() > 8 || !name[0].eq_ignore_ascii_case(&b'u') || name[1] != b'+' {
         return None;
     }
     value_in(16, &name[2..])

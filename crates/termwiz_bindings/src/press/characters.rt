@@ -1,9 +1,10 @@
-// The rules on characters: what SHIFT, CTRL and control characters make of a press.
+// The rules on characters: what control characters, SHIFT and capitals make of a press.
 ghost use Rattle.std.specs.Prelude.{◌≡◌, ◌<◌};
 ghost use Rattle.termwiz_extended_events.specs.ReportedKeys.{entry_at};
 ghost use Rattle.termwiz_bindings.specs.Presses as rules;
 
-use super::{ALL_BUT_SHIFT, ALL_BUT_SHIFT_AND_ALT, CTRL, KeyPress, SHIFT};
+use super::letters::{letter_of, shown_with_shift};
+use super::{ALL_BUT_SHIFT, CTRL, KeyPress, SHIFT, STRONG};
 use termwiz_extended_events::types::ReportedKey;
 use termwiz_keys::types::KeyCode;
 
@@ -28,28 +29,15 @@ pub(crate) fn character(key: ReportedKey) -> Option<char>
 }
 
 // Whether SHIFT is held.
-fn has_shift(held: u8) -> bool
+pub(super) fn has_shift(held: u8) -> bool
     ensures { result ≡ rules.has_shift held }
 {
     held & SHIFT != 0
 }
 
-// With SHIFT a character is what it is with SHIFT, if that is told.
-#[tactic(auto, unfolding(crate::specs::Presses::shown_press))]
-fn shown_press(shifted: Option<char>, press: KeyPress) -> KeyPress
-    ensures { result ≡ rules.shown_press shifted press }
-{
-    match (character(press.key), shifted) {
-        (Some(_), Some(shown)) if has_shift(press.held) => character_press(shown, press.held),
-        _ => press,
-    }
-}
-
 // The keys of control characters.
 const CONTROL_KEYS: &[(u32, KeyCode)] = &[
-    (8, KeyCode::Backspace),
     (9, KeyCode::Tab),
-    (10, KeyCode::Enter),
     (13, KeyCode::Enter),
     (27, KeyCode::Escape),
     (127, KeyCode::Backspace),
@@ -80,7 +68,7 @@ fn uncontrolled(c: char) -> char
 
 // A control character is its key, or CTRL with a character.
 #[tactic(auto, unfolding(crate::specs::Presses::control_press))]
-fn control_press(press: KeyPress) -> KeyPress
+pub(super) fn control_press(press: KeyPress) -> KeyPress
     ensures { result ≡ rules.control_press press }
 {
     let Some(c) = character(press.key) else {
@@ -98,45 +86,58 @@ fn control_press(press: KeyPress) -> KeyPress
     }
 }
 
-// The letters a to z with SHIFT are A to Z.
-#[tactic(auto, unfolding(crate::specs::Presses::capital_press))]
-fn capital_press(press: KeyPress) -> KeyPress
-    ensures { result ≡ rules.capital_press press }
+// Whether another character counts in place of this one, if it is told: SHIFT is held, and it isn't the space.
+pub(super) fn is_told(c: char, held: u8) -> bool
+    ensures { result ≡ rules.is_told c held }
 {
-    match character(press.key) {
-        Some(c) if has_shift(press.held) => character_press(c.to_ascii_uppercase(), press.held),
-        _ => press,
-    }
+    has_shift(held) && c != ' '
 }
 
-// A character shows whether SHIFT is held, but for the space.
-#[tactic(auto, unfolding(crate::specs::Presses::unshifted_press))]
-fn unshifted_press(press: KeyPress) -> KeyPress
-    ensures { result ≡ rules.unshifted_press press }
+// With SHIFT a character but the space is what it is told to be, without SHIFT.
+#[tactic(auto, unfolding(crate::specs::Presses::told_press))]
+fn told_press(shifted: Option<char>, press: KeyPress) -> KeyPress
+    ensures { result ≡ rules.told_press shifted press }
 {
-    match character(press.key) {
-        Some(c) if c != ' ' => character_press(c, press.held & ALL_BUT_SHIFT),
-        _ => press,
-    }
-}
-
-// The letters A to Z with CTRL, SUPER, HYPER or META are a to z with SHIFT.
-#[tactic(auto, unfolding(crate::specs::Presses::lowered_press))]
-fn lowered_press(press: KeyPress) -> KeyPress
-    ensures { result ≡ rules.lowered_press press }
-{
-    match character(press.key) {
-        Some(c) if c.is_ascii_uppercase() && press.held & ALL_BUT_SHIFT_AND_ALT != 0 => {
-            character_press(c.to_ascii_lowercase(), press.held | SHIFT)
+    match (character(press.key), shifted) {
+        (Some(c), Some(told)) if is_told(c, press.held) => {
+            character_press(told, press.held & ALL_BUT_SHIFT)
         }
         _ => press,
     }
 }
 
-// The press of a key that has its main name, by the rules on characters.
-#[tactic(auto, unfolding(crate::specs::Presses::cased_press))]
-pub(super) fn character_rules(shifted: Option<char>, press: KeyPress) -> KeyPress
-    ensures { result ≡ rules.cased_press (rules.control_press (rules.shown_press shifted press)) }
+// With SHIFT a letter is its capital, without SHIFT. Capitals and signs show SHIFT by themselves. Any other character keeps it.
+#[tactic(auto, unfolding(crate::specs::Presses::shown_press))]
+fn shown_press(press: KeyPress) -> KeyPress
+    ensures { result ≡ rules.shown_press press }
 {
-    lowered_press(unshifted_press(capital_press(control_press(shown_press(shifted, press)))))
+    match character(press.key) {
+        Some(c) if has_shift(press.held) => match shown_with_shift(c) {
+            Some(shown) => character_press(shown, press.held & ALL_BUT_SHIFT),
+            None => press,
+        },
+        _ => press,
+    }
+}
+
+// A capital with CTRL, SUPER, HYPER or META is its letter with SHIFT.
+#[tactic(auto, unfolding(crate::specs::Presses::lowered_press))]
+fn lowered_press(press: KeyPress) -> KeyPress
+    ensures { result ≡ rules.lowered_press press }
+{
+    let Some(c) = character(press.key) else {
+        return press;
+    };
+    match letter_of(c) {
+        Some(letter) if press.held & STRONG != 0 => character_press(letter, press.held | SHIFT),
+        _ => press,
+    }
+}
+
+// The press of a key that has its main name and is no control character, by the rules on SHIFT.
+#[tactic(auto, unfolding(crate::specs::Presses::cased_press))]
+pub(super) fn shift_rules(shifted: Option<char>, press: KeyPress) -> KeyPress
+    ensures { result ≡ rules.cased_press (rules.told_press shifted press) }
+{
+    lowered_press(shown_press(told_press(shifted, press)))
 }

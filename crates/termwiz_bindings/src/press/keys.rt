@@ -44,6 +44,13 @@ pub(crate) fn makes_no_press(key: ReportedKey) -> bool
     }
 }
 
+// Whether the report is of text that comes without a key.
+pub(super) fn is_no_key(key: ReportedKey) -> bool
+    ensures { result ≡ rules.is_no_key key }
+{
+    matches!(key, ReportedKey::Functional(0))
+}
+
 // A functional key by its name, if it has one.
 fn named(key: ReportedKey) -> ReportedKey
     ensures { result ≡ rules.named key }

@@ -3,13 +3,13 @@ use Rattle.termwiz_bindings.specs.Presses.{canonical, with_text}
 use Rattle.termwiz_bindings.proofs.lemmas.MadePresses.{press_made, presses_made}
 use Rattle.termwiz_bindings.proofs.press.KeyPress.of_report_typing.Goals as goal
 
-pub returns-then-is_typed-clause-value : goal.returns-then-is_typed-clause-value
+pub returns-then-types_text-clause-value : goal.returns-then-types_text-clause-value
 unfolding canonical
-returns-then-is_typed-clause-value c = search rules
+returns-then-types_text-clause-value c = search rules
 
-pub returns-then-is_typed-clause-press : goal.returns-then-is_typed-clause-press
-returns-then-is_typed-clause-press c =
-    presses_made (with_text c.args.report.now c.args.text.now) c.typed_press.result (returns-then-is_typed-clause-value c)
+pub returns-then-types_text-clause-press : goal.returns-then-types_text-clause-press
+returns-then-types_text-clause-press c =
+    presses_made (with_text c.args.report.now c.args.text.now) c.typed_press.result (returns-then-types_text-clause-value c)
     (search rules)
 
 pub returns-clause-value : goal.returns-clause-value
