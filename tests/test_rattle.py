@@ -426,12 +426,21 @@ SEQUENCES = [
 @pytest.mark.parametrize("text, report", SEQUENCES)
 def test_sequences_that_are_keys(text, report):
     """The event, its key, and a clone of that."""
+    for asks in (0, 1):
+        assert answer_of("kitty", "sequence", asks, text) == "true, " + f"Key({report}), " * 3
+
+
+def test_a_sequence_that_may_be_a_position():
+    text, report = b"\033[1;5R", key_report("Function(3)", modifiers=4)
     assert answer_of("kitty", "sequence", 0, text) == "true, " + f"Key({report}), " * 3
+    position = "true, CursorPosition { row: 1, column: 5 }, "
+    assert answer_of("kitty", "sequence", 1, text) == position
 
 
-@pytest.mark.parametrize("text", [b"\033[O", b"\033[M0\x60\x70", b"\033[2D", LONG_STRING])
+@pytest.mark.parametrize("text", [b"\033[O", b"\033[M0\x60\x70", b"\033[9D", LONG_STRING])
 def test_sequences_that_are_neither_keys_nor_positions(text):
-    assert answer_of("kitty", "sequence", 0, text).startswith("false, ")
+    for asks in (0, 1):
+        assert answer_of("kitty", "sequence", asks, text).startswith("false, ")
 
 
 # The key map.

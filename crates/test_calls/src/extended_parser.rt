@@ -89,7 +89,7 @@ fn answer_bytes(
     let events = match command.name {
         "list" => listed(parser, &bytes, more)?,
         "feed" => return Ok(parser.feed(&bytes)?),
-        "sequence" => return show_sequence(alloc, &bytes, line),
+        "sequence" => return show_sequence(alloc, &bytes, command.number == 1, line),
         _ => return Err(Failure::NoSuchWord),
     };
     show_events(&events, parser.waiting_len(), line);
@@ -131,11 +131,12 @@ fn show_event(event: &ExtendedEvent, line: &mut Line) {
     line.word(", ");
 }
 
-// Appends whether a sequence is a key or the position of the cursor, its event, the event's key, and a clone of the key.
-fn show_sequence(alloc: Global, text: &[u8], line: &mut Line) -> Result<(), Failure> {
-    line.holds(meaning_of(text).is_key_or_position());
+// Appends whether a sequence is a key or the position of the cursor, its event, the event's key, and a clone of the key. `asks` says that a
+// question for the cursor's position is open.
+fn show_sequence(alloc: Global, text: &[u8], asks: bool, line: &mut Line) -> Result<(), Failure> {
+    line.holds(meaning_of(text, asks).is_key_or_position());
     line.word(", ");
-    let event = event_of(alloc, text)?;
+    let event = event_of(alloc, text, asks)?;
     show_event(&event, line);
     match event.key(alloc)? {
         Some(report) => show_report(alloc, report, line),
