@@ -1,6 +1,6 @@
 -- What a report of a key is written as, so that no row of the sequence table is like it: the form of Kitty's keyboard protocol for the key,
 -- with what happened to the key always told. From the protocol ("Comprehensive keyboard handling in terminals", "Overview").
-use Rattle.std.specs.Prelude.{ℕ, ◌+◌, ◌==◌, ◌&&◌, Bool, true, false, List, [], ◌∷◌, ◌++◌, codes, decimal, encode_utf8, Option, Some, None, option_map, if◌then◌else◌}
+use Rattle.std.specs.Prelude.{ℕ, ◌+◌, ◌==◌, ◌&&◌, Bool, true, false, not, nat_lt, List, [], ◌∷◌, ◌++◌, length, codes, decimal, encode_utf8, Option, Some, None, option_map, if◌then◌else◌}
 use Rattle.std.specs.Str.{chars}
 use Rattle.termwiz_keys.specs.Introducers.{CSI}
 use Rattle.termwiz_keys.specs.declared.types.KeyCode.TheVariants.{Char, KeyPadBegin}
@@ -9,12 +9,12 @@ use Rattle.termwiz_extended_events.specs.declared.types.KeyEventKind.{KeyEventKi
 use Rattle.termwiz_extended_events.specs.declared.types.KeyEventKind.TheVariants.{Press, Repeat, Release}
 use Rattle.termwiz_extended_events.specs.declared.types.ReportedKey.{ReportedKey}
 use Rattle.termwiz_extended_events.specs.declared.types.ReportedKey.TheVariants.{Named, Functional}
-use Rattle.termwiz_extended_events.specs.ReportedKeys.{is_functional, functional_key, key_of}
+use Rattle.termwiz_extended_events.specs.ReportedKeys.{is_functional, key_of}
 use Rattle.termwiz_kitty.specs.declared.key_forms.KeyForm.{KeyForm}
 use Rattle.termwiz_kitty.specs.declared.key_forms.KeyForm.TheVariants.{Letter, Number, Code}
 use Rattle.termwiz_kitty.specs.KeyForms.{form_of, is_character}
-use Rattle.termwiz_kitty.specs.KittyTexts.{kind_text, codes_text, characters_text}
-use Rattle.termwiz_kitty.specs.Telling.{is_press}
+use Rattle.termwiz_kitty.specs.KittyTexts.{kind_text, codes_text, characters_text, most_bytes}
+use Rattle.termwiz_kitty.specs.Telling.{is_press, is_shifted}
 
 -- the number of what happened to a key
 abbrev pub kind_number : KeyEventKind → ℕ
@@ -83,10 +83,10 @@ abbrev pub is_nameless : ReportedKey → Bool
 is_nameless (Functional n) = true
 is_nameless key = false
 
--- The key is the one that its number is read as. It isn't if a character has the number of a key with a name, or of a functional key.
+-- The key is the one that its number is read as. It isn't if a character has the number of a key with a name, of a functional key, or of none.
 unfoldable pub is_own_key : ReportedKey → Bool
 is_own_key (Named (Char c)) = is_character (key_of c)
-is_own_key (Functional n) = is_functional n && is_nameless (functional_key n)
+is_own_key (Functional n) = is_nameless (key_of n)
 is_own_key key = true
 
 -- the character, if its number is that of a functional key
@@ -98,16 +98,29 @@ private_character key = None
 unfoldable pub private_report_text : ℕ → ℕ → List ℕ
 private_report_text c bits = CSI ++ codes "27;" ++ decimal (1 + bits) ++ codes ";" ++ decimal c ++ codes "~"
 
+-- Backspace has two numbers. It is told by 127, or by 8 where the sequence would be too long.
+abbrev pub told_number : KeyReport → ℕ → ℕ
+told_number r n = if (n == 127) && nat_lt most_bytes (length (full_report_text n r)) then 8 else n
+
 -- what the report of a key is written as, if it isn't too long
 abbrev pub own_report_text : KeyReport → Option (List ℕ)
 own_report_text r =
     if says_no_more r
     then option_map (λ form. plain_report_text form r.modifiers r.kind) (form_of r.key)
-    else option_map (λ n. full_report_text n r) (own_number r.key)
+    else option_map (λ n. full_report_text (told_number r n) r) (own_number r.key)
 
--- the same of a character that has the number of a functional key: only a press is told, and nothing more of it
+-- what is read from such a text of the character that Shift made: with Shift it is c, and without Shift there is none
+abbrev pub is_shifted_as : ℕ → ℕ → Option ℕ → Bool
+is_shifted_as c bits None = not (is_shifted bits)
+is_shifted_as c bits (Some s) = is_shifted bits && (s == c)
+
+-- the report says what is read from such a text: a press, what Shift made, and nothing more
+abbrev pub says_as_xterm : KeyReport → ℕ → Bool
+says_as_xterm r c = is_shifted_as c r.modifiers r.shifted && is_missing r.base && is_empty r.text && is_press r.kind
+
+-- what the report of a character is written as that has the number of a functional key
 abbrev pub private_text : KeyReport → ℕ → Option (List ℕ)
-private_text r c = if says_no_more r && is_press r.kind then Some (private_report_text c r.modifiers) else None
+private_text r c = if says_as_xterm r c then Some (private_report_text c r.modifiers) else None
 
 abbrev pub report_text_by : KeyReport → Option ℕ → Option (List ℕ)
 report_text_by r (Some c) = private_text r c

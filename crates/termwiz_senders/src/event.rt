@@ -276,8 +276,8 @@ fn told_position(alloc: Global, row: u16, column: u16) -> Result<Option<Vec<u8>>
 /// What a terminal replies to a question for the position of its cursor: ESC `[6n`, or ESC `[?6n` for a private one. The first row and the
 /// first column are 1: a reply with a 0 is a `Csi` to a parser. Its only error is that memory was refused.
 ///
-/// The reply to a private question is read as the position by every reading. The other one is so under `Protocol::Kitty` and while a reply is
-/// expected. Under `Protocol::Legacy` it is F3 with modifiers otherwise, if the row is 1 and the column is 1 to 16.
+/// The reply to a private question is read as the position by every reading. The other one is so while a question is open. While none is, it is
+/// F3 with modifiers if the row is 1 and the column is 1 to 256.
 #[tactic(auto, unfolding(crate::specs::EventTexts::position_text))]
 pub fn encode_cursor_position(
     alloc: Global,

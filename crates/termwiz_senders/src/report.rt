@@ -1,5 +1,5 @@
 // Key reports to sequences that every reading reads as these reports.
-ghost use Rattle.std.specs.Prelude.{◌≡◌, ◌≢◌, ◌++◌, codes, ◌≤◌, ◌<◌, ℕ, List, IfOk, OnOk, Some, Err, length, is_some, option_map, string_bytes};
+ghost use Rattle.std.specs.Prelude.{◌≡◌, ◌==◌, ◌||◌, ◌≢◌, ◌++◌, codes, ◌≤◌, ◌<◌, ℕ, List, IfOk, OnOk, Some, Err, length, is_some, option_map, string_bytes};
 ghost use Rattle.std.specs.Str.{chars};
 ghost use Rattle.termwiz_extended_events.specs.ReportedKeys as keys;
 ghost use Rattle.termwiz_extended_events.specs.declared.types.ExtendedEvent.TheVariants as event;
@@ -27,6 +27,18 @@ const LAST_FUNCTIONAL: u32 = 63743;
 
 // The number of the middle key of the keypad, which is also told by a letter.
 const KEYPAD_BEGIN: u32 = 57427;
+
+// The number of a text that no key typed.
+const NO_KEY: u32 = 0;
+
+// The number of Backspace.
+const BACKSPACE: u32 = 127;
+
+// Its other number, which has fewer digits.
+const SHORT_BACKSPACE: u32 = 8;
+
+// Kitty's bit of Shift.
+const SHIFT: u8 = 1;
 
 // The number of what happened to a key.
 fn kind_number(kind: KeyEventKind) -> u8
@@ -135,20 +147,38 @@ fn push_further_fields(
     push_further(text, rest.as_str())
 }
 
-// Appends the sequence of a key of this number, with all that is said of it.
+// The sequence of a key of this number, with all that is said of it.
 #[tactic(auto, unfolding(crate::specs::ReportTexts::full_report_text))]
-fn push_full(text: &mut String, own: u32, report: &KeyReport) -> Result<(), AllocError>
-    ensures { OnOk result (string_bytes text.new ≡ string_bytes text.old ++ full_report_text own report.now) }
+fn full_text(alloc: Global, own: u32, report: &KeyReport) -> Result<String, AllocError>
+    ensures { IfOk result (λ text. string_bytes text ≡ full_report_text own report.now) }
 {
+    let mut text = String::new(alloc);
     text.push_str(CSI)?;
     let codes = Codes {
         own,
         shifted: report.shifted,
         base: report.base,
     };
-    push_codes(text, codes)?;
-    push_further_fields(text, report.modifiers, report.kind, report.text.as_str())?;
-    text.push('u')
+    push_codes(&mut text, codes)?;
+    push_further_fields(
+        &mut text,
+        report.modifiers,
+        report.kind,
+        report.text.as_str(),
+    )?;
+    text.push('u')?;
+    Ok(text)
+}
+
+// The same, in which Backspace is told by its other number where the first one makes the sequence too long.
+fn told_text(alloc: Global, own: u32, report: &KeyReport) -> Result<String, AllocError>
+    ensures { IfOk result (λ text. string_bytes text ≡ full_report_text (rules.told_number report.now own) report.now) }
+{
+    let text = full_text(alloc, own, report)?;
+    if own == BACKSPACE && text.len() > MOST_BYTES {
+        return full_text(alloc, SHORT_BACKSPACE, report);
+    }
+    Ok(text)
 }
 
 // Whether a report says no more than its key, the modifiers and what happened.
@@ -179,11 +209,11 @@ fn is_functional(number: u32) -> bool
     FIRST_FUNCTIONAL <= number && number <= LAST_FUNCTIONAL
 }
 
-// Whether a number is that of a key whose control character it is: Tab, Enter, Escape or Backspace.
+// Whether the number of a character is that of Tab, Enter, Escape or Backspace, or of a text that no key typed.
 fn is_control_key(c: char) -> bool
-    ensures { result ≡ is_some (keys.entry_at keys.control_keys c) }
+    ensures { result ≡ ((c == keys.no_key) || is_some (keys.entry_at keys.control_keys c)) }
 {
-    matches!(c, '\t' | '\r' | '\x1b' | '\x7f')
+    matches!(c, '\0' | '\x08' | '\t' | '\n' | '\r' | '\x1b' | '\x7f')
 }
 
 // Whether a character is the key that its number is read as.
@@ -193,6 +223,16 @@ fn is_own_character(c: char) -> bool
     !is_functional(u32::from(c)) && !is_control_key(c)
 }
 
+// Whether a number is read as a key without a name.
+fn is_nameless(number: u32) -> bool
+    ensures { result ≡ rules.is_nameless (keys.key_of number) }
+{
+    if number == NO_KEY {
+        return true;
+    }
+    is_functional(number) && matches!(functional_key(number), ReportedKey::Functional(_))
+}
+
 // Whether the key is the one that its number is read as.
 #[tactic(auto, unfolding(crate::specs::ReportTexts::is_own_key))]
 fn is_own_key(key: ReportedKey) -> bool
@@ -200,9 +240,7 @@ fn is_own_key(key: ReportedKey) -> bool
 {
     match key {
         ReportedKey::Named(KeyCode::Char(c)) => is_own_character(c),
-        ReportedKey::Functional(number) => {
-            is_functional(number) && matches!(functional_key(number), ReportedKey::Functional(_))
-        }
+        ReportedKey::Functional(number) => is_nameless(number),
         _ => true,
     }
 }
@@ -228,13 +266,34 @@ fn private_text(alloc: Global, c: char, modifiers: u8) -> Result<String, AllocEr
     Ok(text)
 }
 
+// Whether a report by xterm's modifyOtherKeys is read with this shifted character: with Shift the character itself, and none without it.
+fn is_shifted_as(c: char, modifiers: u8, shifted: Option<char>) -> bool
+    ensures { result ≡ rules.is_shifted_as c modifiers shifted }
+{
+    let is_shifted = modifiers & SHIFT != 0;
+    match shifted {
+        Some(shifted) => is_shifted && shifted == c,
+        None => !is_shifted,
+    }
+}
+
+// Whether a report of this character says what is read from xterm's.
+fn says_as_xterm(report: &KeyReport, c: char) -> bool
+    ensures { result ≡ rules.says_as_xterm report.now c }
+{
+    is_shifted_as(c, report.modifiers, report.shifted)
+        && report.base.is_none()
+        && report.text.as_str().is_empty()
+        && report.kind == KeyEventKind::Press
+}
+
 // The sequence of a report, however long it is. `None` if there is none.
 #[tactic(auto, unfolding(crate::specs::ReportTexts::report_text))]
 fn sequence(alloc: Global, report: &KeyReport) -> Result<Option<String>, AllocError>
     ensures { IfOk result (λ text. rules.report_text report.now ≡ option_map string_bytes text) }
 {
     if let Some(c) = private_character(report.key) {
-        if !says_no_more(report) || report.kind != KeyEventKind::Press {
+        if !says_as_xterm(report, c) {
             return Ok(None);
         }
         return Ok(Some(private_text(alloc, c, report.modifiers)?));
@@ -242,18 +301,17 @@ fn sequence(alloc: Global, report: &KeyReport) -> Result<Option<String>, AllocEr
     if !is_own_key(report.key) {
         return Ok(None);
     }
-    let mut text = String::new(alloc);
-    if says_no_more(report) {
-        let Some(form) = form_of(report.key) else {
-            return Ok(None);
-        };
-        push_plain(&mut text, form, report.modifiers, report.kind)?;
-    } else {
+    if !says_no_more(report) {
         let Some(own) = own_number(report.key) else {
             return Ok(None);
         };
-        push_full(&mut text, own, report)?;
+        return Ok(Some(told_text(alloc, own, report)?));
     }
+    let Some(form) = form_of(report.key) else {
+        return Ok(None);
+    };
+    let mut text = String::new(alloc);
+    push_plain(&mut text, form, report.modifiers, report.kind)?;
     Ok(Some(text))
 }
 

@@ -1,6 +1,6 @@
 -- A mouse report in three bytes is read back under every reading that reads X10 mouse reports.
 use Rattle.std.proofs.Common.{◌≡◌, ℕ, ◌+◌, ◌-◌, ◌≤◌, Bool, true, false, ◌&&◌, nat_lt, nat_le, List, [], ◌∷◌, length, refl, sym, ap, ◌∙◌, subst, arith, Option, Some, None}
-use Rattle.std.specs.Prelude.{◌==◌, option_and_then, if◌then◌else◌}
+use Rattle.std.specs.Prelude.{◌==◌, option_and_then, option_map, if◌then◌else◌}
 use Rattle.std.specs.List.{slice_split}
 use Rattle.std.proofs.lemmas.Bool.Decides.{nat_tests}
 use Rattle.termwiz_base.specs.Mouse.{final_press, button_of}
@@ -12,9 +12,10 @@ use Rattle.termwiz_grammar.specs.MouseReports.{mouse_event}
 use Rattle.termwiz_grammar.specs.Sequences.{Meaning, IsSequence}
 use Rattle.termwiz_extended_events.specs.Numbers.{fields, is_digits, before_end, after_start, number_within, scalar}
 use Rattle.termwiz_extended_events.specs.ReportedKeys.{entry_at, last_functional, lettered_keys}
-use Rattle.termwiz_extended_events.specs.KeyReports.{codes_of, codes_of_parts, character_of_fields, character_key, is_one_or_missing, lettered_of_fields, lettered_key, numbered_of_fields, numbered_key, other_of_fields, other_key, key_report, third_function_key, rxvt_number, rxvt_key}
+use Rattle.termwiz_extended_events.specs.KeyReports.{codes_of, codes_of_parts, character_of_fields, character_key, is_one_or_missing, lettered_of_fields, lettered_key, numbered_of_fields, numbered_key, other_of_fields, other_held, other_report, other_key, key_report, third_function_key, rxvt_number, rxvt_key}
 use Rattle.termwiz_extended_events.specs.Replies.{focus, position_of_fields, position_of, cursor_position, keyboard_flags, numbered_size, resize, reply, mouse_of_fields, urxvt_mouse, x10_mouse, mouse_report}
 use Rattle.termwiz_extended_events.specs.Meanings.{reported, event_after, event_of}
+use Rattle.termwiz_extended_grammar.specs.Readings.{is_asking}
 use Rattle.termwiz_extended_events.specs.declared.types.ExtendedEvent.TheVariants.{Input}
 use Rattle.termwiz_extended_events.specs.declared.types.Reading.{Reading}
 use Rattle.termwiz_extended_grammar.specs.Forms.IsForm.{x10_report}
@@ -145,8 +146,9 @@ module _ (b x y : ℕ) where
   no_numbered_key = behind (λ s. numbered_of_fields (fields s)) 126 (ap numbered_of_fields split.splits ∙ no_numbered split.first split.more)
 
   no_other_key : other_key text ≡ None
-  unfolding other_key
-  no_other_key = behind (λ s. other_of_fields (fields s)) 126 (ap other_of_fields split.splits ∙ no_other split.first split.more)
+  unfolding other_key other_held
+  no_other_key =
+      ap (option_map other_report) (behind (λ s. other_of_fields (fields s)) 126 (ap other_of_fields split.splits ∙ no_other split.first split.more))
 
   no_key : key_report text ≡ None
   unfolding key_report
@@ -184,15 +186,26 @@ module _ (b x y : ℕ) where
   no_urxvt = behind (λ s. mouse_of_fields (fields s)) 77 (ap mouse_of_fields split.splits ∙ no_mouse split.first split.more)
 
   -- so it is a mouse report, if the bytes are within limits
-  reported_event : (32 ≤ b) × (b ≤ 127) → 32 ≤ x → 32 ≤ y
-      → event_of (27 ∷ 91 ∷ text) ≡ Input (Mouse (mouse_event (b - 32) (x - 32) (y - 32) final_press))
+  reported_event : (asks : Bool) → (32 ≤ b) × (b ≤ 127) → 32 ≤ x → 32 ≤ y
+      → event_of asks (27 ∷ 91 ∷ text) ≡ Input (Mouse (mouse_event (b - 32) (x - 32) (y - 32) final_press))
   unfolding event_of event_after reported focus mouse_report x10_mouse
-  reported_event button f g =
-      let low : nat_le 32 b ≡ true = grind (arith, nat_tests, button.0) in
-      let high : nat_le b 127 ≡ true = grind (arith, nat_tests, button.1) in
-      let left : nat_le 32 x ≡ true = grind (arith, nat_tests) in
-      let top : nat_le 32 y ≡ true = grind (arith, nat_tests) in
-      rw (no_key, no_reply, no_third, no_rxvt, no_urxvt, low, high, left, top) refl
+  reported_event asks button f g = go asks
+    where
+      low : nat_le 32 b ≡ true
+      low = grind (arith, nat_tests, button.0)
+
+      high : nat_le b 127 ≡ true
+      high = grind (arith, nat_tests, button.1)
+
+      left : nat_le 32 x ≡ true
+      left = grind (arith, nat_tests)
+
+      top : nat_le 32 y ≡ true
+      top = grind (arith, nat_tests)
+
+      go : (asks : Bool) → event_of asks (27 ∷ 91 ∷ text) ≡ Input (Mouse (mouse_event (b - 32) (x - 32) (y - 32) final_press))
+      go true = rw (no_key, no_reply, no_third, no_rxvt, no_urxvt, low, high, left, top) refl
+      go false = rw (no_key, no_reply, no_third, no_rxvt, no_urxvt, low, high, left, top) refl
 
   -- the port doesn't read it
   no_sequence : (m : Meaning) → IsSequence (27 ∷ 91 ∷ text) m → ⊥
@@ -241,7 +254,8 @@ module _ (tracking : MouseTracking) (t : Told) where
           y_is = (omega arith, omega (arith, top));
         });
         is_free = free_from_none reading _ (no_sequence (32 + code) (32 + t.x) (32 + t.y));
-        means = sym (reported_event (32 + code) (32 + t.x) (32 + t.y) (omega arith, omega (arith, small)) (omega arith) (omega arith)
+        means = sym (reported_event (32 + code) (32 + t.x) (32 + t.y) (is_asking reading) (omega arith, omega (arith, small)) (omega arith)
+            (omega arith)
             ∙ rw (a, d, e) (ap (λ v. Input (Mouse v)) default_event));
       }
 

@@ -15,9 +15,10 @@ use Rattle.termwiz_grammar.specs.Sequences.Meaning.{Row, Report}
 use Rattle.termwiz_grammar.specs.Table.{TableRow, rows, written_out}
 use Rattle.termwiz_grammar.proofs.lemmas.mouse.OneReport.{report_plain}
 use Rattle.termwiz_extended_events.specs.Numbers.{fields}
-use Rattle.termwiz_extended_events.specs.KeyReports.{character_key, lettered_key, numbered_key, other_key, key_report, third_function_key, rxvt_key}
+use Rattle.termwiz_extended_events.specs.KeyReports.{character_key, lettered_key, numbered_key, other_held, other_key, key_report, third_function_key, rxvt_key}
 use Rattle.termwiz_extended_events.specs.Replies.{focus, cursor_position, keyboard_flags, resize, reply, mouse_of_fields, urxvt_mouse, mouse_report}
 use Rattle.termwiz_extended_events.specs.Meanings.{reported, event_after, event_of}
+use Rattle.termwiz_extended_grammar.specs.Readings.{is_asking}
 use Rattle.termwiz_extended_events.specs.declared.types.ExtendedEvent.TheVariants.{Input}
 use Rattle.termwiz_extended_events.specs.declared.types.Reading.{Reading}
 use Rattle.termwiz_extended_grammar.specs.Forms.IsForm.{control}
@@ -76,7 +77,7 @@ no_focus (x ∷ y ∷ body) = refl
 
 module _ (body : List ℕ) where
   no_key : key_report (body ++ 77 ∷ []) ≡ None
-  unfolding key_report character_key lettered_key numbered_key other_key
+  unfolding key_report character_key lettered_key numbered_key other_key other_held
   no_key =
       rw (before_other_end body 77 117 (λ e. omega arith), without_last body 77, last_byte body 77, before_other_end body 77 126 (λ e. omega arith)) refl
 
@@ -92,9 +93,10 @@ module _ (body : List ℕ) where
   unfolding rxvt_key
   no_rxvt = rw (before_other_end body 77 94 (λ e. omega arith), before_other_end body 77 64 (λ e. omega arith), before_other_end body 77 36 (λ e. omega arith)) refl
 
-  event_by_fields : (e : MouseEvent) → mouse_of_fields (fields body) ≡ Some e → event_of (written body 77) ≡ Input (Mouse e)
+  event_by_fields : (asks : Bool) (e : MouseEvent) → mouse_of_fields (fields body) ≡ Some e → event_of asks (written body 77) ≡ Input (Mouse e)
   unfolding event_of event_after reported mouse_report urxvt_mouse
-  event_by_fields e is = rw (no_focus body, no_key, no_reply, no_third, no_rxvt, before_end_here body 77, is) refl
+  event_by_fields true e is = rw (no_focus body, no_key, no_reply, no_third, no_rxvt, before_end_here body 77, is) refl
+  event_by_fields false e is = rw (no_focus body, no_key, no_reply, no_third, no_rxvt, before_end_here body 77, is) refl
 
 -- three numbers
 three_fields : (n x y : ℕ) → n < 2 ^ 16 → x < 2 ^ 16 → y < 2 ^ 16
@@ -147,7 +149,7 @@ urxvt_extra reading tracking t place =
       is_form = control (control_from body 77 a (numbers_some (32 + code) t.x t.y c) (omega arith, omega arith)
           (omega (arith, numbers_short (32 + code) t.x t.y c place.x_fits place.y_fits)));
       is_free = free_from_none reading (written body 77) (no_sequence body a (no_sign code t.x t.y c));
-      means = sym (event_by_fields body (told_event tracking t)
+      means = sym (event_by_fields body (is_asking reading) (told_event tracking t)
           (numbers_mean code t.x t.y small place.x_fits place.y_fits ∙ ap (λ e. Some e) (urxvt_event tracking t)));
     }
 
