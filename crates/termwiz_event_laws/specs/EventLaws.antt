@@ -1,12 +1,11 @@
 -- The laws of written events: what is written is read as the event, and no event that a reading emits is refused.
-use Rattle.std.specs.Prelude.{◌≡◌, ◌≢◌, ⊤, ◌⊎◌, ℕ, ◌^◌, ◌<◌, ◌≤◌, Bool, true, false, List, [], ◌∷◌, length}
+use Rattle.std.specs.Prelude.{◌≡◌, ◌≢◌, ◌↔◌, ⊤, ◌⊎◌, ℕ, ◌^◌, ◌<◌, ◌≤◌, Bool, true, false, List, [], ◌∷◌, length}
 use Rattle.std.specs.Str.{IsUtf8}
 use Rattle.std.specs.List.{AllByRecursion}
 use Rattle.termwiz_keys.specs.declared.types.InputEvent.{InputEvent}
 use Rattle.termwiz_keys.specs.declared.types.InputEvent.TheVariants as input
 use Rattle.termwiz_extended_events.specs.declared.types.ExtendedEvent.{ExtendedEvent}
 use Rattle.termwiz_extended_events.specs.declared.types.ExtendedEvent.TheVariants.{Input, Key, CursorPosition, Resize, KeyboardFlags, SideButton, Csi, StringPart, StringCut}
-use Rattle.termwiz_extended_events.specs.declared.types.Protocol.TheVariants.{Kitty}
 use Rattle.termwiz_extended_events.specs.declared.types.Reading.{Reading}
 use Rattle.termwiz_extended_grammar.specs.ExtendedGrammar.{Means, Stands}
 use Rattle.termwiz_kitty.specs.KittyLaws.{IsReport}
@@ -57,20 +56,21 @@ IsPartOrCut event = ⊥
 abbrev pub Whole : Type 0
 Whole = (reading : Reading) (event : ExtendedEvent) → Emits reading event → ¬ IsPartOrCut event → ¬ IsRefused reading event
 
--- The position may be told without a question mark, and isn't read as F3: Kitty's protocol or an open question says that it is a
--- position, or no row of the table has its bytes.
+-- The position may be told without a question mark, and isn't read as F3: an open question says that it is a position, or its row isn't 1, or its
+-- column is none of the numbers by which modifiers are told.
 abbrev pub IsToldPlainly : Reading → ℕ → ℕ → Type 0
-IsToldPlainly reading row column = (reading.protocol ≡ Kitty) ⊎ ((0 < reading.questions) ⊎ ((row ≢ 1) ⊎ (16 < column)))
+IsToldPlainly reading row column = (0 < reading.questions) ⊎ ((row ≢ 1) ⊎ (256 < column))
 
 -- the number of a row or a column
 abbrev pub IsPlace : ℕ → Type 0
 IsPlace n = (0 < n) × IsWord n
 
--- The reply to a question for the cursor's position is that position, at once: the private one always.
+-- The reply to a question for the cursor's position is that position, at once: the private one always, and the other one exactly where the
+-- position may be told so.
 abbrev pub PositionsReadBack : Type 0
 PositionsReadBack = (reading : Reading) (row column : ℕ) → IsPlace row → IsPlace column
     → IsReadAtOnce reading (CursorPosition row column) (position_text row column true)
-    × (IsToldPlainly reading row column → IsReadAtOnce reading (CursorPosition row column) (position_text row column false))
+    × (IsToldPlainly reading row column ↔ IsReadAtOnce reading (CursorPosition row column) (position_text row column false))
 
 -- A report of the colours, and a reply to the question for the terminal's attributes, are control sequences, at once.
 abbrev pub SchemesReadBack : Type 0

@@ -17,8 +17,8 @@ pub fn whole()
 {}
 
 /// A reply to a question for the cursor's position, whose rows and columns count from 1, is that position, whether or not more may come. The
-/// private one always is. The other one isn't where the sequence table has it as F3 with modifiers: under `Protocol::Legacy`, with no open question, in row 1 and
-/// the columns 1 to 16.
+/// private one always is. The other one is so exactly while a question is open, or where its row isn't 1 or its column is above 256. Elsewhere it
+/// is F3 with modifiers.
 pub fn positions_read_back()
     ensures { PositionsReadBack }
 {}

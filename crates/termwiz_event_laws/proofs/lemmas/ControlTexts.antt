@@ -5,9 +5,9 @@ use Rattle.termwiz_keymap.proofs.lemmas.lists.CommonPrefixes.{append-some, true_
 use Rattle.termwiz_grammar.specs.Sequences.{Meaning, IsSequence}
 use Rattle.termwiz_extended_events.specs.declared.types.ExtendedEvent.{ExtendedEvent}
 use Rattle.termwiz_extended_events.specs.declared.types.Reading.{Reading}
-use Rattle.termwiz_extended_events.specs.Meanings.{event_of}
 use Rattle.termwiz_extended_grammar.specs.ExtendedGrammar.{Means}
 use Rattle.termwiz_extended_grammar.specs.ExtraSequences.{IsFree}
+use Rattle.termwiz_extended_grammar.specs.Readings.{event_in}
 use Rattle.termwiz_extended_grammar.specs.Forms.{IsInner, IsControl, most_control}
 use Rattle.termwiz_extended_grammar.specs.Forms.IsForm.{control}
 use Rattle.termwiz_extended_grammar.proofs.lemmas.forms.ExtraFacts.{free_from_none}
@@ -67,7 +67,7 @@ control_from body last a is clear short = record {
 
 -- such a text that is free
 pub free_means : (reading : Reading) (body : List ℕ) (last : ℕ) (e : ExtendedEvent) (more : Bool) → AllByRecursion IsParameter body → IsEnd last
-    → IsClear body last → length (written body last) ≤ most_control → IsFree reading (written body last) → event_of (written body last) ≡ e
+    → IsClear body last → length (written body last) ≤ most_control → IsFree reading (written body last) → event_in reading (written body last) ≡ e
     → Means reading (written body last) more (e ∷ []) []
 free_means reading body last e more a is clear short free event =
     means_alone reading (written body last) more e
@@ -78,7 +78,7 @@ abbrev pub IsUnknown : List ℕ → ℕ → Type 0
 IsUnknown body last = (m : Meaning) → ¬ IsSequence (written body last) m
 
 pub control_means : (reading : Reading) (body : List ℕ) (last : ℕ) (e : ExtendedEvent) (more : Bool) → AllByRecursion IsParameter body
-    → IsEnd last → IsClear body last → length (written body last) ≤ most_control → IsUnknown body last → event_of (written body last) ≡ e
+    → IsEnd last → IsClear body last → length (written body last) ≤ most_control → IsUnknown body last → event_in reading (written body last) ≡ e
     → Means reading (written body last) more (e ∷ []) []
 control_means reading body last e more a is clear short none event =
     free_means reading body last e more a is clear short (free_from_none reading (written body last) none) event

@@ -93,7 +93,7 @@ module _ (reading : Reading) (c : ℕ) (u : List ℕ) (encoded : u ≡ encode_ut
   character_stands left f event (extra text rest d is split) e all =
       absurd (no_input_key text (plain c) (subst (FromForm text) e (extra_event reading text d is)))
   character_stands left f event (alt_key text rest d is bare split) e all =
-      absurd (let r = alt_report text d is.means bare.is_key in let other : Report r.0 ≡ Input (Key (plain c)) = sym r.1 ∙ e in cc (other))
+      absurd (let r = alt_report reading text d is.means bare.is_key in let other : Report r.0 ≡ Input (Key (plain c)) = sym r.1 ∙ e in cc (other))
   character_stands left f event (lone rest split starts) e all = absurd (not_escape c (cc (e)))
   character_stands left f event (string kind head bytes after rest d is comes) e all =
       absurd (subst IsOfString e (comes_of_string kind head bytes after rest f d comes))
@@ -243,7 +243,7 @@ of_stands : (reading : Reading) (u left : List ℕ) (f : Bool) (event : Extended
 of_stands reading u left f event k (extra text rest d is split) e refused =
     no_input_key text k (subst (FromForm text) e (extra_event reading text d is))
 of_stands reading u left f event k (alt_key text rest d is bare split) e refused =
-    (let r = alt_report text d is.means bare.is_key in let other : Report r.0 ≡ Input (Key k) = sym r.1 ∙ e in cc (other))
+    (let r = alt_report reading text d is.means bare.is_key in let other : Report r.0 ≡ Input (Key k) = sym r.1 ∙ e in cc (other))
 of_stands reading u left f event k (lone rest split starts) e refused =
     let same : k ≡ escape = cc (e) in escape_refused reading (subst (λ i. (b : List ℕ) → ¬ IsKeyText reading i b) same refused)
 of_stands reading u left f event k (string kind head bytes after rest d is comes) e refused =

@@ -30,7 +30,7 @@ unfolding modifiers_of
 modifiers_some [] h = absurd (omega arith)
 modifiers_some (d ∷ ds) h = refl
 
-modifiers_back : (bits : ℕ) → bits < 256 → modifiers_of (decimal (1 + bits)) ≡ Some bits
+pub modifiers_back : (bits : ℕ) → bits < 256 → modifiers_of (decimal (1 + bits)) ≡ Some bits
 modifiers_back bits h =
     let same : (1 + bits) - 1 ≡ bits = omega arith in
     modifiers_some (decimal (1 + bits)) (decimal_small (1 + bits) (omega arith)).some

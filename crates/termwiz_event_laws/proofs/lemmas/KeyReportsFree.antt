@@ -15,6 +15,7 @@ use Rattle.termwiz_extended_events.specs.declared.types.Reading.{Reading}
 use Rattle.termwiz_extended_events.specs.KeyReports.{key_report}
 use Rattle.termwiz_extended_grammar.specs.Forms.IsForm.{control}
 use Rattle.termwiz_extended_grammar.specs.ExtendedGrammar.{Means}
+use Rattle.termwiz_extended_grammar.specs.Readings.{is_asking}
 use Rattle.termwiz_extended_grammar.proofs.lemmas.forms.ExtraFacts.{free_from_none}
 use Rattle.termwiz_kitty.proofs.lemmas.read_back.SequenceForms.{IsParameter, IsKeyEnd, written, is_control}
 use Rattle.termwiz_kitty.proofs.lemmas.read_back.SequencesMean.{means_alone}
@@ -71,7 +72,7 @@ pub odd_means : (reading : Reading) (body : List ℕ) (l : ℕ) (r : KeyReport) 
 odd_means reading body l r more a end gained lost short odd e = means_alone reading (written body l) more (Key r) (record {
   is_form = control (is_control body l a end short);
   is_free = free_from_none reading (written body l) (no_sequence body l a end odd);
-  means = sym (event_back body l r gained lost e);
+  means = sym (event_back (is_asking reading) body l r gained lost e);
 })
 
 -- what is odd

@@ -8,16 +8,13 @@ use Rattle.std.proofs.lemmas.Bool.{and_parts, and_from}
 use Rattle.std.proofs.lemmas.Bool.Decides.{nat_tests}
 use Rattle.termwiz_keys.specs.declared.types.KeyCode.TheVariants.{Char}
 use Rattle.termwiz_grammar.specs.MouseReports.{IsDigit}
-use Rattle.termwiz_grammar.specs.Table.{key_of_code}
-use Rattle.termwiz_extended_events.specs.declared.types.KeyReport.{KeyReport}
 use Rattle.termwiz_extended_events.specs.declared.types.KeyEventKind.{KeyEventKind}
-use Rattle.termwiz_extended_events.specs.declared.types.KeyEventKind.TheVariants.{Press}
 use Rattle.termwiz_extended_events.specs.declared.types.ReportedKey.TheVariants.{Named}
 use Rattle.termwiz_extended_events.specs.declared.types.ExtendedEvent.TheVariants.{Key}
 use Rattle.termwiz_extended_events.specs.declared.types.Reading.{Reading}
 use Rattle.termwiz_extended_events.specs.Numbers.{fields, number_within, is_scalar}
 use Rattle.termwiz_extended_events.specs.ReportedKeys.{is_functional, tilde_key}
-use Rattle.termwiz_extended_events.specs.KeyReports.{report_of, character_key, lettered_key, numbered_key, other_key, key_report}
+use Rattle.termwiz_extended_events.specs.KeyReports.{character_key, lettered_key, numbered_key, other_code, other_held, other_key, key_report}
 use Rattle.termwiz_extended_grammar.specs.ExtendedGrammar.{Means}
 use Rattle.termwiz_extended_grammar.proofs.lemmas.forms.FormBytes.{all_append}
 use Rattle.termwiz_kitty.specs.KittyTexts.{codes_text, characters_text}
@@ -31,6 +28,7 @@ use Rattle.termwiz_event_laws.proofs.lemmas.KeyReportsNumbers.{below_power}
 use Rattle.termwiz_event_laws.proofs.lemmas.KeyReportsFree.{has_colon, is_odd, colon_within, colon_before, colon_is_odd, fields_are_odd, long_is_odd, odd_means}
 use Rattle.termwiz_event_laws.proofs.lemmas.KeyReportsBack.{digit_bytes, short_bytes, further_left_out, further_none, further_some, character_back}
 use Rattle.termwiz_event_laws.proofs.lemmas.KeyReportsPlainBack.{field_parameters, semicolon_parameter}
+use Rattle.termwiz_event_laws.proofs.lemmas.KeyReportsRules.{private_report, private_shifted}
 
 -- other characters, or a text
 
@@ -124,21 +122,27 @@ numbers_behind bits c = decimal (1 + bits) ++ 59 ∷ [] ++ decimal c
 abbrev private_body : ℕ → ℕ → List ℕ
 private_body bits c = 50 ∷ 55 ∷ 59 ∷ numbers_behind bits c
 
-abbrev private_report : ℕ → ℕ → KeyReport
-private_report c bits = report_of (Named (Char c)) (record { modifiers = bits; kind = Press })
+module _ (c bits : ℕ) (scalar : is_scalar c ≡ true) (inside : is_functional c ≡ true) (h : bits < 256) where
+  range : (nat_le 57344 c ≡ true) × (nat_le c 63743 ≡ true)
+  range = and_parts (nat_le 57344 c) (nat_le c 63743) inside
 
-module _ (c bits : ℕ) (scalar : is_scalar c ≡ true) (high : 57344 ≤ c) (small : c < 2000000) (h : bits < 256) where
+  high : 57344 ≤ c
+  high = let above : nat_le 57344 c ≡ true = range.0 in grind (arith, nat_tests)
+
+  small : c < 2000000
+  small = let below : nat_le c 63743 ≡ true = range.1 in grind (arith, nat_tests)
+
   split : fields (numbers_behind bits c) ≡ decimal (1 + bits) ∷ decimal c ∷ []
   split =
       ap fields (append_assoc (decimal (1 + bits)) (59 ∷ []) (decimal c))
       ∙ more_fields (decimal (1 + bits)) (decimal c) (digit_bytes (1 + bits) (omega arith))
       ∙ ap (λ z. decimal (1 + bits) ∷ z) (one_field (decimal c) (digit_bytes c small))
 
-  own : key_of_code c ≡ Char c
-  own = grind (arith, nat_tests)
+  own : other_code c ≡ Named (Char c)
+  own = let from : 57344 ≤ c = high in grind (arith, nat_tests)
 
   by_code : other_key (private_body bits c ++ 126 ∷ []) ≡ Some (private_report c bits)
-  unfolding other_key
+  unfolding other_key other_held
   by_code =
       let same : (1 + bits) - 1 ≡ bits = omega arith in
       rw (
@@ -148,6 +152,7 @@ module _ (c bits : ℕ) (scalar : is_scalar c ≡ true) (high : 57344 ≤ c) (sm
         scalar_decimal c scalar,
         own,
         same,
+        private_shifted c bits inside,
       ) refl
 
   not_character : character_key (private_body bits c ++ 126 ∷ []) ≡ None
@@ -200,12 +205,6 @@ module _ (c bits : ℕ) (scalar : is_scalar c ≡ true) (high : 57344 ≤ c) (sm
 
 pub private_means : (reading : Reading) (c bits : ℕ) (more : Bool) → is_scalar c ≡ true → is_functional c ≡ true → bits < 256
     → length (private_report_text c bits) ≤ 256
-    → Means reading (private_report_text c bits) more (Key (report_of (Named (Char c)) (record { modifiers = bits; kind = Press })) ∷ []) []
+    → Means reading (private_report_text c bits) more (Key (private_report c bits) ∷ []) []
 unfolding private_report_text
-private_means reading c bits more scalar inside h short =
-    let both = and_parts (nat_le 57344 c) (nat_le c 63743) inside in
-    let above : nat_le 57344 c ≡ true = both.0 in
-    let below : nat_le c 63743 ≡ true = both.1 in
-    let high : 57344 ≤ c = grind (arith, nat_tests) in
-    let small : c < 2000000 = grind (arith, nat_tests) in
-    private_written_means c bits scalar high small h reading more short
+private_means reading c bits more scalar inside h short = private_written_means c bits scalar inside h reading more short

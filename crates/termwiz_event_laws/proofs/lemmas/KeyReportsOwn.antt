@@ -1,24 +1,23 @@
 -- A key that is its own is the one that its number or its form is read as.
 use Rattle.std.proofs.Common.{◌≡◌, ℕ, true, refl, subst, Option, Some, None}
-use Rattle.std.proofs.lemmas.Bool.{and_parts}
 use Rattle.termwiz_keys.specs.declared.types.KeyCode.TheVariants.{Char, KeyPadBegin}
 use Rattle.termwiz_extended_events.specs.declared.types.ReportedKey.{ReportedKey}
 use Rattle.termwiz_extended_events.specs.declared.types.ReportedKey.TheVariants.{Named, Functional}
 use Rattle.termwiz_extended_events.specs.Numbers.{is_scalar}
-use Rattle.termwiz_extended_events.specs.ReportedKeys.{is_functional, functional_key, key_of}
+use Rattle.termwiz_extended_events.specs.ReportedKeys.{functional_key, key_of}
 use Rattle.termwiz_kitty.specs.declared.key_forms.KeyForm.{KeyForm}
 use Rattle.termwiz_kitty.specs.declared.key_forms.KeyForm.TheVariants.{Letter, Number, Code}
 use Rattle.termwiz_kitty.specs.KeyForms.{form_of, normal_key}
 use Rattle.termwiz_kitty.specs.KittyLaws.{IsKey}
 use Rattle.termwiz_kitty.proofs.lemmas.read_back.KeysOfForms.{Reads, form_reads}
-use Rattle.termwiz_senders.specs.ReportTexts.{number_of_form, own_number, is_nameless, is_own_key}
-use Rattle.termwiz_senders.proofs.lemmas.OwnKeys.{nameless_is, character_is}
+use Rattle.termwiz_senders.specs.ReportTexts.{number_of_form, own_number, is_own_key}
+use Rattle.termwiz_senders.proofs.lemmas.OwnKeys.{nameless_of, character_is}
 
 pub own_is_normal : (key : ReportedKey) → is_own_key key ≡ true → normal_key key ≡ key
 unfolding is_own_key normal_key
 own_is_normal (Named (Char c)) e = character_is c e
 own_is_normal (Named key) e = refl
-own_is_normal (Functional n) e = nameless_is n (and_parts (is_functional n) (is_nameless (functional_key n)) e).1
+own_is_normal (Functional n) e = nameless_of n e
 
 -- the number of a key is read as that key
 abbrev IsReadAs : ℕ → ReportedKey → Type 0

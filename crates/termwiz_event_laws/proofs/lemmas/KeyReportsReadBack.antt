@@ -1,8 +1,9 @@
 -- What is written for a key report is that report, under every reading and whether or not more may come.
-use Rattle.std.proofs.Common.{◌≡◌, ℕ, ◌≤◌, Bool, true, false, ◌&&◌, List, [], ◌∷◌, ◌++◌, length, refl, sym, ap, ap₂, ◌∙◌, subst, Option, Some, None}
-use Rattle.std.specs.Prelude.{option_map, encode_utf8_all}
+use Rattle.std.proofs.Common.{◌≡◌, ℕ, ◌≤◌, Bool, true, false, not, ◌&&◌, nat_lt, arith, List, [], ◌∷◌, ◌++◌, length, refl, sym, ap, ap₂, ◌∙◌, subst, Option, Some, None}
+use Rattle.std.specs.Prelude.{◌==◌, if◌then◌else◌, option_map, encode_utf8_all}
 use Rattle.std.specs.Str.{chars, all_scalars}
 use Rattle.std.proofs.lemmas.Bool.{and_parts}
+use Rattle.std.proofs.lemmas.Bool.Decides.{nat_tests}
 use Rattle.std.proofs.lemmas.Option.{cond_some}
 use Rattle.std.proofs.lemmas.Str.{encodes-chars, scalars-chars}
 use Rattle.termwiz_keys.specs.declared.types.KeyCode.TheVariants.{Char}
@@ -14,10 +15,11 @@ use Rattle.termwiz_extended_events.specs.declared.types.ReportedKey.TheVariants.
 use Rattle.termwiz_extended_events.specs.declared.types.ExtendedEvent.TheVariants.{Key}
 use Rattle.termwiz_extended_events.specs.declared.types.Reading.{Reading}
 use Rattle.termwiz_extended_events.specs.ReportedKeys.{is_functional, key_of}
+use Rattle.termwiz_extended_events.specs.Numbers.{is_scalar}
 use Rattle.termwiz_extended_grammar.specs.ExtendedGrammar.{Means}
 use Rattle.termwiz_kitty.specs.declared.key_forms.KeyForm.{KeyForm}
 use Rattle.termwiz_kitty.specs.KeyForms.{form_of, normal_key}
-use Rattle.termwiz_kitty.specs.Telling.{is_press}
+use Rattle.termwiz_kitty.specs.Telling.{is_press, is_shifted}
 use Rattle.termwiz_kitty.specs.KittyTexts.{codes_text, most_bytes}
 use Rattle.termwiz_kitty.specs.KittyLaws.{IsKey, IsScalarOrMissing, IsReport}
 use Rattle.termwiz_kitty.proofs.lemmas.read_back.WrittenFields.{IsCharacterOrMissing, AreCharacters}
@@ -25,9 +27,9 @@ use Rattle.termwiz_kitty.proofs.lemmas.read_back.WrittenReports.{built, bare}
 use Rattle.termwiz_kitty.proofs.lemmas.read_back.KeysOfForms.{Reads, form_reads, scalar_is}
 use Rattle.termwiz_kitty.proofs.lemmas.read_back.SequenceForms.{written}
 use Rattle.termwiz_senders.specs.EventTexts.{IsEventText}
-use Rattle.termwiz_senders.specs.ReportTexts.{is_missing, is_empty, says_no_more, plain_report_text, further_fields, full_report_text, own_number, is_own_key, private_character, private_report_text, own_report_text, report_text_by, report_text}
+use Rattle.termwiz_senders.specs.ReportTexts.{is_missing, is_empty, says_no_more, plain_report_text, further_fields, full_report_text, own_number, is_own_key, private_character, private_report_text, told_number, is_shifted_as, says_as_xterm, own_report_text, report_text_by, report_text}
 use Rattle.termwiz_event_laws.proofs.lemmas.KeyReportsWritten.{missing}
-use Rattle.termwiz_event_laws.proofs.lemmas.KeyReportsRules.{if_some}
+use Rattle.termwiz_event_laws.proofs.lemmas.KeyReportsRules.{if_some, private_report}
 use Rattle.termwiz_event_laws.proofs.lemmas.KeyReportsOwn.{own_is_normal, number_is_read}
 use Rattle.termwiz_event_laws.proofs.lemmas.KeyReportsPlainBack.{plain_means}
 use Rattle.termwiz_event_laws.proofs.lemmas.KeyReportsFullBack.{full_means, private_means}
@@ -71,6 +73,42 @@ and_more : (a : Bool) (t : List ℕ) → (a && is_empty t) ≡ false → [] ≡ 
 and_more false t e none = refl
 and_more true t e none = absurd (let no : is_empty t ≡ true = ap is_empty (sym none) in cc (no, e))
 
+-- Backspace is read from either of its numbers
+told_is_read : (r : KeyReport) (n : ℕ) → is_scalar n ≡ true → (key_of (told_number r n) ≡ key_of n) × (is_scalar (told_number r n) ≡ true)
+unfolding key_of
+told_is_read r n scalar = go ((n == 127) && nat_lt most_bytes (length (full_report_text n r))) refl
+  where
+    go : (b : Bool) → ((n == 127) && nat_lt most_bytes (length (full_report_text n r))) ≡ b
+        → (key_of (told_number r n) ≡ key_of n) × (is_scalar (told_number r n) ≡ true)
+    go true e =
+        let backspace : (n == 127) ≡ true = (and_parts (n == 127) (nat_lt most_bytes (length (full_report_text n r))) e).0 in
+        let same : n ≡ 127 = grind (arith, nat_tests) in
+        let both : key_of 8 ≡ key_of n = subst (λ m. key_of 8 ≡ key_of m) (sym same) refl in
+        rw e (both, refl)
+    go false e = rw e (refl, scalar)
+
+-- what a report that tells so of Shift tells
+shifted_is : (c bits : ℕ) (o : Option ℕ) → is_shifted_as c bits o ≡ true → (if is_shifted bits then Some c else None) ≡ o
+shifted_is c bits o e = go (is_shifted bits) refl o e
+  where
+    go : (b : Bool) → is_shifted bits ≡ b → (o : Option ℕ) → is_shifted_as c bits o ≡ true → (if is_shifted bits then Some c else None) ≡ o
+    go true held (Some s) e =
+        let both = and_parts (is_shifted bits) (s == c) e in
+        let test : (s == c) ≡ true = both.1 in
+        let same : c ≡ s = grind (arith, nat_tests) in rw held (ap (λ x. Some x) same)
+    go true held None e = absurd (let no : not true ≡ true = ap not (sym held) ∙ e in cc (no))
+    go false held (Some s) e =
+        let first : is_shifted bits ≡ true = (and_parts (is_shifted bits) (s == c) e).0 in absurd (cc (first, held))
+    go false held None e = rw held refl
+
+as_xterm_is : (r : KeyReport) (c : ℕ) → r.key ≡ Named (Char c) → says_as_xterm r c ≡ true → private_report c r.modifiers ≡ r
+as_xterm_is r c key says =
+    let a = and_parts (is_shifted_as c r.modifiers r.shifted && is_missing r.base && is_empty r.text) (is_press r.kind) says in
+    let b = and_parts (is_shifted_as c r.modifiers r.shifted && is_missing r.base) (is_empty r.text) a.0 in
+    let d = and_parts (is_shifted_as c r.modifiers r.shifted) (is_missing r.base) b.0 in
+    same_parts (Named (Char c)) r.key r.modifiers Press r.kind (if is_shifted r.modifiers then Some c else None) r.shifted None r.base [] r.text
+    (sym key) (press r.kind a.1) (shifted_is c r.modifiers r.shifted d.0) (sym (missing r.base d.1)) (empty r.text b.1)
+
 module _ (reading : Reading) (r : KeyReport) (more : Bool) (is : IsReport r) where
   -- no more than the key, the modifiers and what happened
   plain_back : (form : KeyForm) → is_own_key r.key ≡ true → says_no_more r ≡ true → form_of r.key ≡ Some form
@@ -84,28 +122,30 @@ module _ (reading : Reading) (r : KeyReport) (more : Bool) (is : IsReport r) whe
 
   -- more than that
   full_back : (own : ℕ) → is_own_key r.key ≡ true → says_no_more r ≡ false → own_number r.key ≡ Some own
-      → length (full_report_text own r) ≤ most_bytes → Means reading (full_report_text own r) more (Key r ∷ []) []
+      → length (full_report_text (told_number r own) r) ≤ most_bytes → Means reading (full_report_text (told_number r own) r) more (Key r ∷ []) []
   unfolding full_report_text
   full_back own its says e short =
       let number = number_is_read r.key own is.key_is e in
-      let key : key_of own ≡ r.key = number.0 ∙ own_is_normal r.key its in
+      let told = told_is_read r own number.1 in
+      let key : key_of (told_number r own) ≡ r.key = told.0 ∙ number.0 ∙ own_is_normal r.key its in
       let text = encodes-chars r.text is.text_is in
-      subst (λ q. Means reading (written (codes_text own r.shifted r.base ++ further_fields r.modifiers r.kind (chars r.text)) 117) more
-      (Key q ∷ []) [])
-      (same_parts (key_of own) r.key r.modifiers r.kind r.kind r.shifted r.shifted r.base r.base (encode_utf8_all (chars r.text)) r.text
-      key refl refl refl text)
-      (full_means reading own r.shifted r.base r.modifiers r.kind (chars r.text) more number.1 (scalar_or_missing r.shifted is.shifted_is)
-      (scalar_or_missing r.base is.base_is) is.fits (characters_from (chars r.text) (scalars-chars r.text is.text_is))
+      subst (λ q. Means reading (written (codes_text (told_number r own) r.shifted r.base ++ further_fields r.modifiers r.kind (chars r.text)) 117)
+      more (Key q ∷ []) [])
+      (same_parts (key_of (told_number r own)) r.key r.modifiers r.kind r.kind r.shifted r.shifted r.base r.base
+      (encode_utf8_all (chars r.text)) r.text key refl refl refl text)
+      (full_means reading (told_number r own) r.shifted r.base r.modifiers r.kind (chars r.text) more told.1
+      (scalar_or_missing r.shifted is.shifted_is) (scalar_or_missing r.base is.base_is) is.fits
+      (characters_from (chars r.text) (scalars-chars r.text is.text_is))
       (λ none. and_more (is_missing r.shifted && is_missing r.base) r.text says (ap encode_utf8_all (sym none) ∙ text)) short)
 
   -- a private character
-  private_back : (c : ℕ) → r.key ≡ Named (Char c) → is_functional c ≡ true → says_no_more r ≡ true → is_press r.kind ≡ true
+  private_back : (c : ℕ) → r.key ≡ Named (Char c) → is_functional c ≡ true → says_as_xterm r c ≡ true
       → length (private_report_text c r.modifiers) ≤ most_bytes
       → Means reading (private_report_text c r.modifiers) more (Key r ∷ []) []
-  private_back c key inside none pressed short =
+  private_back c key inside says short =
       let character : IsKey (Named (Char c)) = subst IsKey key is.key_is in
       subst (λ q. Means reading (private_report_text c r.modifiers) more (Key q ∷ []) [])
-      (bare_is r (Named (Char c)) Press (sym key) (press r.kind pressed) none)
+      (as_xterm_is r c key says)
       (private_means reading c r.modifiers more (scalar_is c character) inside is.fits short)
 
 private_is : (key : ReportedKey) (c : ℕ) → private_character key ≡ Some c → (key ≡ Named (Char c)) × (is_functional c ≡ true)
@@ -137,19 +177,18 @@ key_read_back reading r bytes more is writes short = by_private (private_charact
         let found = map_some (λ form. plain_report_text form r.modifiers r.kind) (form_of r.key) bytes plain in
         these (plain_report_text found.0 r.modifiers r.kind) found.2 (λ fits. plain_back reading r more is found.0 own none found.1 fits)
     by_says false own says e =
-        let full : option_map (λ n. full_report_text n r) (own_number r.key) ≡ Some bytes = rw says at e in
-        let found = map_some (λ n. full_report_text n r) (own_number r.key) bytes full in
-        these (full_report_text found.0 r) found.2 (λ fits. full_back reading r more is found.0 own says found.1 fits)
+        let full : option_map (λ n. full_report_text (told_number r n) r) (own_number r.key) ≡ Some bytes = rw says at e in
+        let found = map_some (λ n. full_report_text (told_number r n) r) (own_number r.key) bytes full in
+        these (full_report_text (told_number r found.0) r) found.2 (λ fits. full_back reading r more is found.0 own says found.1 fits)
 
     by_private : (o : Option ℕ) → private_character r.key ≡ o → Means reading bytes more (Key r ∷ []) []
     by_private None e =
         let both = if_some (is_own_key r.key) (own_report_text r) bytes (text_by r None e ∙ writes) in
         by_says (says_no_more r) both.0 refl both.1
     by_private (Some c) e =
-        let both = cond_some (says_no_more r && is_press r.kind) (private_report_text c r.modifiers) bytes (text_by r (Some c) e ∙ writes) in
-        let tests = and_parts (says_no_more r) (is_press r.kind) both.0 in
+        let both = cond_some (says_as_xterm r c) (private_report_text c r.modifiers) bytes (text_by r (Some c) e ∙ writes) in
         let key = private_is r.key c e in
-        these (private_report_text c r.modifiers) both.1 (λ fits. private_back reading r more is c key.0 key.1 tests.0 tests.1 fits)
+        these (private_report_text c r.modifiers) both.1 (λ fits. private_back reading r more is c key.0 key.1 both.0 fits)
 
 -- the same of the text of the event
 pub key_text_read_back : (reading : Reading) (r : KeyReport) (bytes : List ℕ) (more : Bool) → IsReport r → IsEventText reading (Key r) bytes

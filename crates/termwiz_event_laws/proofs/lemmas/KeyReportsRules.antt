@@ -1,25 +1,31 @@
 -- A key report of any other rule says no more than a key, its modifiers and what happened; or it is xterm's of a private character.
-use Rattle.std.proofs.Common.{◌≡◌, ◌⊎◌, inl, inr, ℕ, ◌-◌, ◌<◌, ◌≤◌, Bool, true, false, ◌==◌, ◌&&◌, List, [], ◌∷◌, length, take, refl, subst, arith, nat_le, Option, Some, None}
+use Rattle.std.proofs.Common.{◌≡◌, inl, inr, ℕ, ◌-◌, ◌<◌, ◌≤◌, Bool, true, false, ◌==◌, ◌&&◌, ◌||◌, List, [], ◌∷◌, ◌++◌, length, length-append, take, refl, subst, arith, nat_le, Option, Some, None, bit_or, decimal}
+use Rattle.std.proofs.lemmas.Nat.{or_of_8}
 use Rattle.std.specs.Prelude.{codes, slice_get, option_map, option_and_then, bytes_eq, if◌then◌else◌}
 use Rattle.std.specs.List.{list_all}
 use Rattle.std.proofs.lemmas.Bool.{and_parts}
 use Rattle.std.proofs.lemmas.Bool.Decides.{nat_tests}
 use Rattle.std.proofs.lemmas.Option.{option_and_then_some}
 use Rattle.termwiz_keys.specs.declared.types.KeyCode.{KeyCode}
-use Rattle.termwiz_keys.specs.declared.types.KeyCode.TheVariants.{Char, Function}
-use Rattle.termwiz_grammar.specs.Table.{key_of_code}
+use Rattle.termwiz_keys.specs.declared.types.KeyCode.TheVariants.{Char, Function, KeyPadBegin, Tab}
 use Rattle.termwiz_extended_events.specs.declared.types.KeyReport.{KeyReport}
 use Rattle.termwiz_extended_events.specs.declared.types.KeyEventKind.TheVariants.{Press}
 use Rattle.termwiz_extended_events.specs.declared.types.Manner.{Manner}
 use Rattle.termwiz_extended_events.specs.declared.types.ReportedKey.{ReportedKey}
 use Rattle.termwiz_extended_events.specs.declared.types.ReportedKey.TheVariants.{Named}
-use Rattle.termwiz_extended_events.specs.Numbers.{before_end, fields, number, scalar}
-use Rattle.termwiz_extended_events.specs.ReportedKeys.{entry_at, is_functional, last_functional, functional_key, lettered_keys, tilde_key, rxvt_key_at, console_keys, keypad_keys, modified_keypad_keys}
-use Rattle.termwiz_extended_events.specs.KeyReports.{manner_of, pressed, report_of, report_behind, is_one_or_missing, lettered_of_fields, last_letter, lettered_key, numbered_of_fields, numbered_key, other_report, other_of_fields, other_key, third_function_key, rxvt_number, rxvt_report, rxvt_key, console_key, keypad_key, modified_report, modified_keypad_key}
+use Rattle.termwiz_extended_events.specs.Numbers.{before_end, fields, number, is_scalar, scalar}
+use Rattle.termwiz_extended_events.specs.ReportedKeys.{entry_at, is_functional, last_functional, functional_key, key_of, lettered_keys, tilde_key, rxvt_key_at, console_keys, keypad_keys, modified_keypad_keys}
+use Rattle.termwiz_extended_events.specs.KeyReports.{manner_of, pressed, report_of, report_behind, is_one_or_missing, lettered_of_fields, last_letter, lettered_key, numbered_of_fields, numbered_key, other_pair, other_of_fields, other_held, other_code, is_shifted_by, other_report, other_key, third_function_key, shifted_tab, back_tab_of_fields, back_tab, cursor_letter, short_key, middle_key, further_key, rxvt_number, rxvt_report, rxvt_key, console_key, keypad_key, modified_report, is_function_letter, modified_keypad_key}
 use Rattle.termwiz_kitty.specs.KeyForms.{named_form}
+use Rattle.termwiz_kitty.specs.KittyTexts.{codes_text}
+use Rattle.termwiz_kitty.specs.Telling.{is_shifted}
+use Rattle.termwiz_kitty.proofs.lemmas.read_back.Decimals.{scalar_small}
 use Rattle.termwiz_senders.specs.ReportTexts.{is_own_key, private_character, says_no_more}
-use Rattle.termwiz_event_laws.proofs.lemmas.KeyReportsNumbers.{number_parts, scalar_parts}
-use Rattle.termwiz_event_laws.proofs.lemmas.KeyReportsKeys.{is_plain_key, tilde_plain, rxvt_plain, other_key_is}
+use Rattle.termwiz_event_laws.proofs.lemmas.KeyReportsNumbers.{at_most_seven, number_parts, scalar_parts}
+use Rattle.termwiz_event_laws.proofs.lemmas.KeyReportsKeys.{is_plain_key, tilde_plain, rxvt_plain, IsPrivateKey, IsTypedKey, IsOther, other_key_is, functional_no_control}
+use Rattle.termwiz_event_laws.proofs.lemmas.KeyReportsTexts.{no_characters}
+use Rattle.termwiz_event_laws.proofs.lemmas.KeyReportsWritten.{IsFromCharacter}
+use Rattle.termwiz_event_laws.proofs.lemmas.UnreadEnds.{and_false}
 use Rattle.termwiz_event_laws.proofs.lemmas.KeyReportsParts.{manner_parts}
 use Rattle.termwiz_event_laws.proofs.lemmas.SomeOptions.{map_some, IsAmong, among}
 use Rattle.termwiz_senders.proofs.lemmas.TableEntries.{entry_passes}
@@ -30,11 +36,21 @@ pub record IsPlain (r : KeyReport) : Type 0 where
   pub none : says_no_more r ≡ true
   pub fits : r.modifiers < 256
 
--- the press of a character that has the number of a functional key
+-- the press of a character that has the number of a functional key, which tells with Shift what Shift made
+abbrev pub private_report : ℕ → ℕ → KeyReport
+private_report c bits = record {
+  key = Named (Char c);
+  modifiers = bits;
+  kind = Press;
+  shifted = if is_shifted bits then Some c else None;
+  base = None;
+  text = [];
+}
+
 pub record IsPrivate (r : KeyReport) : Type 0 where
   pub character : ℕ
   pub bits : ℕ
-  pub is : report_of (Named (Char character)) (record { modifiers = bits; kind = Press }) ≡ r
+  pub is : private_report character bits ≡ r
   pub functional : is_functional character ≡ true
   pub fits : bits < 256
 
@@ -106,39 +122,92 @@ numbered_plain t r e = option_and_then_some (λ body. numbered_of_fields (fields
 
 -- as xterm's modifyOtherKeys
 
-other_whole : (m c : Option ℕ) (r : KeyReport) → other_report m c ≡ Some r
-    → (a b : ℕ) × (m ≡ Some a) × (c ≡ Some b) × (report_of (Named (key_of_code b)) (record { modifiers = a - 1; kind = Press }) ≡ r)
-other_whole (Some a) (Some b) r e = (a, b, refl, refl, cc (e))
-other_whole None c r e = absurd (cc (e))
-other_whole (Some a) None r e = absurd (cc (e))
+-- what both numbers are
+record IsHeld (held : ℕ × ℕ) : Type 0 where
+  fits : held.0 < 256
+  is : is_scalar held.1 ≡ true
 
-other_fields : (fs : List (List ℕ)) (r : KeyReport) → other_of_fields fs ≡ Some r → IsPlain r ⊎ IsPrivate r
-other_fields [] r e = absurd (cc (e))
-other_fields (a ∷ []) r e = absurd (cc (e))
-other_fields (a ∷ b ∷ []) r e = absurd (cc (e))
-other_fields (front ∷ m ∷ c ∷ []) r e =
-    let read = (if_some (bytes_eq front (codes "27")) (other_report (number 1 256 m) (scalar c)) r e).1 in
-    let whole = other_whole (number 1 256 m) (scalar c) r read in
-    let bits = number_parts 7 1 256 m whole.0 whole.2 in
-    go whole.0 whole.1 (omega (arith, bits.low, bits.high)) whole.4 (other_key_is whole.1 (scalar_parts c whole.1 whole.3).is)
+pair_parts : (m c : List ℕ) (held : ℕ × ℕ) → other_pair (number 1 256 m) (scalar c) ≡ Some held → IsHeld held
+pair_parts m c held e = go (number 1 256 m) (scalar c) refl refl e
   where
-    go : (a b : ℕ) → a - 1 < 256 → report_of (Named (key_of_code b)) (record { modifiers = a - 1; kind = Press }) ≡ r
-        → (is_plain_key (Named (key_of_code b)) ≡ true) ⊎ ((key_of_code b ≡ Char b) × (is_functional b ≡ true)) → IsPlain r ⊎ IsPrivate r
-    go a b fits is (inl plain) = inl (built (Named (key_of_code b)) (record { modifiers = a - 1; kind = Press }) r plain fits is)
-    go a b fits is (inr (same, inside)) = inr (record {
-      character = b;
-      bits = a - 1;
-      is = subst (λ k. report_of (Named k) (record { modifiers = a - 1; kind = Press }) ≡ r) same is;
-      functional = inside;
-      fits = fits;
-    })
-other_fields (a ∷ b ∷ c ∷ d ∷ fs) r e = absurd (cc (e))
+    go : (o p : Option ℕ) → number 1 256 m ≡ o → scalar c ≡ p → other_pair o p ≡ Some held → IsHeld held
+    go (Some a) (Some b) f g h =
+        let bits = number_parts 7 1 256 m a f in
+        let same : (a - 1, b) ≡ held = cc (h) in
+        subst IsHeld same (record { fits = omega (arith, bits.low, bits.high); is = (scalar_parts c b g).is })
+    go None p f g h = absurd (cc (h))
+    go (Some a) None f g h = absurd (cc (h))
 
-pub other_parts : (t : List ℕ) (r : KeyReport) → other_key t ≡ Some r → IsPlain r ⊎ IsPrivate r
+other_fields : (fs : List (List ℕ)) (held : ℕ × ℕ) → other_of_fields fs ≡ Some held → IsHeld held
+other_fields [] held e = absurd (cc (e))
+other_fields (a ∷ []) held e = absurd (cc (e))
+other_fields (a ∷ b ∷ []) held e = absurd (cc (e))
+other_fields (front ∷ m ∷ c ∷ []) held e =
+    pair_parts m c held (if_some (bytes_eq front (codes "27")) (other_pair (number 1 256 m) (scalar c)) held e).1
+other_fields (a ∷ b ∷ c ∷ d ∷ fs) held e = absurd (cc (e))
+
+held_parts : (t : List ℕ) (held : ℕ × ℕ) → other_held t ≡ Some held → IsHeld held
+unfolding other_held
+held_parts t held e = option_and_then_some (λ body. other_of_fields (fields body)) (before_end (codes "~") t) held e
+    (λ (body : List ℕ) (found : before_end (codes "~") t ≡ Some body) (read : other_of_fields (fields body) ≡ Some held).
+    other_fields (fields body) held read)
+
+-- what such a report is: with Shift it tells a character that is no control character as what Shift made
+pub data IsOtherReport (r : KeyReport) : Type 0 where
+  told_plain : IsPlain r → IsOtherReport r
+  told_private : IsPrivate r → IsOtherReport r
+  told_shifted : IsFromCharacter 0 r → IsOtherReport r
+
+and_true : (b : Bool) → (b && true) ≡ b
+and_true true = refl
+and_true false = refl
+
+pub private_shifted : (c bits : ℕ) → is_functional c ≡ true → is_shifted_by bits c ≡ is_shifted bits
+private_shifted c bits inside = rw (functional_no_control c inside) (and_true (is_shifted bits))
+
+-- both codes of a character that Shift made
+two_codes : (c : ℕ) → is_scalar c ≡ true → length (codes_text c (Some c) None) ≤ 23
+unfolding codes_text
+two_codes c scalar =
+    let high : c ≤ 0x10ffff = scalar_small c scalar in
+    let few = at_most_seven c (omega arith) in
+    omega (arith, length-append (decimal c ++ 58 ∷ []) (decimal c), length-append (decimal c) (58 ∷ []), few)
+
+module _ (held : ℕ × ℕ) (fits : held.0 < 256) (scalar : is_scalar held.1 ≡ true) where
+  not_shifted : is_plain_key (other_code held.1) ≡ true → is_shifted_by held.0 held.1 ≡ false → IsPlain (other_report held)
+  not_shifted plain e = record { key = plain; none = rw e refl; fits = fits }
+
+  by_shift : IsTypedKey held.1 → (b : Bool) → is_shifted_by held.0 held.1 ≡ b → IsOtherReport (other_report held)
+  by_shift typed false e = told_plain (not_shifted typed.plain e)
+  by_shift typed true e = told_shifted (record {
+    own = held.1;
+    own_is = scalar;
+    key = typed.key;
+    fits = fits;
+    few = rw e (two_codes held.1 scalar);
+    short = inl no_characters;
+  })
+
+  private_is : IsPrivateKey held.1 → IsPrivate (other_report held)
+  private_is p = record {
+    character = held.1;
+    bits = held.0;
+    is = rw (p.key, private_shifted held.1 held.0 p.functional) refl;
+    functional = p.functional;
+    fits = fits;
+  }
+
+  other_is : IsOther held.1 → IsOtherReport (other_report held)
+  other_is (inl control) = told_plain (not_shifted control.plain (rw control.control (and_false (is_shifted held.0))))
+  other_is (inr (inl private_key)) = told_private (private_is private_key)
+  other_is (inr (inr typed)) = by_shift typed (is_shifted_by held.0 held.1) refl
+
+pub other_parts : (t : List ℕ) (r : KeyReport) → other_key t ≡ Some r → IsOtherReport r
 unfolding other_key
-other_parts t r e = option_and_then_some (λ body. other_of_fields (fields body)) (before_end (codes "~") t) r e
-    (λ (body : List ℕ) (found : before_end (codes "~") t ≡ Some body) (read : other_of_fields (fields body) ≡ Some r).
-    other_fields (fields body) r read)
+other_parts t r e =
+    let found = map_some other_report (other_held t) r e in
+    let held = held_parts t found.0 found.1 in
+    subst IsOtherReport found.2 (other_is found.0 held.fits held.is (other_key_is found.0.1 held.is))
 
 -- as rxvt-unicode sends it
 
@@ -180,14 +249,76 @@ console_plain (bracket ∷ letter ∷ []) r e =
     (entry_passes (λ n k. is_plain_key (Named k)) console_keys letter found.0 consoles_are_plain found.1) (omega arith) found.2
 console_plain (a ∷ b ∷ c ∷ t) r e = absurd (cc (e))
 
+-- of a few terminals
+
+further_are_plain : (is_plain_key (Named Tab) ≡ true) × (is_plain_key (Named KeyPadBegin) ≡ true)
+unfolding private_character is_own_key named_form
+further_are_plain = (refl, refl)
+
+back_tab_fields : (fs : List (List ℕ)) (r : KeyReport) → back_tab_of_fields fs ≡ Some r → IsPlain r
+back_tab_fields [] r e = absurd (cc (e))
+back_tab_fields (a ∷ []) r e = absurd (cc (e))
+back_tab_fields (front ∷ m ∷ []) r e =
+    let read = (if_some (is_one_or_missing front) (option_map shifted_tab (manner_of m)) r e).1 in
+    let found = map_some shifted_tab (manner_of m) r read in
+    built (Named Tab) (record found.0 { modifiers = bit_or found.0.modifiers 1 }) r further_are_plain.0
+    (or_of_8 found.0.modifiers 1 (manner_parts m found.0 found.1).fits (omega arith)) found.2
+back_tab_fields (a ∷ b ∷ c ∷ fs) r e = absurd (cc (e))
+
+back_tab_plain : (t : List ℕ) (r : KeyReport) → back_tab t ≡ Some r → IsPlain r
+unfolding back_tab
+back_tab_plain t r e = option_and_then_some (λ body. back_tab_of_fields (fields body)) (before_end (codes "Z") t) r e
+    (λ (body : List ℕ) (found : before_end (codes "Z") t ≡ Some body) (read : back_tab_of_fields (fields body) ≡ Some r).
+    back_tab_fields (fields body) r read)
+
+cursor_plain : (letter : ℕ) (key : KeyCode) → cursor_letter letter ≡ Some key → is_plain_key (Named key) ≡ true
+cursor_plain letter key e = go (letter == 82) refl
+  where
+    go : (b : Bool) → (letter == 82) ≡ b → is_plain_key (Named key) ≡ true
+    go true third =
+        let found : Some (Function 3) ≡ Some key = rw third at e in
+        subst (λ k. is_plain_key (Named k) ≡ true) (let same : Function 3 ≡ key = cc (found) in same) third_is_plain
+    go false other = entry_passes (λ n k. is_plain_key (Named k)) lettered_keys letter key letters_are_plain (rw other at e)
+
+short_plain : (t : List ℕ) (r : KeyReport) → short_key t ≡ Some r → IsPlain r
+unfolding short_key
+short_plain [] r e = absurd (cc (e))
+short_plain (a ∷ []) r e = absurd (cc (e))
+short_plain (m ∷ letter ∷ []) r e =
+    let both = if_some (nat_le 50 m && nat_le m 56)
+    (option_map (λ key. report_of (Named key) (record { modifiers = m - 49; kind = Press })) (cursor_letter letter)) r e in
+    let high : nat_le m 56 ≡ true = (and_parts (nat_le 50 m) (nat_le m 56) both.0).1 in
+    let upto : m ≤ 56 = grind (arith, nat_tests) in
+    let found = map_some (λ key. report_of (Named key) (record { modifiers = m - 49; kind = Press })) (cursor_letter letter) r both.1 in
+    built (Named found.0) (record { modifiers = m - 49; kind = Press }) r (cursor_plain letter found.0 found.1) (omega arith) found.2
+short_plain (a ∷ b ∷ c ∷ t) r e = absurd (cc (e))
+
+middle_plain : (t : List ℕ) (r : KeyReport) → middle_key t ≡ Some r → IsPlain r
+unfolding middle_key
+middle_plain [] r e = absurd (cc (e))
+middle_plain (letter ∷ []) r e =
+    let read = (if_some (letter == 71) (Some (report_of (Named KeyPadBegin) pressed)) r e).1 in
+    built (Named KeyPadBegin) pressed r further_are_plain.1 (omega arith) (cc (read))
+middle_plain (a ∷ b ∷ t) r e = absurd (cc (e))
+
+pub further_plain : (t : List ℕ) (r : KeyReport) → further_key t ≡ Some r → IsPlain r
+unfolding further_key
+further_plain t r e = go (among (back_tab t ∷ short_key t ∷ middle_key t ∷ []) r e)
+  where
+    go : IsAmong (back_tab t ∷ short_key t ∷ middle_key t ∷ []) r → IsPlain r
+    go (inl f) = back_tab_plain t r f
+    go (inr (inl f)) = short_plain t r f
+    go (inr (inr (inl f))) = middle_plain t r f
+    go (inr (inr (inr f))) = absurd f
+
 -- of the keypad
 
 keypad_is_plain : list_all (λ row. is_plain_key row.1) keypad_keys ≡ true
-unfolding private_character is_own_key named_form functional_key
+unfolding private_character is_own_key named_form functional_key key_of
 keypad_is_plain = refl
 
 modified_is_plain : list_all (λ row. is_plain_key row.1) modified_keypad_keys ≡ true
-unfolding private_character is_own_key named_form functional_key
+unfolding private_character is_own_key named_form functional_key key_of
 modified_is_plain = refl
 
 pub keypad_plain : (t : List ℕ) (r : KeyReport) → keypad_key t ≡ Some r → IsPlain r
@@ -214,6 +345,7 @@ modified_plain [] r e = absurd (cc (e))
 modified_plain (a ∷ []) r e = absurd (cc (e))
 modified_plain (m ∷ letter ∷ []) r e = by_digit m letter r e
 modified_plain (a ∷ b ∷ c ∷ []) r e = absurd (cc (e))
-modified_plain (zero_digit ∷ separator ∷ m ∷ letter ∷ []) r e =
-    by_digit m letter r (if_some ((zero_digit == 48) && (separator == 59)) (modified_report m letter) r e).1
+modified_plain (first ∷ separator ∷ m ∷ letter ∷ []) r e =
+    by_digit m letter r
+    (if_some ((separator == 59) && ((first == 48) || ((first == 49) && is_function_letter letter))) (modified_report m letter) r e).1
 modified_plain (a ∷ b ∷ c ∷ d ∷ f ∷ t) r e = absurd (cc (e))

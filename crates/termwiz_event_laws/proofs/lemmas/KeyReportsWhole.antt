@@ -1,43 +1,48 @@
 -- Each key report that a reading emits is written.
-use Rattle.std.proofs.Common.{◌≡◌, ◌⊎◌, inl, inr, ℕ, ◌+◌, ◌<◌, ◌≤◌, Bool, true, nat_le, List, [], ◌∷◌, ◌++◌, length, refl, sym, ap, ◌∙◌, subst, arith, decimal, Some, length-append, bit_or}
-use Rattle.std.proofs.lemmas.Nat.{or_of_8}
+use Rattle.std.proofs.Common.{◌≡◌, ◌⊎◌, inl, inr, ℕ, ◌+◌, ◌<◌, ◌≤◌, Bool, true, false, not, nat_le, List, [], ◌∷◌, ◌++◌, length, refl, sym, ap, ◌∙◌, subst, arith, decimal, Some, None, length-append, bit_or}
+use Rattle.std.specs.Prelude.{◌==◌, if◌then◌else◌}
+use Rattle.std.proofs.lemmas.Nat.{or_of_8, and_or_apart}
 use Rattle.std.proofs.lemmas.Bool.{and_parts}
 use Rattle.std.proofs.lemmas.Bool.Decides.{nat_tests}
-use Rattle.termwiz_keys.specs.declared.types.KeyCode.TheVariants.{Char}
 use Rattle.termwiz_grammar.specs.Sequences.{IsSequence}
 use Rattle.termwiz_grammar.proofs.lemmas.table.RowShape.{row_shaped}
 use Rattle.termwiz_extended_events.specs.declared.types.KeyReport.{KeyReport}
-use Rattle.termwiz_extended_events.specs.declared.types.KeyEventKind.TheVariants.{Press}
-use Rattle.termwiz_extended_events.specs.declared.types.ReportedKey.TheVariants.{Named}
 use Rattle.termwiz_extended_events.specs.declared.types.ExtendedEvent.{ExtendedEvent}
 use Rattle.termwiz_extended_events.specs.declared.types.ExtendedEvent.TheVariants.{Key}
 use Rattle.termwiz_extended_events.specs.declared.types.Reading.{Reading}
 use Rattle.termwiz_extended_events.specs.ReportedKeys.{is_functional}
-use Rattle.termwiz_extended_events.specs.KeyReports.{report_of}
 use Rattle.termwiz_extended_grammar.specs.Forms.{IsForm, IsRxvtNumber, IsKeypadKey}
 use Rattle.termwiz_extended_grammar.specs.Forms.IsForm.{control, x10_report, console_key, keypad_key, modified_key, shifted_key, title}
-use Rattle.termwiz_extended_grammar.specs.ExtraSequences.{IsRow, EndsAsRxvt, IsRxvtFunction, IsBareKey, with_alt}
+use Rattle.termwiz_extended_grammar.specs.ExtraSequences.{IsRow, EndsAsRxvt, IsRxvtFunction, IsLetteredKey, IsBareKey, with_alt}
 use Rattle.termwiz_extended_grammar.specs.ExtendedGrammar.{Stands}
 use Rattle.termwiz_extended_grammar.specs.ExtendedGrammar.Stands.{extra, alt_key, lone_escape, string, usual}
 use Rattle.termwiz_extended_grammar.proofs.lemmas.forms.Unfinished.{one_last}
 use Rattle.termwiz_kitty.specs.KittyTexts.{most_bytes}
-use Rattle.termwiz_senders.specs.ReportTexts.{private_character, private_report_text, report_text}
+use Rattle.termwiz_kitty.specs.Telling.{is_shifted}
+use Rattle.termwiz_senders.specs.ReportTexts.{private_character, private_report_text, is_shifted_as, says_as_xterm, report_text}
 use Rattle.termwiz_senders.specs.EventTexts.{IsRefused, IsEventText}
 use Rattle.termwiz_event_laws.specs.EventLaws.{Emits}
 use Rattle.termwiz_event_laws.proofs.lemmas.Origins.{FromForm, extra_event, IsOfString, comes_of_string}
 use Rattle.termwiz_event_laws.proofs.lemmas.KeyReportsNumbers.{at_most_seven}
 use Rattle.termwiz_event_laws.proofs.lemmas.KeyReportsWritten.{IsWritten, plain_written, from_character_written, with_modifiers_written}
-use Rattle.termwiz_event_laws.proofs.lemmas.KeyReportsRules.{IsPlain, IsPrivate}
+use Rattle.termwiz_event_laws.proofs.lemmas.KeyReportsRules.{IsPlain, private_report, IsPrivate}
 use Rattle.termwiz_event_laws.proofs.lemmas.KeyReportsEvents.{IsReportOf, event_told}
-use Rattle.termwiz_event_laws.proofs.lemmas.KeyReportsEvents.Told.{plain, private, typed}
+use Rattle.termwiz_event_laws.proofs.lemmas.KeyReportsEvents.Told.{plain, private, shifted, typed}
 use Rattle.termwiz_event_laws.proofs.lemmas.KeyReportsEvents.IsReportOf.{bracketed, keypad}
 
 -- a private character
 
-private_text : (c bits : ℕ) → is_functional c ≡ true
-    → report_text (report_of (Named (Char c)) (record { modifiers = bits; kind = Press })) ≡ Some (private_report_text c bits)
+-- the report of such a character says what is read from its text
+shifted_so : (c bits : ℕ) (b : Bool) → is_shifted bits ≡ b → is_shifted_as c bits (if b then Some c else None) ≡ true
+shifted_so c bits true held = let same : (c == c) ≡ true = grind (arith, nat_tests) in rw (held, same) refl
+shifted_so c bits false none = rw none refl
+
+says_so : (c bits : ℕ) → says_as_xterm (private_report c bits) c ≡ true
+says_so c bits = rw (shifted_so c bits (is_shifted bits) refl) refl
+
+private_text : (c bits : ℕ) → is_functional c ≡ true → report_text (private_report c bits) ≡ Some (private_report_text c bits)
 unfolding report_text private_character
-private_text c bits inside = rw inside refl
+private_text c bits inside = rw (inside, says_so c bits) refl
 
 private_long : (c bits : ℕ) → c < 2000000 → bits < 256 → length (private_report_text c bits) ≤ 256
 unfolding private_report_text
@@ -86,6 +91,7 @@ extra_written text r form told = go (event_told text r told)
     go (keypad p) = plain_written r p.key p.none p.fits
     go (bracketed t same (plain p)) = plain_written r p.key p.none p.fits
     go (bracketed t same (private p)) = private_written r p
+    go (bracketed t same (shifted p)) = from_character_written 0 r (omega arith) p
     go (bracketed t same (typed body ends from)) =
         from_character_written (length body) r (omega (arith, typed_long text t body same ends, form_short text t form same)) from
 
@@ -95,18 +101,25 @@ unfolding IsSequence
 row_short text row = (row_shaped text row.0 row.1).short
 
 -- a bare key by the letter u is short
-bare_short : (text t body : List ℕ) → IsBareKey text → text ≡ 27 ∷ 91 ∷ t → t ≡ body ++ 117 ∷ [] → length text < 12
-bare_short text t body bare e f = go bare.layout
+bare_short : (reading : Reading) (text t body : List ℕ) → IsBareKey reading text → text ≡ 27 ∷ 91 ∷ t → t ≡ body ++ 117 ∷ [] → length text < 12
+bare_short reading text t body bare e f = go bare.layout
   where
     whole : text ≡ (27 ∷ 91 ∷ body) ++ 117 ∷ []
     whole = e ∙ ap (λ z. 27 ∷ 91 ∷ z) f
 
-    go : IsRow text ⊎ (IsKeypadKey text ⊎ (EndsAsRxvt text ⊎ IsRxvtFunction text)) → length text < 12
+    lettered : IsLetteredKey text → length text < 12
+    lettered (inl (begins, (front, ends))) =
+        absurd (let same : 90 ≡ 117 = (one_last front (27 ∷ 91 ∷ body) 90 117 (sym ends ∙ whole)).1 in omega arith)
+    lettered (inr (inl (digit, letter, ends, digit_is, letter_is))) = omega (arith, ap length ends)
+    lettered (inr (inr ends)) = omega (arith, ap length ends)
+
+    go : IsRow text ⊎ (IsKeypadKey text ⊎ (EndsAsRxvt text ⊎ (IsRxvtFunction text ⊎ IsLetteredKey text))) → length text < 12
     go (inl row) = row_short text row
     go (inr (inl key)) = omega (arith, ap length key.form)
     go (inr (inr (inl (front, end, ends, its)))) =
         absurd (let same : end ≡ 117 = (one_last front (27 ∷ 91 ∷ body) end 117 (sym ends ∙ whole)).1 in omega (arith, its, same))
-    go (inr (inr (inr (digit, ends, its)))) = omega (arith, ap length ends)
+    go (inr (inr (inr (inl (digit, ends, its))))) = omega (arith, ap length ends)
+    go (inr (inr (inr (inr key)))) = lettered key
 
 -- the same report with ALT
 abbrev alt_report : KeyReport → KeyReport
@@ -115,8 +128,15 @@ alt_report r = record r { modifiers = bit_or r.modifiers 2 }
 alt_fits : (bits : ℕ) → bits < 256 → bit_or bits 2 < 256
 alt_fits bits h = or_of_8 bits 2 h (omega arith)
 
-bare_written : (text : List ℕ) (r : KeyReport) → IsBareKey text → FromForm text (Key r) → IsWritten (alt_report r)
-bare_written text r bare told = go (event_told text r told)
+-- ALT is another bit than SHIFT
+alt_shifted : (bits : ℕ) → is_shifted (bit_or bits 2) ≡ is_shifted bits
+alt_shifted bits = ap (λ n. not (n == 0)) (and_or_apart 1 bits 2 refl)
+
+alt_private : (c bits : ℕ) → private_report c (bit_or bits 2) ≡ alt_report (private_report c bits)
+alt_private c bits = rw (alt_shifted bits) refl
+
+bare_written : (reading : Reading) (text : List ℕ) (r : KeyReport) → IsBareKey reading text → FromForm text (Key r) → IsWritten (alt_report r)
+bare_written reading text r bare told = go (event_told text r told)
   where
     with_plain : IsPlain r → IsWritten (alt_report r)
     with_plain p = plain_written (alt_report r) p.key p.none (alt_fits r.modifiers p.fits)
@@ -127,23 +147,25 @@ bare_written text r bare told = go (event_told text r told)
     go (bracketed t same (private p)) = private_written (alt_report r) (record {
       character = p.character;
       bits = bit_or p.bits 2;
-      is = ap alt_report p.is;
+      is = alt_private p.character p.bits ∙ ap alt_report p.is;
       functional = p.functional;
       fits = alt_fits p.bits p.fits;
     })
+    go (bracketed t same (shifted p)) =
+        with_modifiers_written 0 r (bit_or r.modifiers 2) (omega arith) (alt_fits r.modifiers p.fits) p
     go (bracketed t same (typed body ends from)) = with_modifiers_written (length body) r (bit_or r.modifiers 2)
-        (omega (arith, typed_long text t body same ends, bare_short text t body bare same ends)) (alt_fits r.modifiers from.fits) from
+        (omega (arith, typed_long text t body same ends, bare_short reading text t body bare same ends)) (alt_fits r.modifiers from.fits) from
 
-alt_written : (text : List ℕ) (event : ExtendedEvent) (r : KeyReport) → IsBareKey text → FromForm text event → with_alt event ≡ Key r
-    → IsWritten r
-alt_written text (Key report) r bare told e =
-    let same : alt_report report ≡ r = cc (e) in subst IsWritten same (bare_written text report bare told)
-alt_written text event r bare told e = absurd (cc (e))
+alt_written : (reading : Reading) (text : List ℕ) (event : ExtendedEvent) (r : KeyReport) → IsBareKey reading text → FromForm text event
+    → with_alt event ≡ Key r → IsWritten r
+alt_written reading text (Key report) r bare told e =
+    let same : alt_report report ≡ r = cc (e) in subst IsWritten same (bare_written reading text report bare told)
+alt_written reading text event r bare told e = absurd (cc (e))
 
 stands_written : (reading : Reading) (u : List ℕ) (more : Bool) (left : List ℕ) (event : ExtendedEvent) (r : KeyReport)
     → Stands reading u more left event → event ≡ Key r → IsWritten r
 stands_written reading u more left event r (extra text l e is split) k = extra_written text r is.is_form (subst (FromForm text) k (extra_event reading text e is))
-stands_written reading u more left event r (alt_key text l e is bare split) k = alt_written text e r bare (extra_event reading text e is) k
+stands_written reading u more left event r (alt_key text l e is bare split) k = alt_written reading text e r bare (extra_event reading text e is) k
 stands_written reading u more left event r (lone_escape l split apart) k = absurd (cc (k))
 stands_written reading u more left event r (string kind head bytes after l e is comes) k =
     absurd (subst IsOfString k (comes_of_string kind head bytes after l more e comes))

@@ -1,6 +1,7 @@
 -- What a key report is written as, and how long that is.
-use Rattle.std.proofs.Common.{◌≡◌, ◌⊎◌, inl, inr, ℕ, ◌+◌, ◌<◌, ◌≤◌, Bool, true, false, ◌&&◌, List, [], ◌∷◌, ◌++◌, length, refl, arith, decimal, Option, Some, None, length-append}
-use Rattle.std.specs.Prelude.{encode_utf8, if◌then◌else◌}
+use Rattle.std.proofs.Common.{◌≡◌, ◌⊎◌, inl, inr, ℕ, ◌+◌, ◌<◌, ◌≤◌, Bool, true, false, ◌&&◌, List, [], ◌∷◌, ◌++◌, length, refl, subst, arith, nat_lt, decimal, Option, Some, None, length-append}
+use Rattle.std.specs.Prelude.{◌==◌, encode_utf8, if◌then◌else◌}
+use Rattle.std.specs.Fmt.{digits}
 use Rattle.std.specs.Str.{chars}
 use Rattle.std.proofs.lemmas.Bool.{and_parts}
 use Rattle.std.proofs.lemmas.Bool.Decides.{nat_tests}
@@ -14,10 +15,11 @@ use Rattle.termwiz_kitty.specs.declared.key_forms.KeyForm.{KeyForm}
 use Rattle.termwiz_kitty.specs.declared.key_forms.KeyForm.TheVariants.{Letter, Number, Code}
 use Rattle.termwiz_kitty.specs.KeyForms.{form_of}
 use Rattle.termwiz_kitty.specs.KittyTexts.{codes_text, characters_text, most_bytes}
-use Rattle.termwiz_senders.specs.ReportTexts.{kind_number, told_manner, is_missing, is_plain_press, says_no_more, plain_report_text, short_manner, further_fields, full_report_text, own_number, is_own_key, private_character, report_text}
+use Rattle.termwiz_senders.specs.ReportTexts.{kind_number, told_manner, is_missing, is_plain_press, says_no_more, plain_report_text, short_manner, further_fields, full_report_text, own_number, told_number, is_own_key, private_character, report_text}
 use Rattle.termwiz_event_laws.proofs.lemmas.KeyReportsNumbers.{at_most_seven, kind_small}
-use Rattle.termwiz_event_laws.proofs.lemmas.KeyReportsKeys.{is_small, is_plain_key, key_is}
+use Rattle.termwiz_event_laws.proofs.lemmas.KeyReportsKeys.{is_small, is_plain_key, main_number, key_is}
 use Rattle.termwiz_event_laws.proofs.lemmas.KeyReportsParts.{short_few}
+use Rattle.termwiz_event_laws.proofs.lemmas.UnreadEnds.{and_false}
 
 -- The report is written, in no more bytes than a sequence may have.
 abbrev pub IsWritten : KeyReport → Type 0
@@ -93,7 +95,7 @@ plain_written r plain none h =
 
 -- a report that says more
 full_text : (r : KeyReport) (f : HasForm r.key) (own : ℕ) → says_no_more r ≡ false → own_number r.key ≡ Some own
-    → report_text r ≡ Some (full_report_text own r)
+    → report_text r ≡ Some (full_report_text (told_number r own) r)
 unfolding report_text
 full_text r f own more number = rw (f.typed, f.own, more, number) refl
 
@@ -105,6 +107,45 @@ full_long own r = omega (
   length-append (codes_text own r.shifted r.base ++ further_fields r.modifiers r.kind (chars r.text)) (117 ∷ []),
   length-append (codes_text own r.shifted r.base) (further_fields r.modifiers r.kind (chars r.text)),
 )
+
+-- both numbers of Enter have two digits
+enter_codes : (shifted base : Option ℕ) → length (codes_text 13 shifted base) ≡ length (codes_text 10 shifted base)
+unfolding codes_text digits
+enter_codes None None = refl
+enter_codes (Some c) None = refl
+enter_codes None (Some d) = refl
+enter_codes (Some c) (Some d) = refl
+
+enter_long : (r : KeyReport) → length (full_report_text 13 r) ≡ length (full_report_text 10 r)
+enter_long r = omega (arith, full_long 13 r, full_long 10 r, enter_codes r.shifted r.base)
+
+-- A report is no longer than that by the number that it was read from. For Backspace, that is why 8 is taken.
+told_short : (r : KeyReport) (n : ℕ) → length (full_report_text n r) ≤ most_bytes
+    → length (full_report_text (told_number r (main_number n)) r) ≤ most_bytes
+told_short r n short = go (n == 8) (n == 10) refl refl
+  where
+    backspace : (b : Bool) → nat_lt most_bytes (length (full_report_text 127 r)) ≡ b → length (full_report_text 8 r) ≤ most_bytes
+        → length (full_report_text (told_number r 127) r) ≤ most_bytes
+    backspace true e fits = rw e fits
+    backspace false e fits =
+        let upto : length (full_report_text 127 r) ≤ most_bytes = grind (arith, nat_tests) in rw e upto
+
+    other : length (full_report_text (told_number r n) r) ≤ most_bytes
+    other =
+        let fits : nat_lt most_bytes (length (full_report_text n r)) ≡ false = grind (arith, nat_tests) in
+        rw (fits, and_false (n == 127)) short
+
+    go : (a b : Bool) → (n == 8) ≡ a → (n == 10) ≡ b → length (full_report_text (told_number r (main_number n)) r) ≤ most_bytes
+    go true b e f =
+        let same : n ≡ 8 = grind (arith, nat_tests) in
+        let fits : length (full_report_text 8 r) ≤ most_bytes = subst (λ m. length (full_report_text m r) ≤ most_bytes) same short in
+        rw e (backspace (nat_lt most_bytes (length (full_report_text 127 r))) refl fits)
+    go false true e f =
+        let same : n ≡ 10 = grind (arith, nat_tests) in
+        let fits : length (full_report_text 10 r) ≤ most_bytes = subst (λ m. length (full_report_text m r) ≤ most_bytes) same short in
+        let its : length (full_report_text 13 r) ≤ most_bytes = omega (arith, enter_long r) in
+        rw (e, f) its
+    go false false e f = rw (e, f) other
 
 further_long : (bits : ℕ) (kind : KeyEventKind) (cs : List ℕ)
     → length (further_fields bits kind cs) ≤ 2 + length (short_manner bits kind) + length (characters_text cs)
@@ -139,12 +180,16 @@ character_written r own is key fits short = go (says_no_more r) refl
     plain : is_plain_key r.key ≡ true
     plain = rw key (key_is own is).plain
 
-    number : own_number r.key ≡ Some own
+    number : own_number r.key ≡ Some (main_number own)
     number = rw key (key_is own is).number
 
     go : (b : Bool) → says_no_more r ≡ b → IsWritten r
     go true none = plain_written r plain none fits
-    go false more = (full_report_text own r, full_text r (has_form r.key plain) own more number, short)
+    go false more = (
+      full_report_text (told_number r (main_number own)) r,
+      full_text r (has_form r.key plain) (main_number own) more number,
+      told_short r own short,
+    )
 
 pub from_character_written : (size : ℕ) (r : KeyReport) → size + 3 ≤ 256 → IsFromCharacter size r → IsWritten r
 from_character_written size r fits c = character_written r c.own c.own_is c.key c.fits (within c.short)

@@ -3,6 +3,7 @@ use Rattle.std.proofs.Common.{◌≡◌, ◌⊎◌, inl, inr, ⊎_elim, ℕ, ◌
 use Rattle.std.specs.Prelude.{⊤, codes}
 use Rattle.std.specs.List.{list_all}
 use Rattle.std.specs.Str.Lossy.{utf8_lossy}
+use Rattle.std.proofs.lemmas.Bool.{and_from}
 use Rattle.std.proofs.lemmas.Bool.Decides.{nat_tests}
 use Rattle.std.proofs.lemmas.List.Elements.{All-contains}
 use Rattle.std.proofs.lemmas.List.Sums.{AllPass-from_list_all}
@@ -26,14 +27,14 @@ use Rattle.termwiz_extended_events.specs.declared.types.ReportedKey.{ReportedKey
 use Rattle.termwiz_extended_events.specs.declared.types.Reading.{Reading}
 use Rattle.termwiz_extended_events.specs.declared.types.StringKind.{StringKind}
 use Rattle.termwiz_extended_events.specs.declared.types.StringKind.TheVariants as kinds
-use Rattle.termwiz_extended_events.specs.KeyReports.{pressed, report_of, keypad_key, modified_report, modified_keypad_key}
+use Rattle.termwiz_extended_events.specs.KeyReports.{pressed, report_of, keypad_key, modified_report, is_function_letter, modified_keypad_key}
 use Rattle.termwiz_extended_events.specs.Meanings.{keypad_reported, event_after, event_of, IsKey, whole_string}
 use Rattle.termwiz_extended_events.specs.ReportedKeys.{entry_at, keypad_keys, modified_keypad_keys}
 use Rattle.termwiz_extended_grammar.specs.ExtendedGrammar.{Stands}
-use Rattle.termwiz_extended_events.specs.declared.types.Protocol.TheVariants.{Legacy}
 use Rattle.termwiz_extended_grammar.specs.ExtendedGrammar.Stands.{extra, alt_key, lone_escape as extended_escape, string, usual}
 use Rattle.termwiz_extended_grammar.specs.ExtraSequences.{IsExtra, with_alt}
-use Rattle.termwiz_extended_grammar.specs.Forms.{IsKeypadLetter, IsModifierDigit, IsModifiedLetter, IsTitle, IsForm, most_string}
+use Rattle.termwiz_extended_grammar.specs.Readings.{is_asking, event_in}
+use Rattle.termwiz_extended_grammar.specs.Forms.{IsKeypadLetter, IsModifierDigit, IsModifiedLetter, IsModifiedFront, IsLetterBehind, IsTitle, IsForm, most_string}
 use Rattle.termwiz_extended_grammar.specs.Forms.IsForm.{control, x10_report, console_key, keypad_key as keypad_form, modified_key, shifted_key, title}
 use Rattle.termwiz_extended_grammar.specs.Strings.{IsString, string_length, Ends, Comes}
 use Rattle.termwiz_extended_grammar.specs.Strings.Ends.{ended, cut, cut_by_two, flushed}
@@ -93,7 +94,8 @@ unfolding is_there numbers
 keypad_entry letter (inl m) = entry_there keypad_keys letter 77 m refl
 keypad_entry letter (inr (inl x)) = entry_there keypad_keys letter 88 x refl
 keypad_entry letter (inr (inr (inl e))) = entry_there keypad_keys letter 69 e refl
-keypad_entry letter (inr (inr (inr (low, high)))) = in_range keypad_keys 106 16 letter refl low (omega arith)
+keypad_entry letter (inr (inr (inr (inl g)))) = entry_there keypad_keys letter 71 g refl
+keypad_entry letter (inr (inr (inr (inr (low, high))))) = in_range keypad_keys 106 16 letter refl low (omega arith)
 
 modified_entry : (letter : ℕ) → IsModifiedLetter letter → (k : ReportedKey) × (entry_at modified_keypad_keys letter ≡ Some k)
 unfolding is_there numbers
@@ -110,11 +112,11 @@ KeypadRule s r = (keypad_key s ≡ Some r) ⊎ (modified_keypad_key s ≡ Some r
 record IsKeypad (s : List ℕ) : Type 0 where
   report : KeyReport
   rule : KeypadRule s report
-  event : event_of (27 ∷ 79 ∷ s) ≡ Key report
+  event : (asks : Bool) → event_of asks (27 ∷ 79 ∷ s) ≡ Key report
 
-single_event : (s : List ℕ) (r : KeyReport) → keypad_key s ≡ Some r → event_of (27 ∷ 79 ∷ s) ≡ Key r
+single_event : (s : List ℕ) (r : KeyReport) (asks : Bool) → keypad_key s ≡ Some r → event_of asks (27 ∷ 79 ∷ s) ≡ Key r
 unfolding event_of event_after keypad_reported
-single_event s r e = rw e refl
+single_event s r asks e = rw e refl
 
 keypad_told : (letter : ℕ) → IsKeypadLetter letter → IsKeypad (letter ∷ [])
 unfolding keypad_key
@@ -122,11 +124,12 @@ keypad_told letter is =
     let k = keypad_entry letter is in
     let r = report_of k.0 pressed in
     let e : keypad_key (letter ∷ []) ≡ Some r = rw k.1 refl in
-    record { report = r; rule = inl e; event = single_event (letter ∷ []) r e }
+    record { report = r; rule = inl e; event = λ asks. single_event (letter ∷ []) r asks e }
 
-parted_event : (s : List ℕ) (r : KeyReport) → keypad_key s ≡ None → modified_keypad_key s ≡ Some r → event_of (27 ∷ 79 ∷ s) ≡ Key r
+parted_event : (s : List ℕ) (r : KeyReport) (asks : Bool) → keypad_key s ≡ None → modified_keypad_key s ≡ Some r
+    → event_of asks (27 ∷ 79 ∷ s) ≡ Key r
 unfolding event_of event_after keypad_reported
-parted_event s r none e = rw (none, e) refl
+parted_event s r asks none e = rw (none, e) refl
 
 modified_told : (digit letter : ℕ) → IsModifierDigit digit → IsModifiedLetter letter → (r : KeyReport) × (modified_report digit letter ≡ Some r)
 modified_told digit letter d is =
@@ -135,19 +138,29 @@ modified_told digit letter d is =
     let high : nat_le digit 56 ≡ true = grind (arith, nat_tests, d.1) in
     (report_of k.0 (record { modifiers = digit - 49; kind = Press }), rw (low, high, k.1) refl)
 
-modified_event : (front : List ℕ) (digit letter : ℕ) → (front ≡ []) ⊎ (front ≡ codes "0;") → IsModifierDigit digit → IsModifiedLetter letter
+modified_event : (front : List ℕ) (digit letter : ℕ) → IsModifiedFront front → IsModifierDigit digit → IsLetterBehind front letter
     → IsKeypad (front ++ digit ∷ letter ∷ [])
 unfolding keypad_key modified_keypad_key
 modified_event front digit letter front_is d is = go front_is
   where
     made : (s : List ℕ) → keypad_key s ≡ None → modified_keypad_key s ≡ modified_report digit letter → IsKeypad s
     made s none same =
-        let m = modified_told digit letter d is in
-        record { report = m.0; rule = inr (same ∙ m.1); event = parted_event s m.0 none (same ∙ m.1) }
+        let m = modified_told digit letter d is.0 in
+        record { report = m.0; rule = inr (same ∙ m.1); event = λ asks. parted_event s m.0 asks none (same ∙ m.1) }
 
-    go : (front ≡ []) ⊎ (front ≡ codes "0;") → IsKeypad (front ++ digit ∷ letter ∷ [])
+    of_function : front ≡ codes "1;" → is_function_letter letter ≡ true
+    of_function one =
+        let range = is.1 one in
+        let low : nat_le 80 letter ≡ true = grind (arith, nat_tests, range.0) in
+        let high : nat_le letter 83 ≡ true = grind (arith, nat_tests, range.1) in
+        and_from (nat_le 80 letter) (nat_le letter 83) low high
+
+    go : IsModifiedFront front → IsKeypad (front ++ digit ∷ letter ∷ [])
     go (inl none) = subst (λ f. IsKeypad (f ++ digit ∷ letter ∷ [])) (sym none) (made (digit ∷ letter ∷ []) refl refl)
-    go (inr zero) = subst (λ f. IsKeypad (f ++ digit ∷ letter ∷ [])) (sym zero) (made (48 ∷ 59 ∷ digit ∷ letter ∷ []) refl refl)
+    go (inr (inl zero)) = subst (λ f. IsKeypad (f ++ digit ∷ letter ∷ [])) (sym zero) (made (48 ∷ 59 ∷ digit ∷ letter ∷ []) refl refl)
+    go (inr (inr one)) =
+        subst (λ f. IsKeypad (f ++ digit ∷ letter ∷ [])) (sym one)
+        (made (49 ∷ 59 ∷ digit ∷ letter ∷ []) refl (rw (of_function one) refl))
 
 -- the event of a text of a form: by a rule after ESC [, or the text itself; a key after ESC O; or a title
 pub data FromForm (text : List ℕ) (e : ExtendedEvent) : Type 0 where
@@ -155,24 +168,26 @@ pub data FromForm (text : List ℕ) (e : ExtendedEvent) : Type 0 where
   keypad : (s : List ℕ) (r : KeyReport) → KeypadRule s r → e ≡ Key r → FromForm text e
   titled : (t : IsTitle text) → e ≡ Osc (t.letter ∷ t.body) → FromForm text e
 
-by_bracket : (text s : List ℕ) → text ≡ 27 ∷ 91 ∷ s → FromForm text (event_of text)
-by_bracket text s form = bracketed s form (subst (λ t. Told s (event_of t) ⊎ (event_of t ≡ Csi s)) (sym form) (bracketed_told s))
+by_bracket : (reading : Reading) (text s : List ℕ) → text ≡ 27 ∷ 91 ∷ s → FromForm text (event_in reading text)
+by_bracket reading text s form =
+    bracketed s form (subst (λ t. Told s (event_in reading t) ⊎ (event_in reading t ≡ Csi s)) (sym form) (bracketed_told (is_asking reading) s))
 
-by_keypad : (text s : List ℕ) → text ≡ 27 ∷ 79 ∷ s → IsKeypad s → FromForm text (event_of text)
-by_keypad text s form is = keypad s is.report is.rule (ap event_of form ∙ is.event)
+by_keypad : (reading : Reading) (text s : List ℕ) → text ≡ 27 ∷ 79 ∷ s → IsKeypad s → FromForm text (event_in reading text)
+by_keypad reading text s form is = keypad s is.report is.rule (ap (event_in reading) form ∙ is.event (is_asking reading))
 
-form_event : (x10_mouse : Bool) (text : List ℕ) → IsForm x10_mouse text → FromForm text (event_of text)
-form_event x10_mouse text (control f) = by_bracket text _ f.form
-form_event x10_mouse text (x10_report on f) = by_bracket text _ f.form
-form_event x10_mouse text (console_key f) = by_bracket text _ f.form
-form_event x10_mouse text (keypad_form f) = by_keypad text _ f.form (keypad_told f.letter f.letter_is)
-form_event x10_mouse text (modified_key f) = by_keypad text _ f.form (modified_event f.front f.digit f.letter f.front_is f.digit_is f.letter_is)
-form_event x10_mouse text (shifted_key f) = by_bracket text _ f.form
-form_event x10_mouse text (title t) = titled t (sym (titles_are_commands (record { protocol = Legacy; x10_mouse = false; questions = 0 }) text t).means)
+form_event : (reading : Reading) (text : List ℕ) → IsForm reading.x10_mouse text → FromForm text (event_in reading text)
+form_event reading text (control f) = by_bracket reading text _ f.form
+form_event reading text (x10_report on f) = by_bracket reading text _ f.form
+form_event reading text (console_key f) = by_bracket reading text _ f.form
+form_event reading text (keypad_form f) = by_keypad reading text _ f.form (keypad_told f.letter f.letter_is)
+form_event reading text (modified_key f) =
+    by_keypad reading text _ f.form (modified_event f.front f.digit f.letter f.front_is f.digit_is f.letter_is)
+form_event reading text (shifted_key f) = by_bracket reading text _ f.form
+form_event reading text (title t) = titled t (sym (titles_are_commands reading text t).means)
 
 -- the event of an extra sequence
 pub extra_event : (reading : Reading) (text : List ℕ) (e : ExtendedEvent) → IsExtra reading text e → FromForm text e
-extra_event reading text e is = subst (FromForm text) (sym is.means) (form_event reading.x10_mouse text is.is_form)
+extra_event reading text e is = subst (FromForm text) (sym is.means) (form_event reading text is.is_form)
 
 -- none is a key of the port's events
 pub no_input_key : (text : List ℕ) (k : KeyEvent) → FromForm text (Input (input.Key k)) → ⊥
@@ -185,8 +200,9 @@ no_input_key text k (keypad s r rule e) = cc (e)
 no_input_key text k (titled t e) = cc (e)
 
 -- the event of a bare key after ESC is the report of a key
-pub alt_report : (text : List ℕ) (e : ExtendedEvent) → e ≡ event_of text → IsKey (event_of text) → (r : KeyReport) × (with_alt e ≡ Key r)
-alt_report text e same is = go e (subst IsKey (sym same) is)
+pub alt_report : (reading : Reading) (text : List ℕ) (e : ExtendedEvent) → e ≡ event_in reading text → IsKey (event_in reading text)
+    → (r : KeyReport) × (with_alt e ≡ Key r)
+alt_report reading text e same is = go e (subst IsKey (sym same) is)
   where
     go : (d : ExtendedEvent) → IsKey d → (r : KeyReport) × (with_alt d ≡ Key r)
     go (Key r) h = (record r { modifiers = bit_or r.modifiers 2 }, refl)
@@ -246,7 +262,7 @@ origin reading e (u, left, more, stands) = go left e stands
     go : (l : List ℕ) (d : ExtendedEvent) → Stands reading u more l d → Origin reading d
     go l d (extra text l2 event is split) =
         from_extra text is (extra_event reading text d is)
-    go l d (alt_key text l2 event is bare split) = (let r = alt_report text event is.means bare.is_key in from_alt r.0 r.1)
+    go l d (alt_key text l2 event is bare split) = (let r = alt_report reading text event is.means bare.is_key in from_alt r.0 r.1)
     go l d (extended_escape l2 split apart) = from_port (input.Key escape) refl (key_event escape refl)
     go l d (string kind head bytes after l2 event is comes) = ⊎_elim
         (λ part. from_part part)

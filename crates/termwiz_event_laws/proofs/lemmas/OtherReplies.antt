@@ -6,14 +6,17 @@ use Rattle.termwiz_extended_events.specs.declared.types.ExtendedEvent.TheVariant
 use Rattle.termwiz_extended_events.specs.declared.types.Reading.{Reading}
 use Rattle.termwiz_extended_events.specs.Numbers.{after_start}
 use Rattle.termwiz_extended_events.specs.ReportedKeys.{entry_at, lettered_keys}
+use Rattle.termwiz_extended_events.specs.KeyReports.{further_key}
 use Rattle.termwiz_extended_events.specs.Replies.{urxvt_mouse, mouse_report, sgr_side_button, urxvt_side_button, side_button}
 use Rattle.termwiz_extended_grammar.specs.Forms.{most_control}
+use Rattle.termwiz_extended_grammar.specs.Readings.{is_asking}
+use Rattle.termwiz_keymap.proofs.lemmas.lists.CommonPrefixes.{append-some}
 use Rattle.termwiz_extended_grammar.proofs.lemmas.forms.FormBytes.{all_append}
 use Rattle.termwiz_kitty.proofs.lemmas.read_back.FieldSplits.{before_other_end}
 use Rattle.termwiz_senders.specs.EventTexts.{further_number, numbers_parted, attributes_text, IsReadAtOnce}
 use Rattle.termwiz_event_laws.specs.EventLaws.{IsWord, SchemesReadBack, AttributesReadBack}
 use Rattle.termwiz_event_laws.proofs.lemmas.ControlTexts.{written, IsParameter, IsEnd, control_means, no_mark}
-use Rattle.termwiz_event_laws.proofs.lemmas.UnreadEnds.{no_focus, no_character, no_key, no_reply, no_third, no_rxvt, no_x10, no_x10_side, no_console, IsOther, event_by_none}
+use Rattle.termwiz_event_laws.proofs.lemmas.UnreadEnds.{no_focus, no_character, no_key, no_reply, no_third, no_rxvt, no_x10, no_back_tab, no_x10_side, no_console, no_short, no_middle, IsOther, event_by_none}
 use Rattle.termwiz_event_laws.proofs.lemmas.WrittenWords.{word_parameters}
 
 -- the last byte of no report: c or n
@@ -50,12 +53,20 @@ module _ (body : List ℕ) (last : ℕ) (unread : IsUnread last) where
     mouse_is = no_mouse;
   }
 
+  no_further : further_key (marked ++ last ∷ []) ≡ None
+  unfolding further_key
+  no_further = rw (
+    no_back_tab marked last (other 90 (λ h. omega (arith, h))),
+    no_short 63 (body ++ last ∷ []) refl,
+    no_middle 63 (body ++ last ∷ []) (append-some body (last ∷ []) (λ h. cc (h))),
+  ) refl
+
   -- so it is a control sequence
   reply_means : (reading : Reading) → AllByRecursion IsParameter body → IsEnd last → length (written marked last) ≤ most_control
       → IsReadAtOnce reading (Csi (marked ++ last ∷ [])) (written marked last)
   reply_means reading a is short more =
       control_means reading marked last (Csi (marked ++ last ∷ [])) more ((omega arith, omega arith), a) is (λ h. cc (h)) short (no_mark body last)
-      (event_by_none (marked ++ last ∷ []) is_other no_side (no_console 63 (body ++ last ∷ []) refl))
+      (event_by_none (is_asking reading) (marked ++ last ∷ []) is_other no_side (no_console 63 (body ++ last ∷ []) refl) no_further)
 
 -- the colours
 abbrev scheme : ℕ → List ℕ

@@ -9,6 +9,7 @@ use Rattle.termwiz_grammar.proofs.lemmas.mouse.ReportNumbers.{digits_end}
 use Rattle.termwiz_grammar.proofs.lemmas.table.RowShape.{row_shaped, no_report_shape}
 use Rattle.termwiz_extended_events.specs.declared.types.ExtendedEvent.TheVariants.{SideButton}
 use Rattle.termwiz_extended_events.specs.declared.types.Reading.{Reading}
+use Rattle.termwiz_extended_grammar.specs.Readings.{is_asking}
 use Rattle.termwiz_extended_events.specs.declared.types.SideButtonEvent.{SideButtonEvent}
 use Rattle.termwiz_extended_events.specs.declared.types.SideButtonKind.{SideButtonKind}
 use Rattle.termwiz_extended_events.specs.declared.types.SideButtonKind.TheVariants.{Press, Release, Drag}
@@ -113,7 +114,7 @@ module _ (code x y : ℕ) (low : 128 ≤ code) (high : code ≤ 191) (f : x < 2 
       → IsReadAtOnce reading (SideButton e) (sgr_text code x y last)
   at_once reading last e end other is more =
       control_means reading body last (SideButton e) more parameters end (λ h. cc (h))
-      (omega (arith, length-append body (last ∷ []), short)) (unknown last) (event_by_side_button (body ++ last ∷ []) e other is)
+      (omega (arith, length-append body (last ∷ []), short)) (unknown last) (event_by_side_button (is_asking reading) (body ++ last ∷ []) e other is)
 
   means : (reading : Reading) (kind : SideButtonKind)
       → IsReadAtOnce reading (SideButton (told_by kind (code - 128) x y)) (sgr_text code x y (side_last kind))

@@ -9,9 +9,9 @@ use Rattle.termwiz_extended_events.specs.declared.types.ExtendedEvent.{ExtendedE
 use Rattle.termwiz_extended_events.specs.declared.types.ExtendedEvent.TheVariants.{Input, Key, FocusGained, FocusLost, CursorPosition, Resize, KeyboardFlags, SideButton, Csi}
 use Rattle.termwiz_extended_events.specs.declared.types.SideButtonEvent.{SideButtonEvent}
 use Rattle.termwiz_extended_events.specs.Numbers.{fields, before_end, after_start, place_number, short_number}
-use Rattle.termwiz_extended_events.specs.KeyReports.{key_report, third_function_key, rxvt_key, console_key}
+use Rattle.termwiz_extended_events.specs.KeyReports.{key_report, third_function_key, rxvt_key, console_key, further_key}
 use Rattle.termwiz_extended_events.specs.Replies.{focus, position_at, position_on, position_of_fields, marked_position_of_fields, position_of, cursor_position, keyboard_flags, size_at, size_of_fields, numbered_size, resize, reply, mouse_report, side_button}
-use Rattle.termwiz_extended_events.specs.Meanings.{mouse, reported, event_after, event_of}
+use Rattle.termwiz_extended_events.specs.Meanings.{mouse, unasked_key, reported, event_after, event_of}
 use Rattle.termwiz_event_laws.proofs.lemmas.KeyReportsNumbers.{number_parts}
 use Rattle.termwiz_event_laws.proofs.lemmas.SomeOptions.{map_some, IsAmong, among}
 
@@ -30,6 +30,7 @@ pub data KeyRule (s : List ℕ) (r : KeyReport) : Type 0 where
   by_third : third_function_key s ≡ Some r → KeyRule s r
   by_rxvt : rxvt_key s ≡ Some r → KeyRule s r
   by_console : console_key s ≡ Some r → KeyRule s r
+  by_further : further_key s ≡ Some r → KeyRule s r
 
 -- what gives the event of what follows ESC [
 pub data Told (s : List ℕ) (e : ExtendedEvent) : Type 0 where
@@ -142,34 +143,43 @@ key_told : (s : List ℕ) (o : Option KeyReport) (e : ExtendedEvent) → ((r : K
     → Told s e
 key_told s o e rule is = (let h = map_some Key o e is in by_key h.0 (rule h.0 h.1) (sym h.2))
 
+-- F3 where no question is open
+unasked_told : (asks : Bool) (s : List ℕ) (e : ExtendedEvent) → option_map Key (unasked_key asks s) ≡ Some e → Told s e
+unasked_told true s e is = absurd (cc (is))
+unasked_told false s e is = key_told s (third_function_key s) e (λ r g. by_third g) is
+
 -- the rules for what follows ESC [
-abbrev rules : List ℕ → List (Option ExtendedEvent)
-rules s =
-    focus s ∷ option_map Key (key_report s) ∷ reply s ∷ option_map Key (third_function_key s) ∷ option_map Key (rxvt_key s)
-    ∷ option_map mouse (mouse_report s) ∷ option_map SideButton (side_button s) ∷ option_map Key (console_key s) ∷ []
+abbrev pub rules : Bool → List ℕ → List (Option ExtendedEvent)
+rules asks s =
+    focus s ∷ option_map Key (key_report s) ∷ option_map Key (unasked_key asks s) ∷ reply s ∷ option_map Key (third_function_key s)
+    ∷ option_map Key (rxvt_key s) ∷ option_map mouse (mouse_report s) ∷ option_map SideButton (side_button s)
+    ∷ option_map Key (console_key s) ∷ option_map Key (further_key s) ∷ []
 
 -- the event, if a rule gives one
-reported_told : (s : List ℕ) (e : ExtendedEvent) → reported s ≡ Some e → Told s e
+reported_told : (asks : Bool) (s : List ℕ) (e : ExtendedEvent) → reported asks s ≡ Some e → Told s e
 unfolding reported
-reported_told s e is = go (among (rules s) e is)
+reported_told asks s e is = go (among (rules asks s) e is)
   where
-    go : IsAmong (rules s) e → Told s e
+    go : IsAmong (rules asks s) e → Told s e
     go (inl f) = by_reply (focus_told s e f)
     go (inr (inl f)) = key_told s (key_report s) e (λ r g. by_report g) f
-    go (inr (inr (inl f))) = by_reply (reply_told s e f)
-    go (inr (inr (inr (inl f)))) = key_told s (third_function_key s) e (λ r g. by_third g) f
-    go (inr (inr (inr (inr (inl f))))) = key_told s (rxvt_key s) e (λ r g. by_rxvt g) f
-    go (inr (inr (inr (inr (inr (inl f)))))) = (let m = map_some mouse (mouse_report s) e f in by_mouse m.0 m.1 (sym m.2))
-    go (inr (inr (inr (inr (inr (inr (inl f))))))) =
+    go (inr (inr (inl f))) = unasked_told asks s e f
+    go (inr (inr (inr (inl f)))) = by_reply (reply_told s e f)
+    go (inr (inr (inr (inr (inl f))))) = key_told s (third_function_key s) e (λ r g. by_third g) f
+    go (inr (inr (inr (inr (inr (inl f)))))) = key_told s (rxvt_key s) e (λ r g. by_rxvt g) f
+    go (inr (inr (inr (inr (inr (inr (inl f))))))) = (let m = map_some mouse (mouse_report s) e f in by_mouse m.0 m.1 (sym m.2))
+    go (inr (inr (inr (inr (inr (inr (inr (inl f)))))))) =
         (let b = map_some SideButton (side_button s) e f in by_side_button b.0 b.1 (sym b.2))
-    go (inr (inr (inr (inr (inr (inr (inr (inl f)))))))) = key_told s (console_key s) e (λ r g. by_console g) f
-    go (inr (inr (inr (inr (inr (inr (inr (inr f)))))))) = absurd f
+    go (inr (inr (inr (inr (inr (inr (inr (inr (inl f))))))))) = key_told s (console_key s) e (λ r g. by_console g) f
+    go (inr (inr (inr (inr (inr (inr (inr (inr (inr (inl f)))))))))) = key_told s (further_key s) e (λ r g. by_further g) f
+    go (inr (inr (inr (inr (inr (inr (inr (inr (inr (inr f)))))))))) = absurd f
 
 -- the event of ESC [ and s is told by a rule, or is s itself
-pub bracketed_told : (s : List ℕ) → Told s (event_of (27 ∷ 91 ∷ s)) ⊎ (event_of (27 ∷ 91 ∷ s) ≡ Csi s)
+pub bracketed_told : (asks : Bool) (s : List ℕ) → Told s (event_of asks (27 ∷ 91 ∷ s)) ⊎ (event_of asks (27 ∷ 91 ∷ s) ≡ Csi s)
 unfolding event_of event_after
-bracketed_told s = go (reported s) refl
+bracketed_told asks s = go (reported asks s) refl
   where
-    go : (o : Option ExtendedEvent) → reported s ≡ o → Told s (unwrap_or (reported s) (Csi s)) ⊎ (unwrap_or (reported s) (Csi s) ≡ Csi s)
+    go : (o : Option ExtendedEvent) → reported asks s ≡ o
+        → Told s (unwrap_or (reported asks s) (Csi s)) ⊎ (unwrap_or (reported asks s) (Csi s) ≡ Csi s)
     go None e = inr (ap (λ o. unwrap_or o (Csi s)) e)
-    go (Some x) e = inl (subst (Told s) (sym (ap (λ o. unwrap_or o (Csi s)) e)) (reported_told s x e))
+    go (Some x) e = inl (subst (Told s) (sym (ap (λ o. unwrap_or o (Csi s)) e)) (reported_told asks s x e))

@@ -4,17 +4,18 @@ use Rattle.std.specs.Prelude.{◌==◌, option_and_then}
 use Rattle.std.specs.Char.{is_ascii_digit}
 use Rattle.std.proofs.lemmas.Bool.Decides.{nat_tests}
 use Rattle.termwiz_extended_events.specs.declared.types.ExtendedEvent.{ExtendedEvent}
-use Rattle.termwiz_extended_events.specs.declared.types.ExtendedEvent.TheVariants.{SideButton, Csi}
+use Rattle.termwiz_extended_events.specs.declared.types.ExtendedEvent.TheVariants.{Key, SideButton, Csi}
+use Rattle.termwiz_extended_events.specs.declared.types.KeyReport.{KeyReport}
 use Rattle.termwiz_extended_events.specs.declared.types.SideButtonEvent.{SideButtonEvent}
 use Rattle.termwiz_extended_events.specs.Numbers.{fields, is_digits, number_within}
 use Rattle.termwiz_extended_events.specs.ReportedKeys.{entry_at, lettered_keys}
-use Rattle.termwiz_extended_events.specs.KeyReports.{character_key, lettered_of_fields, lettered_key, numbered_key, other_key, key_report, third_function_key, rxvt_key, console_key}
+use Rattle.termwiz_extended_events.specs.KeyReports.{character_key, lettered_of_fields, lettered_key, numbered_key, other_held, other_key, key_report, third_function_key, rxvt_key, console_key, back_tab, short_key, middle_key, further_key}
 use Rattle.termwiz_extended_events.specs.Replies.{focus, cursor_position, keyboard_flags, resize, reply, x10_mouse, mouse_report, x10_side_button, side_button}
-use Rattle.termwiz_extended_events.specs.Meanings.{reported, event_after, event_of}
+use Rattle.termwiz_extended_events.specs.Meanings.{unasked_key, reported, event_after, event_of}
 use Rattle.termwiz_kitty.proofs.lemmas.read_back.FieldSplits.{without_last, before_other_end, last_byte}
 
 -- what begins with no digit is no number
-and_false : (a : Bool) → (a && false) ≡ false
+pub and_false : (a : Bool) → (a && false) ≡ false
 and_false true = refl
 and_false false = refl
 
@@ -42,7 +43,7 @@ module _ (body : List ℕ) (last : ℕ) where
       (ap (option_and_then (λ key. lettered_of_fields key (fields (take (length body) (body ++ last ∷ []))))) none)
 
   pub no_tilde : last ≢ 126 → (numbered_key (body ++ last ∷ []) ≡ None) × (other_key (body ++ last ∷ []) ≡ None)
-  unfolding numbered_key other_key
+  unfolding numbered_key other_held other_key
   no_tilde n = (rw (before_other_end body last 126 n) refl, rw (before_other_end body last 126 n) refl)
 
   pub no_character : last ≢ 117 → character_key (body ++ last ∷ []) ≡ None
@@ -74,6 +75,10 @@ module _ (body : List ℕ) (last : ℕ) where
   unfolding third_function_key
   no_third n = rw (before_other_end body last 82 n) refl
 
+  pub no_back_tab : last ≢ 90 → back_tab (body ++ last ∷ []) ≡ None
+  unfolding back_tab
+  no_back_tab n = rw (before_other_end body last 90 n) refl
+
   pub no_rxvt : last ≢ 94 → last ≢ 64 → last ≢ 36 → rxvt_key (body ++ last ∷ []) ≡ None
   unfolding rxvt_key
   no_rxvt a b c = rw (before_other_end body last 94 a, before_other_end body last 64 b, before_other_end body last 36 c) refl
@@ -102,10 +107,36 @@ no_console x [] other = refl
 no_console x (a ∷ []) other = rw other refl
 no_console x (a ∷ b ∷ t) other = refl
 
+-- the keys of a few terminals
+
+pub no_short : (x : ℕ) (t : List ℕ) → nat_le x 56 ≡ false → short_key (x ∷ t) ≡ None
+unfolding short_key
+no_short x [] other = refl
+no_short x (a ∷ []) other = rw (other, and_false (nat_le 50 x)) refl
+no_short x (a ∷ b ∷ t) other = refl
+
+pub no_middle : (x : ℕ) (t : List ℕ) → t ≢ [] → middle_key (x ∷ t) ≡ None
+unfolding middle_key
+no_middle x [] some = absurd (some refl)
+no_middle x (a ∷ t) some = refl
+
+-- where F3 isn't read, it isn't either where no question is open
+pub unasked_none : (asks : Bool) (s : List ℕ) → third_function_key s ≡ None → unasked_key asks s ≡ None
+unasked_none true s none = refl
+unasked_none false s none = none
+
 -- a reply, where no key is read
-pub event_by_reply : (s : List ℕ) (e : ExtendedEvent) → focus s ≡ None → key_report s ≡ None → reply s ≡ Some e → event_of (27 ∷ 91 ∷ s) ≡ e
+pub event_by_reply : (asks : Bool) (s : List ℕ) (e : ExtendedEvent) → focus s ≡ None → key_report s ≡ None → unasked_key asks s ≡ None
+    → reply s ≡ Some e → event_of asks (27 ∷ 91 ∷ s) ≡ e
 unfolding event_of event_after reported
-event_by_reply s e a b c = rw (a, b, c) refl
+event_by_reply true s e a b none c = rw (a, b, c) refl
+event_by_reply false s e a b none c = rw (a, b, none, c) refl
+
+-- F3, where no question is open
+pub event_by_third : (s : List ℕ) (r : KeyReport) → focus s ≡ None → key_report s ≡ None → third_function_key s ≡ Some r
+    → event_of false (27 ∷ 91 ∷ s) ≡ Key r
+unfolding event_of event_after reported
+event_by_third s r a b c = rw (a, b, c) refl
 
 -- no rule reads it as a key, or a reply, or a mouse report
 pub record IsOther (s : List ℕ) : Type 0 where
@@ -116,10 +147,14 @@ pub record IsOther (s : List ℕ) : Type 0 where
   pub rxvt_is : rxvt_key s ≡ None
   pub mouse_is : mouse_report s ≡ None
 
-pub event_by_side_button : (s : List ℕ) (b : SideButtonEvent) → IsOther s → side_button s ≡ Some b → event_of (27 ∷ 91 ∷ s) ≡ SideButton b
+pub event_by_side_button : (asks : Bool) (s : List ℕ) (b : SideButtonEvent) → IsOther s → side_button s ≡ Some b
+    → event_of asks (27 ∷ 91 ∷ s) ≡ SideButton b
 unfolding event_of event_after reported
-event_by_side_button s b o e = rw (o.focus_is, o.key_is, o.reply_is, o.third_is, o.rxvt_is, o.mouse_is, e) refl
+event_by_side_button true s b o e = rw (o.focus_is, o.key_is, o.reply_is, o.third_is, o.rxvt_is, o.mouse_is, e) refl
+event_by_side_button false s b o e = rw (o.focus_is, o.key_is, o.third_is, o.reply_is, o.rxvt_is, o.mouse_is, e) refl
 
-pub event_by_none : (s : List ℕ) → IsOther s → side_button s ≡ None → console_key s ≡ None → event_of (27 ∷ 91 ∷ s) ≡ Csi s
+pub event_by_none : (asks : Bool) (s : List ℕ) → IsOther s → side_button s ≡ None → console_key s ≡ None → further_key s ≡ None
+    → event_of asks (27 ∷ 91 ∷ s) ≡ Csi s
 unfolding event_of event_after reported
-event_by_none s o e f = rw (o.focus_is, o.key_is, o.reply_is, o.third_is, o.rxvt_is, o.mouse_is, e, f) refl
+event_by_none true s o e f g = rw (o.focus_is, o.key_is, o.reply_is, o.third_is, o.rxvt_is, o.mouse_is, e, f, g) refl
+event_by_none false s o e f g = rw (o.focus_is, o.key_is, o.third_is, o.reply_is, o.rxvt_is, o.mouse_is, e, f, g) refl
