@@ -973,7 +973,7 @@ uint32_t hed_encode_event(const hed_extended_event *event, const uint8_t *text, 
 
 /* Writes what a terminal replies to a question for the position of its cursor to out, and the number of these bytes to *sent_len: ESC [, the
  * row, a semicolon, the column and R. private_reply says that the question was ESC [?6n, not ESC [6n: then ? comes before the row. The first row
- * and the first column are 1: a parser reads a reply with a 0 as a HED_KIND_CSI. Without the ? a reply for row 1 and the columns 1 to 16 has
+ * and the first column are 1: a parser reads a reply with a 0 as a HED_KIND_CSI. Without the ? a reply for row 1 and the columns 1 to 256 has
  * the bytes of F3 with modifiers.
  *
  * Returns HED_ENCODED_TEXT or HED_ENCODED_REFUSED_MEMORY, as hed_encode_paste does. */

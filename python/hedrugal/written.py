@@ -114,7 +114,7 @@ def encode_cursor_position(row: int, column: int, private: bool = False) -> byte
     that the question was ESC [?6n, and not ESC [6n. The first row and the first column are 1: a
     reply with a 0 is read as a Csi.
 
-    Not private, a reply for row 1 and the columns 1 to 16 has the bytes of F3 with modifiers. A
+    Not private, a reply for row 1 and the columns 1 to 256 has the bytes of F3 with modifiers. A
     program reads it as the position if it expects one.
 
         >>> encode_cursor_position(24, 80)

@@ -265,7 +265,7 @@ impl StringKind {
 /// Returns what a terminal replies to a question for the position of its cursor. `private` says
 /// that the question was ESC `[?6n`, and not ESC `[6n`. The first row and the first column are 1.
 ///
-/// Not private, a reply for row 1 and the columns 1 to 16 has the bytes of F3 with modifiers. A
+/// Not private, a reply for row 1 and the columns 1 to 256 has the bytes of F3 with modifiers. A
 /// program reads it as the position if it expects one.
 ///
 /// ```

@@ -46,7 +46,7 @@ fn is_written(event: &ExtendedEvent, reading: Reading, bytes: &[u8]) {
 }
 
 // What a terminal sent, how it is read, and what its event is written as.
-const WRITTEN: [(Reading, &[u8], &[u8]); 40] = [
+const WRITTEN: [(Reading, &[u8], &[u8]); 52] = [
     (LEGACY, b"\x1b[A", b"\x1b[A"),
     (LEGACY, b"\x1b[1;5A", b"\x1b[1;5A"),
     (KITTY, b"\x1bOa", b"\x1bOa"),
@@ -81,6 +81,18 @@ const WRITTEN: [(Reading, &[u8], &[u8]); 40] = [
     (KITTY, b"\x1b[97:65;1u", b"\x1b[97:65u"),
     (KITTY, b"\x1b[57414u", b"\x1b[57414;1:1u"),
     (LEGACY, b"\x1b[27;9;57344~", b"\x1b[27;9;57344~"),
+    (LEGACY, b"\x1b[27;10;57344~", b"\x1b[27;10;57344~"),
+    (KITTY, b"\x1b[27;6;33~", b"\x1b[33:33;6u"),
+    (KITTY, b"\x1b[0u", b"\x1b[0;1:1u"),
+    (LEGACY, b"\x1b[0;;229u", b"\x1b[0;;229u"),
+    (KITTY, b"\x1b[8;2u", b"\x1b[127;2:1u"),
+    (KITTY, b"\x1b[10;2u", b"\x1b[13;2:1u"),
+    (KITTY, b"\x1b[1;5R", b"\x1b[13;5:1~"),
+    (LEGACY, b"\x1b[1;17R", b"\x1b[13;17:1~"),
+    (LEGACY, b"\x1b[1;6Z", b"\x1b[9;6:1u"),
+    (LEGACY, b"\x1b[G", b"\x1b[1;1:1E"),
+    (LEGACY, b"\x1b[2D", b"\x1b[1;2:1D"),
+    (LEGACY, b"\x1bO1;5P", b"\x1b[1;5:1P"),
     (LEGACY, b"\x1b[I", b"\x1b[I"),
     (KITTY, b"\x1b[O", b"\x1b[O"),
     (LEGACY, b"\x1b[24;80R", b"\x1b[?24;80R"),
@@ -172,6 +184,18 @@ fn report(key: ReportedKey, kind: KeyEventKind, text: &str) -> ExtendedEvent {
     })
 }
 
+// A press of a character that has the number of a functional key.
+fn shifted(modifiers: KittyModifiers, shifted: Option<char>) -> ExtendedEvent {
+    ExtendedEvent::Key(KeyReport {
+        key: ReportedKey::Named(KeyCode::Char('\u{e000}')),
+        modifiers,
+        kind: KeyEventKind::Press,
+        shifted,
+        base: None,
+        text: String::new(),
+    })
+}
+
 fn refuses(event: &ExtendedEvent, reading: Reading, error: EncodeEventError) {
     let by = parser(reading);
     assert_eq!(event.try_encode(&by), Err(error), "{event:?}");
@@ -194,9 +218,15 @@ fn what_no_bytes_are_read_as() {
         paste("a\x1b[201~b"),
         report(named(KeyCode::Copy), Press, ""),
         report(named(KeyCode::UpArrow), Press, "a"),
+        report(named(KeyCode::Char('\0')), Press, ""),
+        report(named(KeyCode::Char('\x08')), Press, ""),
+        report(named(KeyCode::Char('\n')), Press, ""),
         report(named(KeyCode::Char('\r')), Press, ""),
         report(private, Release, ""),
         report(private, Press, "a"),
+        shifted(KittyModifiers::NONE, Some('\u{e000}')),
+        shifted(KittyModifiers::SHIFT, None),
+        shifted(KittyModifiers::SHIFT, Some('a')),
         report(ReportedKey::Functional(57358), Press, ""),
         report(ReportedKey::Functional(u32::MAX), Press, ""),
         ExtendedEvent::CursorPosition { row: 0, column: 5 },
@@ -235,6 +265,21 @@ fn what_is_too_long() {
     let key = ReportedKey::Named(KeyCode::Char('a'));
     let typed = report(key, KeyEventKind::Press, &"a".repeat(100));
     refuses(&typed, KITTY, EncodeEventError::TooLong);
+}
+
+#[test]
+fn backspace_has_a_shorter_number() {
+    let key = ReportedKey::Named(KeyCode::Backspace);
+    for (first, number) in [('a', 127), ('\u{e9}', 8)] {
+        let text = format!("{first}{}", "a".repeat(82));
+        let numbers: Vec<_> = text.chars().map(|it| u32::from(it).to_string()).collect();
+        let sent = format!("\x1b[{number};;{}u", numbers.join(":"));
+        is_written(
+            &report(key, KeyEventKind::Press, &text),
+            KITTY,
+            sent.as_bytes(),
+        );
+    }
 }
 
 #[test]
@@ -283,21 +328,26 @@ fn replies_are_read_back() {
         questions: 1,
         ..LEGACY
     };
-    for (row, column) in [(1, 1), (1, 16), (1, 17), (24, 80), (2, 65535)] {
+    for (row, column) in [
+        (1, 1),
+        (1, 16),
+        (1, 17),
+        (1, 256),
+        (1, 257),
+        (24, 80),
+        (2, 65535),
+    ] {
         let private = encode_cursor_position(row, column, true);
         let plain = encode_cursor_position(row, column, false);
         assert_eq!(private, format!("\x1b[?{row};{column}R").as_bytes());
         assert_eq!(plain, format!("\x1b[{row};{column}R").as_bytes());
-        for (bytes, reading) in [
-            (&private, LEGACY),
-            (&private, KITTY),
-            (&plain, KITTY),
-            (&plain, asked),
-        ] {
+        for (bytes, reading) in [(&private, LEGACY), (&private, KITTY), (&plain, asked)] {
             assert_eq!(read(bytes, reading, true), at(row, column));
         }
-        let is_key = row == 1 && column <= 16;
-        assert_eq!(read(&plain, LEGACY, true) != at(row, column), is_key);
+        let is_key = row == 1 && column <= 256;
+        for reading in [LEGACY, KITTY] {
+            assert_eq!(read(&plain, reading, true) != at(row, column), is_key);
+        }
     }
     // Rows and columns count from 1.
     for bytes in [
