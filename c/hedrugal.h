@@ -687,8 +687,8 @@ enum hed_kitty_mod {
 typedef struct hed_key_report {
   uint8_t kind; /* an enum hed_key_event_kind */
   uint8_t modifiers; /* a set of HED_KITTY_MOD_.. */
-  uint16_t key; /* an enum hed_key, or 0 for a key that has no name there */
-  uint32_t detail; /* the code point with HED_KEY_CHAR, the number with HED_KEY_FUNCTION, with key 0 that of Kitty's table of keys */
+  uint16_t key; /* an enum hed_key, or 0 for a key that has no name there, or for text that no key typed */
+  uint32_t detail; /* the code point with HED_KEY_CHAR, the number with HED_KEY_FUNCTION, with key 0 that of Kitty's table of keys, or 0 */
   uint32_t shifted; /* the code point that the key types with Shift, or HED_NO_CODE */
   uint32_t base; /* the code point that the key at this place types on the standard layout (PC-101), or HED_NO_CODE */
 } hed_key_report;

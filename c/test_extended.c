@@ -149,7 +149,7 @@ struct example {
 static const struct example examples[] = {
   { BOTH, TEXT("\033[24;80R\033[20;10R"), LAST, "CursorPosition(24, 80); CursorPosition(20, 10); ", 0 },
   { HED_PROTOCOL_LEGACY, TEXT("\033[1;5R\033[?1;5R"), LAST, "F3 CTRL; CursorPosition(1, 5); ", 0 },
-  { HED_PROTOCOL_KITTY, TEXT("\033[1;5R"), LAST, "CursorPosition(1, 5); ", 0 },
+  { HED_PROTOCOL_KITTY, TEXT("\033[1;5R\033[?1;5R"), LAST, "Key(F3 CTRL); CursorPosition(1, 5); ", 0 },
   { BOTH, TEXT("\033[I\033[O"), MORE, "FocusGained; FocusLost; ", 0 },
   { BOTH, TEXT("\033\033[I"), MORE, "Escape; FocusGained; ", 0 },
   { BOTH, TEXT("\033[24;8"), LAST, "[ ALT; 2; 4; ;; 8; ", 0 },
@@ -228,17 +228,29 @@ static const struct example examples[] = {
   { BOTH, TEXT("\033[57438u\033[57439u"), MORE, "Key(VolumeDown); Key(VolumeUp); ", 0 },
   { BOTH, TEXT("\033[57358u\033[57376u\033[57428u"), MORE, "Key(CapsLock); Key(F13); Key(functional 57428); ", 0 },
   { BOTH, TEXT("\033[97:65:99;2:1;65u\033[97::99;5u"), MORE, "Key(a SHIFT shifted A base c text(A)); Key(a CTRL base c); ", 0 },
-  { BOTH, TEXT("\033[0;;229:230u"), MORE, "Key(U+0000 text(\\xc3\\xa5\\xc3\\xa6)); ", 0 },
+  /* text that no key typed, and the codes of Backspace and Enter */
+  { BOTH, TEXT("\033[0;;229:230u\033[0;1:1u"), MORE, "Key(functional 0 text(\\xc3\\xa5\\xc3\\xa6)); Key(functional 0); ", 0 },
+  { HED_PROTOCOL_LEGACY, TEXT("\033[0u"), MORE, "U+0000; ", 0 },
+  { HED_PROTOCOL_KITTY, TEXT("\033[0u"), MORE, "Key(functional 0); ", 0 },
+  { BOTH, TEXT("\033[8;1:1u\033[10;1:1u"), MORE, "Key(Backspace); Key(Enter); ", 0 },
+  /* Tab with Shift and more, and keys of a letter behind a digit */
+  { BOTH, TEXT("\033[1;6Z\033[;3:3Z\033[Z"), MORE, "Key(Tab SHIFT CTRL); Key(Tab SHIFT ALT Release); Tab SHIFT; ", 0 },
+  { BOTH, TEXT("\033[2D\033[5P\033[8R\033[G"), MORE, "Key(LeftArrow SHIFT); Key(F1 CTRL); Key(F3 SHIFT ALT CTRL); Key(KeyPadBegin); ", 0 },
+  { BOTH, TEXT("\033[9D\033[2G\033[1Z"), MORE, "Csi(9D); Csi(2G); Csi(1Z); ", 0 },
   /* keys behind ESC O with modifiers, and what isn't one */
   { BOTH, TEXT("\033O2P\033O5q\033O0;8M"), MORE, "Key(F1 SHIFT); Key(Numpad1 CTRL); Key(functional 57414 SHIFT ALT CTRL); ", 0 },
+  { BOTH, TEXT("\033O1;5S\033OG"), MORE, "Key(F4 CTRL); Key(KeyPadBegin); ", 0 },
   { BOTH, TEXT("\033O2~\033O9P\033O2E"), MORE, "O ALT; 2; ~; O ALT; 9; P; O ALT; 2; E; ", 0 },
+  { BOTH, TEXT("\033O1;5q"), MORE, "O ALT; 1; ;; 5; q; ", 0 },
   { BOTH, TEXT("\033O2"), MORE, "", 3 },
   { BOTH, TEXT("\033O0;5"), MORE, "", 5 },
   { BOTH, TEXT("\033O2"), LAST, "O ALT; 2; ", 0 },
   /* F3, where no position of the cursor can be meant */
   { BOTH, TEXT("\033[R\033[1;1:1R\033[1;1:3R\033[1;2:1R"), MORE, "Key(F3); Key(F3); Key(F3 Release); Key(F3 SHIFT); ", 0 },
+  /* F3 where no question for it is open */
   { HED_PROTOCOL_LEGACY, TEXT("\033[1;2R\033[1;3R"), MORE, "F3 SHIFT; F3 ALT; ", 0 },
-  { HED_PROTOCOL_KITTY, TEXT("\033[1;2R\033[1;3R"), MORE, "CursorPosition(1, 2); CursorPosition(1, 3); ", 0 },
+  { HED_PROTOCOL_KITTY, TEXT("\033[1;2R\033[1;3R"), MORE, "Key(F3 SHIFT); Key(F3 ALT); ", 0 },
+  { BOTH, TEXT("\033[1;65R\033[1;257R\033[2;2R"), MORE, "Key(F3 CAPS); CursorPosition(1, 257); CursorPosition(2, 2); ", 0 },
   /* rxvt-unicode's keys, and a control sequence with a dollar sign */
   { BOTH, TEXT("\033[23^\033[23@\033[23$"), MORE, "Key(F11 CTRL); Key(F11 SHIFT CTRL); Key(F11 SHIFT); ", 0 },
   { BOTH, TEXT("\033[35~\033[38~\033[35;2~"), MORE, "Key(F21); Key(F24); Key(F21 SHIFT); ", 0 },
@@ -246,11 +258,15 @@ static const struct example examples[] = {
   { BOTH, TEXT("\033[9$"), MORE, "", 4 },
   /* modifiers of modifyOtherKeys up to 256 */
   { BOTH, TEXT("\033[27;9;97~\033[27;257;97~"), MORE, "Key(a SUPER); Csi(27;257;97~); ", 0 },
+  /* with Shift it tells what Shift makes of the key, unless that is a control character */
+  { BOTH, TEXT("\033[27;10;65~\033[27;18;9~"), MORE, "Key(A SHIFT SUPER shifted A); Key(Tab SHIFT HYPER); ", 0 },
   /* ESC before a key that is sent so, and before one that isn't */
   { BOTH, TEXT("\033\033OM\033\033[23^\033\033[38$"), MORE, "Key(functional 57414 ALT); Key(F11 ALT CTRL); Key(F24 SHIFT ALT); ", 0 },
   { BOTH, TEXT("\033\033O2P\033\033[35~"), MORE, "Escape; Key(F1 SHIFT); Key(F21 ALT); ", 0 },
+  { BOTH, TEXT("\033\033O1;5P\033\033[1;6Z"), MORE, "Escape; Key(F1 CTRL); Key(Tab SHIFT ALT CTRL); ", 0 },
+  { BOTH, TEXT("\033\033[2D\033\033OG\033\033[G"), MORE, "Key(LeftArrow SHIFT ALT); Key(KeyPadBegin ALT); Key(KeyPadBegin ALT); ", 0 },
   { BOTH, TEXT("\033\033[97;5:3u\033\033[24;80R"), MORE, "Escape; Key(a CTRL Release); Escape; CursorPosition(24, 80); ", 0 },
-  { HED_PROTOCOL_KITTY, TEXT("\033\033[1;5R\033\033[A"), MORE, "Escape; CursorPosition(1, 5); Key(UpArrow ALT); ", 0 },
+  { HED_PROTOCOL_KITTY, TEXT("\033\033[1;5R\033\033[A"), MORE, "Key(F3 ALT CTRL); Key(UpArrow ALT); ", 0 },
   { HED_PROTOCOL_LEGACY, TEXT("\033\033[1;5R\033\033[A"), MORE, "F3 ALT CTRL; UpArrow ALT; ", 0 },
   { HED_PROTOCOL_LEGACY, TEXT("q\303\251\033[A"), MORE, "q; U+00E9; UpArrow; ", 0 },
   { HED_PROTOCOL_KITTY, TEXT("q\303\251\033[A"), MORE, "q; U+00E9; Key(UpArrow); ", 0 },
@@ -362,6 +378,8 @@ static const struct reading readings[] = {
     TEXT("\033[57414;129:3u"),
     { .kind = HED_KIND_REPORT, .report = KEY(HED_KEY_EVENT_KIND_RELEASE, HED_KITTY_MOD_NUM_LOCK, 0, 57414) },
     "" },
+  { HED_PROTOCOL_KITTY, TEXT("\033[0;;229u"), { .kind = HED_KIND_REPORT, .report = PRESS(0, 0, 0) }, "\303\245" },
+  { HED_PROTOCOL_KITTY, TEXT("\033[0u"), { .kind = HED_KIND_REPORT, .report = PRESS(0, 0, 0) }, "" },
   { HED_PROTOCOL_KITTY, TEXT("\033[57376u"), { .kind = HED_KIND_REPORT, .report = PRESS(0, HED_KEY_FUNCTION, 13) }, "" },
   { HED_PROTOCOL_KITTY, TEXT("\033[27u"), { .kind = HED_KIND_REPORT, .report = PRESS(0, HED_KEY_ESCAPE, 0) }, "" },
   { HED_PROTOCOL_LEGACY,
@@ -498,7 +516,7 @@ static void reads_anew(const hed_extended *other) {
   EXPECT(FEED(&parser, "\033]0;t\007\033[1;9A\033[1;5R\033[M !!") && hed_extended_next(&parser, true, &event) == HED_NEXT_EVENT);
   EXPECT(set_reading(&parser, HED_PROTOCOL_KITTY, true, 0) && hed_extended_waiting_len(&parser) == 18);
   EXPECT(hed_extended_text(&parser, room, 8) == 3 && memcmp(room, "0;t.....", 8) == 0);
-  is_told(&parser, NULL, 0, "Key(UpArrow SUPER); CursorPosition(1, 5); Mouse(1, 1, 2, 0); ");
+  is_told(&parser, NULL, 0, "Key(UpArrow SUPER); Key(F3 CTRL); Mouse(1, 1, 2, 0); ");
   is_told(&parser, TEXT("\033[M"), "");
   EXPECT(hed_extended_waiting_len(&parser) == 3 && hed_extended_waiting(&parser) == HED_WAITING_SEQUENCE);
   EXPECT(set_reading(&parser, HED_PROTOCOL_LEGACY, false, 0));
@@ -521,7 +539,7 @@ static void reads_x10_reports(const hed_extended *other, uint32_t protocol) {
   hed_extended_free(&parser);
 }
 
-/* Each position answers one question, also one that can be no key. While none is open, the row is F3. */
+/* Each position answers one question, also one that can be no key. While none is open, the sequence is F3. */
 static void expects_positions(const hed_extended *other) {
   hed_extended parser = HED_EXTENDED_NONE;
   EXPECT(hed_extended_init_sharing(&parser, HED_PROTOCOL_LEGACY, other));
@@ -543,6 +561,8 @@ static void expects_positions(const hed_extended *other) {
   is_told(&parser, TEXT("\033[1;5R"), "F3 CTRL; ");
   for (int i = 0; i < 300; i++) hed_extended_expect_position(&parser);
   EXPECT(reads_by(&parser, HED_PROTOCOL_LEGACY, false, 255));
+  EXPECT(set_reading(&parser, HED_PROTOCOL_KITTY, false, 1));
+  is_told(&parser, TEXT("\033[1;9R\033[1;9R"), "CursorPosition(1, 9); Key(F3 SUPER); ");
   hed_extended_free(&parser);
 }
 
@@ -1379,7 +1399,10 @@ static const struct written written[] = {
   { HED_PROTOCOL_KITTY, TEXT("\033[13~"), "\033[13;1:1~" },
   { HED_PROTOCOL_KITTY, TEXT("\033[57414u"), "\033[57414;1:1u" },
   { HED_PROTOCOL_KITTY, TEXT("\033[27;5;57344~"), "\033[27;5;57344~" },
-  { HED_PROTOCOL_KITTY, TEXT("\033[1;5R"), "\033[?1;5R" },
+  { HED_PROTOCOL_KITTY, TEXT("\033[0;;229u"), "\033[0;;229u" },
+  { HED_PROTOCOL_KITTY, TEXT("\033[0u"), "\033[0;1:1u" },
+  { HED_PROTOCOL_KITTY, TEXT("\033[1;5R"), "\033[13;5:1~" },
+  { HED_PROTOCOL_KITTY, TEXT("\033[2;5R"), "\033[?2;5R" },
   { HED_PROTOCOL_KITTY, TEXT("\033[0;5R"), "\033[0;5R" },
   { HED_PROTOCOL_LEGACY, TEXT("\033[<4;3;4M"), "\033[<4;3;4M" },
   { HED_PROTOCOL_LEGACY, TEXT("\033[<64;3;4M"), "\033[<64;3;4M" },
