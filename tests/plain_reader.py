@@ -21,9 +21,7 @@ RXVT_HIGH = {str(35 + it): f"f{21 + it}" for it in range(4)}
 TILDE = EDIT | NUMBERED | HIGH | RXVT_HIGH
 URXVT = {it: EDIT[it] for it in "235678"} | NUMBERED | RXVT_HIGH
 URXVT_ENDS = {"^": CTRL, "@": CTRL | SHIFT, "$": SHIFT}
-RXVT_OR_KEYPAD = re.compile(
-    rb"\x1bO[MXEGj-y]|\x1b\[(\d+[$^@]|3[5-8]~|[0-9;:]*Z|[2-8][A-FHP-S]|G)"
-)
+RXVT_OR_KEYPAD = re.compile(rb"\x1bO[MXEGj-y]|\x1b\[(\d+[$^@]|3[5-8]~|[0-9;:]*Z|[2-8][A-FHP-S]|G)")
 SHIFTED = re.compile(rb"\x1b\[(%s)\$" % "|".join(URXVT).encode())
 KEYPAD = {"M": 57414, "X": 57415, "E": "keypadbegin", "G": "keypadbegin"}
 KEYPAD |= dict(zip("jklmno", "multiply add separator subtract decimal divide".split()))

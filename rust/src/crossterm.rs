@@ -458,7 +458,8 @@ fn wait(reader: &mut Option<Reader>, time: Option<Duration>) -> io::Result<bool>
 
 /// Waits for an event, as `crossterm::event::read` does. What crossterm's type can't say is left
 /// out. Keys are read by Kitty's keyboard protocol too, and mouse reports in each form, whatever the
-/// program has turned on. So ESC `[1;5R` is the cursor's position, and no F3.
+/// program has turned on. ESC `[1;5R` is F3 with Ctrl, since nothing here asks for the cursor's
+/// position.
 ///
 /// The first call opens the program's terminal, in raw mode; the program turns on what it wants
 /// of it by crossterm's commands, and calls `enable_raw_mode` before. A signal that ends or stops the

@@ -38,6 +38,7 @@ pub enum ReportedKey {
     /// A key that has a name or types a character.
     Named(KeyCode),
     /// A key for which [`KeyCode`] has no name, by its number in Kitty's table of functional keys.
+    /// The number 0 stands for text that no key typed.
     Functional(u32),
 }
 

@@ -11,23 +11,18 @@ use std::time::{Duration, Instant};
 /// keep the key that [`InputParser`](crate::input::InputParser) reads from them.
 ///
 /// ```
-/// use hedrugal::extended::{ExtendedEvent, ExtendedParser, Protocol};
-/// use hedrugal::input::{InputEvent, KeyCode, KeyEvent, Modifiers};
+/// use hedrugal::extended::{ExtendedParser, KittyModifiers, Protocol};
 ///
-/// let f3 = KeyEvent {
-///     key: KeyCode::Function(3),
-///     modifiers: Modifiers::CTRL,
+/// let held = |protocol| {
+///     let events = ExtendedParser::new(protocol).parse_as_vec(b"\x1b[1;9A", true);
+///     events[0].key().unwrap().modifiers
 /// };
-/// let events = ExtendedParser::new(Protocol::Legacy).parse_as_vec(b"\x1b[1;5R", true);
-/// assert_eq!(events, [ExtendedEvent::Input(InputEvent::Key(f3))]);
-/// let events = ExtendedParser::new(Protocol::Kitty).parse_as_vec(b"\x1b[1;5R", true);
-/// assert_eq!(events, [ExtendedEvent::CursorPosition { row: 1, column: 5 }]);
+/// assert_eq!(held(Protocol::Legacy), KittyModifiers::ALT);
+/// assert_eq!(held(Protocol::Kitty), KittyModifiers::SUPER);
 /// ```
 #[derive(Debug, Clone, Copy, PartialEq, Eq, Hash, Default)]
 pub enum Protocol {
-    /// All entries keep their keys. For programs that leave Kitty's keyboard protocol off. The
-    /// reply to ESC `[6n` may be the entry of an F3: [`ExtendedParser::expect_position`] tells the
-    /// two apart.
+    /// All entries keep their keys. For programs that leave Kitty's keyboard protocol off.
     #[default]
     Legacy,
     /// Entries that report a key, or the position of the cursor, are read as these reports. For

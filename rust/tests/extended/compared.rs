@@ -205,6 +205,10 @@ fn reads_keys_as_the_plain_reader() {
                 "\x1bO0;8",
                 "\x1b\x1bO",
                 "\x1b\x1bO5",
+                "\x1bO1;8",
+                "\x1b[2",
+                "\x1b\x1b[8",
+                "\x1b[;6",
             ] {
                 comparison.check_text(format!("{start}{letter}").as_bytes(), start.len());
             }
@@ -249,7 +253,7 @@ fn reads_positions_as_the_plain_reader() {
                 questions,
                 ..Reading::new(*protocol)
             });
-            for column in 0..=20 {
+            for column in (0..=20).chain(255..=258) {
                 let entry = format!("\x1b[1;{column}R");
                 for text in [
                     entry.clone(),

@@ -37,7 +37,11 @@ pub const REPLIES: &[Example] = &[
     ),
     (
         KITTY,
-        &[(b"\x1b[1;5R\x1b[?1;5R", LAST, "cursor 1 5, cursor 1 5")],
+        &[(
+            b"\x1b[1;5R\x1b[?1;5R",
+            LAST,
+            "report Function(3) CTRL, cursor 1 5",
+        )],
     ),
     (
         BOTH,
@@ -93,7 +97,7 @@ pub const REPLIES: &[Example] = &[
         )],
     ),
     (BOTH, &[(b"\x1b[x", MORE, "csi x")]),
-    (BOTH, &[(b"\x1b[2D", LAST, "csi 2D")]),
+    (BOTH, &[(b"\x1b[9D", LAST, "csi 9D")]),
 ];
 
 pub const STRINGS: &[Example] = &[
@@ -398,7 +402,17 @@ pub const NAMES_AND_FIELDS: &[Example] = &[
         &[(
             b"\x1b[233;5u\x1b[0;;229:230u\x1b[27;5;233~\x1b[0;;229:128512u",
             MORE,
-            r#"report Char('é') CTRL, report Char('\0') NONE text "åæ", report Char('é') CTRL, report Char('\0') NONE text "å😀""#,
+            r#"report Char('é') CTRL, report 0 NONE text "åæ", report Char('é') CTRL, report 0 NONE text "å😀""#,
+        )],
+    ),
+    // 0 is no key, and the codes of some keys are control characters.
+    (KITTY, &[(b"\x1b[0u\x1b[8u", MORE, "report 0 NONE, report Backspace NONE")]),
+    (
+        BOTH,
+        &[(
+            b"\x1b[0;1:1u\x1b[0;9u\x1b[8;1:1u\x1b[10;3:1u\x1b[127;1:1u",
+            MORE,
+            "report 0 NONE, report 0 SUPER, report Backspace NONE, report Enter ALT, report Backspace NONE",
         )],
     ),
     (
@@ -616,7 +630,7 @@ pub const RXVT_AND_KEYPAD_KEYS: &[Example] = &[
     (
         BOTH,
         &[(
-            b"\x1bO0;5P\x1bO0;5Q\x1bO0;5R\x1bO0;5S",
+            b"\x1bO0;5P\x1bO0;5Q\x1bO1;5R\x1bO1;5S",
             MORE,
             "report Function(1) CTRL, report Function(2) CTRL, report Function(3) CTRL, report Function(4) CTRL",
         )],
@@ -653,6 +667,18 @@ pub const RXVT_AND_KEYPAD_KEYS: &[Example] = &[
             MORE,
             "key Char('O') ALT, key Char('0') NONE, key Char(';') NONE, key Char('9') NONE, key Char('P') NONE",
         )],
+    ),
+    // The keypad's keys have no form with a 1.
+    (
+        BOTH,
+        &[
+            (b"\x1bO1;5", MORE, "; 5"),
+            (
+                b"j",
+                MORE,
+                "key Char('O') ALT, key Char('1') NONE, key Char(';') NONE, key Char('5') NONE, key Char('j') NONE",
+            ),
+        ],
     ),
     // ESC isn't joined to a key behind a number that is no row.
     (
@@ -695,18 +721,68 @@ pub const RXVT_AND_KEYPAD_KEYS: &[Example] = &[
             "csi 9^, csi 16@, csi 011^, csi 39^, csi 22$y",
         )],
     ),
+    // Tab with Shift and more, and keys of a letter behind a digit.
+    (
+        BOTH,
+        &[(
+            b"\x1b[1;6Z\x1b[;3Z\x1b[1;9:3Z\x1b[;Z\x1b[Z",
+            MORE,
+            "report Tab SHIFT|CTRL, report Tab SHIFT|ALT, report Tab SHIFT|SUPER Release, report Tab SHIFT, key Tab SHIFT",
+        )],
+    ),
+    (
+        BOTH,
+        &[(
+            b"\x1b[2A\x1b[5E\x1b[8H\x1b[3R\x1b[4S\x1b[G\x1bOG",
+            MORE,
+            "report UpArrow SHIFT, report KeyPadBegin CTRL, report Home SHIFT|ALT|CTRL, report Function(3) ALT, report Function(4) SHIFT|ALT, report KeyPadBegin NONE, report KeyPadBegin NONE",
+        )],
+    ),
+    (
+        BOTH,
+        &[(
+            b"\x1b[1Z\x1b[2;6Z\x1b[9A\x1b[2G\x1b[22A",
+            MORE,
+            "csi 1Z, csi 2;6Z, csi 9A, csi 2G, csi 22A",
+        )],
+    ),
     // The modifiers of modifyOtherKeys are one less than the number, as Kitty's.
     (
         BOTH,
         &[(
             b"\x1b[27;9;97~\x1b[27;256;97~\x1b[27;257;97~\x1b[27;0;97~",
             MORE,
-            "report Char('a') SUPER, report Char('a') SHIFT|ALT|CTRL|SUPER|HYPER|META|CAPS_LOCK|NUM_LOCK, csi 27;257;97~, csi 27;0;97~",
+            "report Char('a') SUPER, report Char('a') SHIFT|ALT|CTRL|SUPER|HYPER|META|CAPS_LOCK|NUM_LOCK shifted 'a', csi 27;257;97~, csi 27;0;97~",
+        )],
+    ),
+    // With Shift the character is what Shift made, unless it is a control character.
+    (
+        BOTH,
+        &[(
+            b"\x1b[27;10;65~\x1b[27;2;233~\x1b[27;5;233~",
+            MORE,
+            "report Char('A') SHIFT|SUPER shifted 'A', report Char('é') SHIFT shifted 'é', report Char('é') CTRL",
+        )],
+    ),
+    (
+        KITTY,
+        &[(
+            b"\x1b[27;6;33~\x1b[27;5;49~\x1b[27;2;9~",
+            MORE,
+            "report Char('!') SHIFT|CTRL shifted '!', report Char('1') CTRL, report Tab SHIFT",
+        )],
+    ),
+    (
+        BOTH,
+        &[(
+            b"\x1b[27;10;9~\x1b[27;10;155~\x1b[27;9;0~",
+            MORE,
+            "report Tab SHIFT|SUPER, report Char('\\u{9b}') SHIFT|SUPER, report 0 SUPER",
         )],
     ),
 ];
 
-// F3 by the letter R, where no position can be meant.
+// F3 by the letter R, where no position is asked for or none can be meant.
 pub const THIRD_FUNCTION_KEYS: &[Example] = &[
     (
         BOTH,
@@ -719,9 +795,9 @@ pub const THIRD_FUNCTION_KEYS: &[Example] = &[
     (
         BOTH,
         &[(
-            b"\x1b[2R\x1b[1;257:1R\x1b[1;1:4R",
+            b"\x1b[9R\x1b[1;257:1R\x1b[1;1:4R",
             MORE,
-            "csi 2R, csi 1;257:1R, csi 1;1:4R",
+            "csi 9R, csi 1;257:1R, csi 1;1:4R",
         )],
     ),
     (
@@ -737,7 +813,15 @@ pub const THIRD_FUNCTION_KEYS: &[Example] = &[
         &[(
             b"\x1b[1R\x1b[1;1R\x1b[1;2R",
             MORE,
-            "report Function(3) NONE, cursor 1 1, cursor 1 2",
+            "report Function(3) NONE, report Function(3) NONE, report Function(3) SHIFT",
+        )],
+    ),
+    (
+        BOTH,
+        &[(
+            b"\x1b[1;17R\x1b[1;256R\x1b[1;257R\x1b[1;0R\x1b[2;5R",
+            MORE,
+            "report Function(3) HYPER, report Function(3) SHIFT|ALT|CTRL|SUPER|HYPER|META|CAPS_LOCK|NUM_LOCK, cursor 1 257, csi 1;0R, cursor 2 5",
         )],
     ),
 ];
@@ -777,6 +861,14 @@ pub const BARE_KEYS: &[Example] = &[
             "key Escape NONE, report Char('a') NONE Release, key Escape NONE, report Function(3) NONE, key Escape NONE, report Function(1) NONE, key Escape NONE, report Function(21) SHIFT",
         )],
     ),
+    (
+        BOTH,
+        &[(
+            b"\x1b\x1bOG\x1b\x1b[G\x1b\x1b[2D\x1b\x1b[1;2Z\x1b\x1bO1;5P",
+            MORE,
+            "report KeyPadBegin ALT, report KeyPadBegin ALT, report LeftArrow SHIFT|ALT, report Tab SHIFT|ALT, key Escape NONE, report Function(1) CTRL",
+        )],
+    ),
     // Of more than one ESC the first two are Escape with Alt.
     (
         BOTH,
@@ -785,9 +877,9 @@ pub const BARE_KEYS: &[Example] = &[
     (
         KITTY,
         &[(
-            b"\x1b\x1b[1;2R",
+            b"\x1b\x1b[1;2R\x1b\x1b[1;300R",
             MORE,
-            "key Escape NONE, cursor 1 2",
+            "report Function(3) SHIFT|ALT, key Escape NONE, cursor 1 300",
         )],
     ),
     (
@@ -846,7 +938,15 @@ pub const EXPECTED_POSITIONS: &[Example] = &[
         &[(
             b"\x1b[1;5R\x1b[1;2R\x1b[1;5R",
             MORE,
-            "cursor 1 5, cursor 1 2, cursor 1 5",
+            "cursor 1 5, cursor 1 2, report Function(3) CTRL",
+        )],
+    ),
+    (
+        KITTY,
+        &[(
+            b"\x1b\x1b[1;5R\x1b[1;1:1R\x1b[1;200R\x1b\x1b[1;5R",
+            MORE,
+            "key Escape NONE, cursor 1 5, report Function(3) NONE, cursor 1 200, report Function(3) ALT|CTRL",
         )],
     ),
 ];

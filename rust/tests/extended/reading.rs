@@ -52,18 +52,21 @@ fn tells_the_reading() {
 // A question is answered once. The next reply that nobody asked for is a key.
 #[test]
 fn expects_each_position_once() {
-    let mut parser = ExtendedParser::new(Protocol::Legacy);
-    assert_eq!(read(&mut parser, b"\x1b[1;5R"), "key Function(3) CTRL");
-    parser.expect_position();
-    parser.expect_position();
-    assert_eq!(questions(&parser), 2);
-    assert_eq!(read(&mut parser, b"\x1b[1;5R"), "cursor 1 5");
-    assert_eq!(questions(&parser), 1);
-    assert_eq!(
-        read(&mut parser, b"\x1b[24;80R\x1b[1;5R"),
-        "cursor 24 80, key Function(3) CTRL"
-    );
-    assert_eq!(questions(&parser), 0);
+    for (protocol, kind) in [(Protocol::Legacy, "key"), (Protocol::Kitty, "report")] {
+        let mut parser = ExtendedParser::new(protocol);
+        let f3 = format!("{kind} Function(3) CTRL");
+        assert_eq!(read(&mut parser, b"\x1b[1;5R"), f3);
+        parser.expect_position();
+        parser.expect_position();
+        assert_eq!(questions(&parser), 2);
+        assert_eq!(read(&mut parser, b"\x1b[1;5R"), "cursor 1 5");
+        assert_eq!(questions(&parser), 1);
+        assert_eq!(
+            read(&mut parser, b"\x1b[24;80R\x1b[1;5R"),
+            format!("cursor 24 80, {f3}")
+        );
+        assert_eq!(questions(&parser), 0);
+    }
 }
 
 // A position that nobody asked for, or that no entry has the bytes of, takes no question below 0.
@@ -144,7 +147,10 @@ fn reads_what_is_buffered_anew() {
     let kitty = Reading::new(Protocol::Kitty);
     parser.feed(b"\x1b[1;5R\x1b[A");
     parser.set_reading(kitty);
-    assert_eq!(read(&mut parser, b""), "cursor 1 5, report UpArrow NONE");
+    assert_eq!(
+        read(&mut parser, b""),
+        "report Function(3) CTRL, report UpArrow NONE"
+    );
     parser.feed(b"\x1b[1;5R\x1b[A");
     parser.set_reading(Reading::new(Protocol::Legacy));
     assert_eq!(

@@ -4,25 +4,37 @@ use crate::port::plain::PlainReader as PortReader;
 use hedrugal::extended::{ExtendedEvent, ExtendedParser, Protocol, Reading};
 use hedrugal::input::{InputParser, KeyCode};
 
-// Under `Protocol::Kitty` an entry is a key report, a cursor position, or what the port reads.
+// Under `Protocol::Kitty` an entry is a key report, or what the port reads.
 fn check_kitty(port: &[ExtendedEvent], kitty: &[ExtendedEvent]) {
     match kitty {
-        [ExtendedEvent::Key(_) | ExtendedEvent::CursorPosition { .. }] => {
-            assert!(port[0].key().is_some());
-        }
+        [ExtendedEvent::Key(_)] => assert!(port[0].key().is_some()),
         events => assert_eq!(events, port),
     }
 }
 
+// While a position is expected, an entry with the bytes of one is that position, and answers the
+// question. Any other is read as without a question. Returns whether it is a position.
+fn check_asked(parser: &mut ExtendedParser, bytes: &[u8], unasked: &[ExtendedEvent]) -> bool {
+    parser.expect_position();
+    let events = parser.parse_as_vec(bytes, false);
+    let is_position = bytes.starts_with(b"\x1b[1;") && bytes.ends_with(b"R");
+    match events[..] {
+        [ExtendedEvent::CursorPosition { row: 1, .. }] => assert!(is_position, "{bytes:?}"),
+        _ => assert_eq!(events, unasked, "{bytes:?}"),
+    }
+    let questions = u8::from(!is_position);
+    assert_eq!(parser.reading().questions, questions, "{bytes:?}");
+    is_position
+}
+
 // Each entry is read as `InputParser` reads it, or under `Protocol::Kitty` as the plain reader
-// does. While a position is expected, an entry with the bytes of one is that position under
-// `Protocol::Legacy` too, and answers the question. The start of a paste alone has no event.
+// does. The start of a paste alone has no event.
 #[test]
 fn reads_each_entry() {
     let mut plain = InputParser::new();
     let mut port = ExtendedParser::new(Protocol::Legacy);
     let mut kitty = ExtendedParser::new(Protocol::Kitty);
-    let mut asked = ExtendedParser::new(Protocol::Legacy);
+    let mut asked = [Protocol::Legacy, Protocol::Kitty].map(ExtendedParser::new);
     let mut reader = PlainReader::new(Reading::new(Protocol::Kitty));
     let entries: Vec<_> = (0..).map_while(|place| plain.entry(place)).collect();
     assert_eq!(entries.len(), PortReader::new().row_count());
@@ -36,18 +48,12 @@ fn reads_each_entry() {
         let reported = kitty.parse_as_vec(&bytes, false);
         assert_eq!(reported, reader.read(&bytes, false).0, "{bytes:?}");
         check_kitty(&wanted, &reported);
-        asked.expect_position();
-        let is_position = matches!(reported[..], [ExtendedEvent::CursorPosition { .. }]);
-        let expected = if is_position { &reported } else { &wanted };
-        assert_eq!(asked.parse_as_vec(&bytes, false), *expected, "{bytes:?}");
-        let questions = u8::from(!is_position);
-        assert_eq!(asked.reading().questions, questions, "{bytes:?}");
-        positions += usize::from(is_position);
         let left = plain.reset();
-        assert_eq!(
-            (port.reset(), kitty.reset(), asked.reset()),
-            (left, left, left)
-        );
+        for (parser, unasked) in asked.iter_mut().zip([&wanted, &reported]) {
+            positions += usize::from(check_asked(parser, &bytes, unasked));
+            assert_eq!(parser.reset(), left);
+        }
+        assert_eq!((port.reset(), kitty.reset()), (left, left));
     }
-    assert_eq!(positions, 16);
+    assert_eq!(positions, 32);
 }

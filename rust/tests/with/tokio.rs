@@ -112,14 +112,10 @@ fn reads_by_kittys_protocol_once_a_reply_came() {
         ..Modes::default()
     };
     let mut decoder = EventDecoder::new(modes).expect("memory is granted");
-    let events = decode(&mut decoder, b"\x1b[1;5R\x1b[?2u\x1b[1;5R", false);
+    let events = decode(&mut decoder, b"\x1b[1;9A\x1b[?2u\x1b[1;9A", false);
     assert_eq!(
         names(&events),
-        [
-            "ctrl+f3",
-            "Input(KeyboardFlags(2))",
-            "Input(CursorPosition { row: 1, column: 5 })"
-        ]
+        ["alt+up", "Input(KeyboardFlags(2))", "super+up"]
     );
 }
 
