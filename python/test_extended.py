@@ -142,7 +142,7 @@ CASES = {
     "control sequences": [
         (b"\x1b[?62;22c", [Csi(b"?62;22c")]),
         (b"\x1b[?2026;2$y", [Csi(b"?2026;2$y")]),
-        (b"\x1b[2D", [Csi(b"2D")]),
+        (b"\x1b[9D\x1b[2G\x1b[1Z", [Csi(b"9D"), Csi(b"2G"), Csi(b"1Z")]),
         (
             b"\x1b[55296u\x1b[97;257u\x1b[97;1:4u",
             [Csi(b"55296u"), Csi(b"97;257u"), Csi(b"97;1:4u")],
@@ -215,12 +215,14 @@ CASES = {
         (b"\x1b[97;256u", [KeyReport("a", KittyModifiers(255))]),
         (b"\x1b[27;5;233~", [KeyReport("é", CTRL)]),
         (
-            b"\x1b[27;9;97~\x1b[27;256;97~",
+            b"\x1b[27;9;97~\x1b[27;10;65~\x1b[27;10;9~",
             [
                 KeyReport("a", KittyModifiers.SUPER),
-                KeyReport("a", KittyModifiers(255)),
+                KeyReport("A", SHIFT | KittyModifiers.SUPER, shifted="A"),
+                KeyReport(KeyCode.TAB, SHIFT | KittyModifiers.SUPER),
             ],
         ),
+        (b"\x1b[27;256;97~", [KeyReport("a", KittyModifiers(255), shifted="a")]),
     ],
     "alternates and text": [
         (b"\x1b[97:65:99;2:1;65u", [KeyReport("a", SHIFT, shifted="A", base="c", text="A")]),
@@ -228,7 +230,7 @@ CASES = {
             b"\x1b[97::99;5u\x1b[97:65;2u",
             [KeyReport("a", CTRL, base="c"), KeyReport("a", SHIFT, shifted="A")],
         ),
-        (b"\x1b[0;;229:128512u", [KeyReport("\0", text="å\U0001f600")]),
+        (b"\x1b[0;;229:128512u\x1b[0;1:1u", [KeyReport(0, text="å\U0001f600"), KeyReport(0)]),
         (
             b"\x1b[97:0:1114111;1:3u",
             [KeyReport("a", kind=RELEASE, shifted="\0", base="\U0010ffff")],
@@ -247,6 +249,20 @@ CASES = {
             [KeyReport(57414), KeyReport(57415), KeyReport(KeyCode.KEY_PAD_BEGIN)],
         ),
         (b"\x1bOj\x1bOy", [KeyReport(KeyCode.MULTIPLY), KeyReport(KeyCode.NUMPAD_9)]),
+        (b"\x1bOG\x1b[G", [KeyReport(KeyCode.KEY_PAD_BEGIN)] * 2),
+        (b"\x1b[8;1:1u\x1b[10;1:1u", [KeyReport(KeyCode.BACKSPACE), KeyReport(KeyCode.ENTER)]),
+        (
+            b"\x1b[2D\x1b[5P\x1b[8R",
+            [
+                KeyReport(KeyCode.LEFT_ARROW, SHIFT),
+                KeyReport(Function(1), CTRL),
+                KeyReport(Function(3), KittyModifiers(7)),
+            ],
+        ),
+        (
+            b"\x1b[1;6Z\x1b[;3:3Z",
+            [KeyReport(KeyCode.TAB, SHIFT | CTRL), KeyReport(KeyCode.TAB, SHIFT | ALT, RELEASE)],
+        ),
     ],
     "keypad and F1 to F4 with modifiers": [
         (
@@ -257,6 +273,8 @@ CASES = {
                 KeyReport(57414, KittyModifiers(7)),
             ],
         ),
+        (b"\x1bO1;5S", [KeyReport(Function(4), CTRL)]),
+        (b"\x1bO1;5q", [KeyEvent("O", Modifiers.ALT), *typed("1;5q")]),
         (b"\x1bO2~", [KeyEvent("O", Modifiers.ALT), *typed("2~")]),
         (b"\x1bO9P", [KeyEvent("O", Modifiers.ALT), *typed("9P")]),
     ],
@@ -269,6 +287,10 @@ CASES = {
                 KeyReport(Function(3), kind=RELEASE),
                 KeyReport(Function(3), SHIFT),
             ],
+        ),
+        (
+            b"\x1b[1;65R\x1b[1;257R",
+            [KeyReport(Function(3), KittyModifiers.CAPS_LOCK), CursorPosition(1, 257)],
         ),
     ],
     "keys of rxvt-unicode": [
@@ -295,6 +317,14 @@ CASES = {
         ),
         (b"\x1b\x1bO2P", [KeyEvent(KeyCode.ESCAPE), KeyReport(Function(1), SHIFT)]),
         (b"\x1b\x1b[35~", [KeyReport(Function(21), ALT)]),
+        (
+            b"\x1b\x1b[2D\x1b\x1b[G\x1b\x1b[1;6Z",
+            [
+                KeyReport(KeyCode.LEFT_ARROW, SHIFT | ALT),
+                KeyReport(KeyCode.KEY_PAD_BEGIN, ALT),
+                KeyReport(KeyCode.TAB, SHIFT | ALT | CTRL),
+            ],
+        ),
         (b"\x1b\x1b[97;5:3u", [KeyEvent(KeyCode.ESCAPE), KeyReport("a", CTRL, RELEASE)]),
         (b"\x1b\x1b[24;80R", [KeyEvent(KeyCode.ESCAPE), CursorPosition(24, 80)]),
     ],
@@ -331,6 +361,7 @@ CASES = {
 ENTRY_CASES = [
     (b"\x1b[97;5u", [KeyEvent("a", Modifiers.CTRL)], [KeyReport("a", CTRL)]),
     (b"\x1b[27u", [KeyEvent("\x1b")], [KeyReport(KeyCode.ESCAPE)]),
+    (b"\x1b[0u", [KeyEvent("\0")], [KeyReport(0)]),
     (
         b"\x1b[1;9A",
         [KeyEvent(KeyCode.UP_ARROW, Modifiers.ALT)],
@@ -338,7 +369,7 @@ ENTRY_CASES = [
     ),
     (b"\x1b[A", [KeyEvent(KeyCode.UP_ARROW)], [KeyReport(KeyCode.UP_ARROW)]),
     (b"\x1b[3;2~", [KeyEvent(KeyCode.DELETE, Modifiers.SHIFT)], [KeyReport(KeyCode.DELETE, SHIFT)]),
-    (b"\x1b[1;5R", [KeyEvent(Function(3), Modifiers.CTRL)], [CursorPosition(1, 5)]),
+    (b"\x1b[1;5R", [KeyEvent(Function(3), Modifiers.CTRL)], [KeyReport(Function(3), CTRL)]),
     (
         b"\x1b\x1b[97;5u",
         [KeyEvent("a", Modifiers.ALT | Modifiers.CTRL)],
@@ -347,7 +378,7 @@ ENTRY_CASES = [
     (
         b"\x1b\x1b[1;5R",
         [KeyEvent(Function(3), Modifiers.ALT | Modifiers.CTRL)],
-        [KeyEvent(KeyCode.ESCAPE), CursorPosition(1, 5)],
+        [KeyReport(Function(3), ALT | CTRL)],
     ),
     (b"\x1b[2$", [KeyEvent(KeyCode.INSERT, Modifiers.SHIFT)], [KeyReport(KeyCode.INSERT, SHIFT)]),
     (b"\x1bOP", [KeyEvent(Function(1))], [KeyEvent(Function(1))]),
@@ -360,6 +391,7 @@ RESTS = [
     (b"\x1b[?62;", "[?62;"),
     (b"\x1bO2", "O2"),
     (b"\x1bO0;", "O0;"),
+    (b"\x1bO1;5", "O1;5"),
     (b"\x1b[9$", "[9$"),
     (b"\x1b[[", "[["),
     (b"\x1b]", "]"),
@@ -463,9 +495,8 @@ def key_entries():
 
 
 def test_each_entry_of_the_table(legacy, kitty):
-    """With LEGACY each entry keeps its key. With KITTY it may be a report, and of few entries the
-    cursor's position."""
-    kinds = {KeyEvent: 0, KeyReport: 0, CursorPosition: 0}
+    """With LEGACY each entry keeps its key. With KITTY it may be a report."""
+    kinds = {KeyEvent: 0, KeyReport: 0}
     for entry in key_entries():
         wanted = KeyEvent(entry.key, entry.modifiers)
         assert legacy.parse(entry.bytes, False) == [wanted]
@@ -578,7 +609,7 @@ def test_what_is_buffered_is_read_anew(legacy):
     legacy.feed(b"\x1b[1;9A\x1b[1;5R\x1b[M !!")
     assert legacy.next_event() == KeyEvent(KeyCode.UP_ARROW, Modifiers.ALT)
     legacy.reading = Reading(Protocol.KITTY, x10_mouse=True)
-    assert [*legacy] == [CursorPosition(1, 5), MouseEvent(1, 1, MouseButtons.LEFT)]
+    assert [*legacy] == [KeyReport(Function(3), CTRL), MouseEvent(1, 1, MouseButtons.LEFT)]
     assert legacy.parse(b"\x1b[M") == []
     assert_rest(legacy, 3, Waiting.SEQUENCE)
     legacy.reading = Reading(Protocol.LEGACY)
@@ -624,22 +655,22 @@ def test_x10_beginnings(parser):
         assert parser.flush() == [KeyEvent(text[0], Modifiers.ALT), *typed(text[1:])]
 
 
-def test_expected_positions(legacy):
+def test_expected_positions(parser):
     """Each position answers one question, also one that needs none. The next is F3 again."""
-    asked, third = b"\x1b[1;5R", KeyEvent(Function(3), Modifiers.CTRL)
-    position = CursorPosition(1, 5)
-    assert legacy.parse(asked) == [third]
-    legacy.expect_position()
-    legacy.expect_position()
-    assert legacy.reading.questions == 2
-    assert legacy.parse(asked[:3]) == []
-    assert legacy.parse(asked[3:] + asked * 2) == [position, position, third]
-    assert legacy.reading.questions == 0
-    legacy.expect_position()
-    assert legacy.parse(b"\x1b[24;80R" + asked) == [CursorPosition(24, 80), third]
-    legacy.expect_position()
+    asked, position = b"\x1b[1;5R", CursorPosition(1, 5)
+    (third,) = parser.parse(asked)
+    assert key_report(third) == KeyReport(Function(3), CTRL)
+    parser.expect_position()
+    parser.expect_position()
+    assert parser.reading.questions == 2
+    assert parser.parse(asked[:3]) == []
+    assert parser.parse(asked[3:] + asked * 2) == [position, position, third]
+    assert parser.reading.questions == 0
+    parser.expect_position()
+    assert parser.parse(b"\x1b[24;80R" + asked) == [CursorPosition(24, 80), third]
+    parser.expect_position()
     wanted = [KeyReport(Function(3)), KeyEvent(KeyCode.ESCAPE), position, third]
-    assert legacy.parse(b"\x1b[R\x1b" + asked * 2) == wanted
+    assert parser.parse(b"\x1b[R\x1b" + asked * 2) == wanted
 
 
 def test_forgotten_positions(legacy):
@@ -1018,7 +1049,7 @@ def test_nothing_else_is_refused(kitty):
 
 
 def test_keys_without_bytes():
-    for key in (KeyCode.COPY, Function(0), Function(36), 0, 57343, 63744, 0xFFFFFFFF):
+    for key in (KeyCode.COPY, Function(0), Function(36), 1, 57343, 63744, 0xFFFFFFFF):
         with pytest.raises(EncodeError, match="has no bytes under these flags"):
             KeyReport(key).encode(ALL)
         with pytest.raises(EncodeError, match="has no bytes"):

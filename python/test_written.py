@@ -191,9 +191,9 @@ def texts():
     yield from (entry.bytes for entry in table)
     yield from (b"\x1b" + entry.bytes for entry in itertools.islice(table, 0, None, 7))
     yield from (bytes([first, second]) for first in b"\x1ba\xc3\xff" for second in range(256))
-    numbers = (b"", b"1", b"27", b"97", b"57358", b"57427", b"0097", b"1114111")
+    numbers = (b"", b"0", b"1", b"27", b"97", b"57358", b"57427", b"0097", b"1114111")
     for first, second, last in itertools.product(
-        numbers, (b"", b"1", b"5:2", b"300"), b"AEHPRSu~cMt"
+        numbers, (b"", b"1", b"5:2", b"300"), b"AEHPRSZu~cMt"
     ):
         yield b"\x1b[%b;%b%c" % (first, second, last)
         yield b"\x1b[%b;%b;98:99%c" % (first, second, last)
@@ -201,7 +201,9 @@ def texts():
     for code, last in itertools.product(range(200), b"Mm"):
         yield b"\x1b[<%d;3;4%c" % (code, last)
         yield b"\x1b[%d;3;4M" % code
-    yield from (b"\x1bO" + bytes(letters) for letters in itertools.product(b"0;258PjMX", repeat=2))
+    yield from (b"\x1bO" + bytes(letters) for letters in itertools.product(b"01;258PjMX", repeat=2))
+    yield from (b"\x1b[%d%c" % (number, last) for number in range(10) for last in b"ADGPRSZ")
+    yield from (b"\x1b[27;%d;%d~" % it for it in itertools.product((2, 5, 10), (0, 8, 65, 57344)))
     yield from (b"\x1b[%d%c" % (number, last) for number in range(40) for last in b"^@$")
     yield from (b"\x1b[[" + bytes([letter]) for letter in range(64, 96))
     yield from (

@@ -204,7 +204,8 @@ class KittyModifiers(_Flags):
     # numbers.txt: end
 
 
-# The key of a report: a key that has no name is its number in Kitty's table of functional keys.
+# The key of a report: a key that has no name is its number in Kitty's table of functional keys. The
+# number 0 stands for text that no key typed.
 ReportedKey = Union[Key, int]
 
 
@@ -1275,8 +1276,9 @@ class ExtendedParser(_EventParser[ExtendedEvent]):
             ...     [event] = parser.parse(b"\x1b[?1u")
             ...     if isinstance(event, KeyboardFlags):
             ...         parser.reading = Reading(Protocol.KITTY)
-            ...     parser.parse(b"\x1b[1;2R"), parser.protocol
-            ([CursorPosition(row=1, column=2)], Protocol.KITTY)
+            ...     [event] = parser.parse(b"\x1b[1;9A")
+            ...     event.modifiers, parser.protocol
+            (KittyModifiers.SUPER, Protocol.KITTY)
 
         To assign raises TypeError for what is no Reading, and ValueError if questions is none of 0
         to 255. The reading is that from before then."""
