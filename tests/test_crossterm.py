@@ -69,9 +69,10 @@ RULES = [
     ("ESC is Escape with Alt after ESC", r"\033\033", "\033[27;3u"),
     ("BS is Backspace", r"\033\[8u", "\x7f"),
     ("LF is Enter", r"\033\[10u", "\r"),
+    ("the number 0 is text without a key", r"\033\[0u", []),
     (
         "a control character is the key that sends it",
-        r"\033\[([0-7]|11|12|1[4-9]|2[0-689]|3[01])u",
+        r"\033\[([1-7]|11|12|1[4-9]|2[0-689]|3[01])u",
         lambda it: chr(int(it[1])),
     ),
     ("a letter in upper case has SHIFT", r"\033\[65(;1)?u", "A"),
@@ -137,7 +138,12 @@ RULES = [
         lambda it: [f"Delete CONTROL {KIND[it[1]]} NONE"],
     ),
     (
-        "crossterm takes F3 with a kind for the cursor's position",
+        "crossterm takes F3 by a letter for the cursor's position",
+        r"\033\[1;(\d+)R",
+        lambda it: f"\033[13;{it[1]}~",
+    ),
+    (
+        "crossterm takes F3 by a letter for the cursor's position",
         r"\033\[1;(1|5):([123])R",
         lambda it: [f"F(3) {'CONTROL' if it[1] == '5' else 'NONE'} {KIND[it[2]]} NONE"],
     ),

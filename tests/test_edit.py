@@ -186,10 +186,9 @@ TYPED = {
         [*AFTER_G, "text: fi|"],
     ),
     "events that are no presses": ([FLAGS + b"abg" + OTHERS + b"g"], TOP_OF_AB),
-    # By Kitty's protocol it is a position of the cursor.
-    "F3 before and after the flags": (
-        [b"\033[1;5R" + FLAGS + b"\033[1;5R"],
-        ["unbound: ctrl+f3"],
+    "a key before and after the flags": (
+        [b"\033[1;9A" + FLAGS + b"\033[1;9A"],
+        ["unbound: alt+up", "unbound: super+up"],
     ),
 }
 

@@ -34,8 +34,8 @@ EXTENDED_STREAM = b"q\x1b[24;80R\x1b\x1b[I\x1b]11;#fff\a\x1b[1;9A\x1b[97;5:3u\x1
 EXTENDED_STREAM += b"\x1b]a\rb\x1b[M !!\x1b[?62;4c\xc3\xa9"
 # The beginnings, and what each is called that begins no entry of the table.
 BEGINNINGS = b"\x1b[? \x1b]11 \x1b]l\x1b \x1bP@ \x1bP1$ \x1b_ \x1b[[ \x1bO2 \x1b\x1b]1 \x1b\x1b[?1"
-BEGINNINGS = BEGINNINGS.split()
-BEGUN = ["csi", "osc", "osc", "dcs", "dcs", "apc", "report", "report", "osc", "csi"]
+BEGINNINGS = [*BEGINNINGS.split(), b"\x1bO0"]
+BEGUN = "csi osc osc dcs dcs apc report report osc csi report".split()
 SECONDS = 60
 # What each answer, also a refusal, tells the browser.
 POLICY = """default-src 'none'; script-src 'self'; style-src 'self'; img-src 'self';
@@ -317,8 +317,8 @@ def test_queries_for_encodings(client):
     status, headers, body = client.ask("GET", "/api/encode?name=<script>alert(1)</script>")
     assert (status, headers["Content-Type"]) == (400, "text/plain; charset=utf-8")
     assert body == b"no key has this name, at byte 1: 'script>alert(1)</script>'\n"
-    says = client.ask("GET", "/api/encode?name=ctrl%2Bx+shift%2B1")[2]
-    assert says == b"shift with a character that isn't a letter, at byte 13: '1'\n"
+    says = client.ask("GET", "/api/encode?name=ctrl%2Bx+shift%2B!")[2]
+    assert says == b"shift with a sign that shows it, at byte 13: '!'\n"
 
 
 def test_one_connection(client):
@@ -395,7 +395,7 @@ READ = [
     (b"\x1b[1;9A", ["key UpArrow ALT"], ["key UpArrow ALT"], ["report UpArrow SUPER press"]),
     (b"\x1b[24;80R", TYPED, ["cursor 24 80"], ["cursor 24 80"]),
     (b"\x1b[27u", ["key U+001B NONE"], ["key U+001B NONE"], ["report Escape NONE press"]),
-    (b"\x1b[1;5R", ["key F3 CTRL"], ["key F3 CTRL"], ["cursor 1 5"]),
+    (b"\x1b[1;5R", ["key F3 CTRL"], ["key F3 CTRL"], ["report F3 CTRL press"]),
     (b"\x1b[1;5A", ["key UpArrow CTRL"], ["key UpArrow CTRL"], ["report UpArrow CTRL press"]),
     (b"q\x03\xc3\xa9", KEYS, KEYS, KEYS),
 ]

@@ -149,7 +149,8 @@ with Terminal(kitty=flags, modify_other_keys=2, enter=enter, leave=leave) as ter
     program.ends_with(
         "Function(number=3)",
         "KeyboardFlags(flags=KittyKeyboardFlags.DISAMBIGUATE_ESCAPE_CODES, unnamed=0)",
-        "CursorPosition(row=1, column=5)",
+        "KeyReport(key=Function(number=3), modifiers=KittyModifiers.CTRL, "
+        "kind=KeyEventKind.PRESS, shifted=None, base=None, text='')",
         "q",
     )
     assert program.output.endswith(off + b"\033[?1049l")

@@ -484,8 +484,7 @@ def test_position(start, has_kitty):
     relay.check_keys(b"\033[1;5R", b"\033[1;5R")
     relay.passes(b"\033[?6n", b"\033[?6n")
     relay.check_keys(b"\033[?1;5R", b"\033[?1;5R")
-    if not has_kitty:
-        relay.check_keys(b"\033[1;5R", b"\033[13;5~")
+    relay.check_keys(b"\033[1;5R", b"\033[13;5~")
     relay.end()
 
 

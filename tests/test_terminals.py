@@ -240,8 +240,8 @@ def test_pastes(terminal):
 
 @pytest.mark.parametrize("terminal", TERMINALS)
 def test_replies(terminal):
-    """Replies aren't keys, but for PuTTY's name, its answer to ENQ. By legacy rules the cursor's
-    position in the first row is F3, unless the program asked for it. dvtm counts rows from 0."""
+    """Replies aren't keys, but for PuTTY's name, its answer to ENQ. The cursor's position in the
+    first row is F3, unless the program asked for it. dvtm counts rows from 0."""
     from hedrugal import CursorPosition
 
     for line in FILES[terminal][1]:
@@ -250,8 +250,8 @@ def test_replies(terminal):
                 events, _ = read(reader, line.bytes)
                 keys = [it[1] for it in map(plain_press, events) if it]
                 is_third = all(it.endswith("f3") for it in keys) and b"R" in line.bytes
-                assert not keys or is_third and reader == "legacy", (line, reader, keys)
-                if line.what == "DSR6" and reader != "legacy" and terminal != "dvtm":
+                assert not keys or is_third and reader != "asked", (line, reader, keys)
+                if line.what == "DSR6" and reader == "asked" and terminal != "dvtm":
                     assert any(isinstance(it, CursorPosition) for it in events), line
 
 

@@ -88,7 +88,7 @@ PROTOCOLS = {
 # what may end them. The end of a string may come after the rest of its opening.
 BEGUN = {Csi: "csi", Osc: "osc", Dcs: "dcs", Apc: "apc", KeyReport: "report"}
 STRINGS = (b"]0;\a", b"P>|\x1b\\", b"P@kitty-\x1b\\", b"P0$r\x1b\\", b"_Ga=\x1b\\")
-ENDINGS = [b"\\", b"\x1b\\", b"\a", b"A", b"P", b"2P"] + [
+ENDINGS = [b"\\", b"\x1b\\", b"\a", b"A", b"P", b"2P", b";2P"] + [
     it[at:] for it in STRINGS for at in range(len(it) - 1)
 ]
 

@@ -71,6 +71,7 @@ fn reports_of_kittys_protocol() {
         Protocol::Kitty,
         &[
             (b"\x1b[97;9u", KeyCode::Char('a'), KeyModifiers::SUPER),
+            (b"\x1b[1;5R", KeyCode::F(3), CONTROL),
             (
                 b"\x1b[97;49u",
                 KeyCode::Char('a'),
