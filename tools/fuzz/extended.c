@@ -39,11 +39,12 @@ static bool is_key(const event *it) {
   return it->kind == HED_KIND_KEY || it->kind == HED_KIND_REPORT;
 }
 
-/* What holds for every report: it says what happened to a key, which has a name or a number in Kitty's table. */
+/* What holds for every report: it says what happened to a key, which has a name or a number in Kitty's table, or is none and has 0. */
 static void check_report(const hed_key_report *report) {
   uint8_t name[22];
   HOLDS(report->kind >= HED_KEY_EVENT_KIND_PRESS && report->kind <= HED_KEY_EVENT_KIND_RELEASE);
-  HOLDS(report->key == 0 ? report->detail >= 57344 && report->detail <= 63743 : hed_key_name(report->key, name, sizeof name) > 0);
+  bool has_number = report->detail == 0 || (report->detail >= 57344 && report->detail <= 63743);
+  HOLDS(report->key == 0 ? has_number : hed_key_name(report->key, name, sizeof name) > 0);
   HOLDS((report->shifted <= 0x10ffff || report->shifted == HED_NO_CODE) && (report->base <= 0x10ffff || report->base == HED_NO_CODE));
 }
 
@@ -174,13 +175,15 @@ static bool send_and_read(const event *key, const uint8_t *of_key, event *read, 
   return true;
 }
 
-/* What was read has the names that the numbers of keys have, and nothing that isn't sent. So it is read back whole. */
+/* What was read has the names that the numbers of keys have, and nothing that isn't sent. So it is read back whole. A character with the
+ * number of a functional key is read as that key, of which no other characters are sent. */
 static void read_back(const event *key, const uint8_t *of_key) {
   static uint8_t of_first[SEQUENCE_MAX], of_second[SEQUENCE_MAX];
   event first, second;
   if (!send_and_read(key, of_key, &first, of_first)) return;
   HOLDS(send_and_read(&first, of_first, &second, of_second));
-  HOLDS(same_extended_event(&first, &second));
+  bool is_functional = key->report.key == HED_KEY_CHAR && key->report.detail >= 57344 && key->report.detail <= 63743;
+  HOLDS(is_functional || same_extended_event(&first, &second));
 }
 
 /* The press of a key is its own press, if it has one, and its locks change nothing. A second one is there only beside the first. */
@@ -189,7 +192,7 @@ static void check_press(const event *key, const uint8_t *of_key) {
   hed_key_press press, second, again;
   bool has = hed_key_of_report(&report, of_key, key->text_len, &press);
   HOLDS(has || report.kind == HED_KEY_EVENT_KIND_RELEASE || report.key == 0 || report.key != HED_KEY_CHAR || key->text_len > 1);
-  HOLDS(!hed_key_second(&report, &second) || (has && report.key == HED_KEY_CHAR && report.detail >= 0x80 && report.base != HED_NO_CODE));
+  HOLDS(!hed_key_second(&report, &second) || (has && may_have_second(&report)));
   if (!has) return;
   report.modifiers ^= HED_KITTY_MOD_CAPS_LOCK;
   HOLDS(hed_key_of_report(&report, of_key, key->text_len, &again) && memcmp(&again.detail, &press.detail, sizeof press.detail) == 0);

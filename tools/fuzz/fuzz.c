@@ -207,6 +207,13 @@ bool is_scalar(uint32_t code) {
   return code <= 0x10ffff && (code < 0xd800 || code > 0xdfff);
 }
 
+bool may_have_second(const hed_key_report *report) {
+  bool is_placed = report->detail >= 0x80 && report->base != HED_NO_CODE;
+  bool is_sent_by_others = report->detail == '\b' || report->detail == '\n';
+  bool is_character = report->key == HED_KEY_CHAR && (is_placed || is_sent_by_others);
+  return report->kind != HED_KEY_EVENT_KIND_RELEASE && (is_character || report->shifted != HED_NO_CODE);
+}
+
 static void check_key(const hed_event *event) {
   HOLDS(event->key >= HED_KEY_CHAR && event->key <= HED_KEY_INTERNAL_PASTE_END && event->key != HED_KEY_INTERNAL_PASTE_START);
   if (event->key == HED_KEY_CHAR) HOLDS(is_scalar(event->detail));

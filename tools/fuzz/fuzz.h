@@ -106,6 +106,9 @@ bool is_escape(const uint8_t *waiting, size_t len);
 /* Whether a code point is a character of Unicode. */
 bool is_scalar(uint32_t code);
 
+/* Whether a report may have a second press: its key's place or what it types with Shift is told, or another key may have sent its character. */
+bool may_have_second(const hed_key_report *report);
+
 /* Checks that a parser, which had nothing more to give while more bytes may come, has these bytes waiting, and tells their kind. */
 void check_rest(hed_parser *parser, const uint8_t *waiting, size_t len);
 

@@ -207,9 +207,8 @@ static void check_presses(const told_key *key) {
     HOLDS(hed_key_of_report(&own, NULL, 0, &again) && again.key == press.key && again.held == press.held && again.detail == press.detail);
     note(0x90000u | press.key, press.held);
   }
-  bool has_second = hed_key_second((hed_key_report *)report.at, &again), is_beyond_ascii = key->report.detail >= 0x80;
-  HOLDS(!has_second || (!is_bad_report(&without_flags) && key->report.key == HED_KEY_CHAR && is_beyond_ascii));
-  HOLDS(!has_second || (key->report.base != HED_NO_CODE && key->report.kind != HED_KEY_EVENT_KIND_RELEASE));
+  bool has_second = hed_key_second((hed_key_report *)report.at, &again);
+  HOLDS(!has_second || (!is_bad_report(&without_flags) && may_have_second(&key->report)));
   HOLDS(requests == 0);
   refuse_request(0);
   note(0xa0000u | has_second, press.held);
