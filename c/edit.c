@@ -297,14 +297,14 @@ static bool handle_text(edit *it, size_t len) {
   return len == 0 || (take_outcomes(it, false, false) && insert_event_text(it, len));
 }
 
-/* A report that has a press but for its text types several characters. */
+/* A report without a press that has one with a text of one character types several characters. */
 static bool handle_key(edit *it, const hed_extended_event *event) {
   uint8_t typed[REPORT_ROOM];
   size_t len = event->kind == HED_KIND_REPORT ? event->text_len : 0;
   hed_key_press press;
   if (len > 0) hed_extended_text(&it->parser, typed, sizeof typed);
   if (hed_key_of_report(&event->report, typed, len, &press)) return handle_press(it, &event->report, &press);
-  if (hed_key_of_report(&event->report, NULL, 0, &press)) return handle_text(it, len);
+  if (hed_key_of_report(&event->report, (const uint8_t *)"a", 1, &press)) return handle_text(it, len);
   return true;
 }
 

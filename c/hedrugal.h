@@ -995,9 +995,10 @@ uint32_t hed_encode_device_attributes(const uint16_t *numbers, size_t count, uin
 /* The press of a key: the key and the modifiers held with it, the same however the terminal reports the key. A program compares presses,
  * field by field, and looks up by them what a key does.
  *
- * Letters, digits and signs are the characters that they type: Shift with a is HED_KEY_CHAR with 'A'. So HED_KITTY_MOD_SHIFT is held only
- * with keys that have a name, with the space, and with a to z where CTRL, SUPER, HYPER or META is held too. The keypad and the arrows in
- * application mode are the keys of the main block, and a control character is its key, or a character with HED_KITTY_MOD_CTRL. */
+ * Letters, digits and signs are the characters that they type: Shift with a is HED_KEY_CHAR with 'A'. Where CTRL, SUPER, HYPER or META is
+ * held too, a letter that has a capital keeps HED_KITTY_MOD_SHIFT. So do digits and signs, where the terminal doesn't tell what they type
+ * with Shift. The keypad and the arrows in application mode are the keys of the main block, and a control character is its key, or a
+ * character with HED_KITTY_MOD_CTRL. */
 typedef struct hed_key_press {
   uint16_t key; /* an enum hed_key, or 0 for a key that has no name there */
   uint8_t held; /* a set of HED_KITTY_MOD_.., without the locks */
@@ -1016,22 +1017,26 @@ bool hed_key_of_event(const hed_event *event, hed_key_press *press);
  *
  * A program that turns Kitty's protocol on asks for HED_KITTY_FLAG_DISAMBIGUATE_ESCAPE_CODES and HED_KITTY_FLAG_REPORT_ALTERNATE_KEYS, and
  * with HED_KITTY_FLAG_REPORT_ALL_KEYS_AS_ESCAPE_CODES for HED_KITTY_FLAG_REPORT_ASSOCIATED_TEXT too. Otherwise Ctrl, Shift and 1 is 1 with
- * HED_KITTY_MOD_CTRL, and not !.
+ * HED_KITTY_MOD_CTRL and HED_KITTY_MOD_SHIFT, and not !.
  *
  * Returns false, and *press isn't written, if the report has none: it is a release, its key is a modifier or a lock by itself or no key of
  * Kitty's table, or it types several characters, which a program inserts as it inserts a paste. So it does if a number names nothing, or
  * the text isn't UTF-8. */
 bool hed_key_of_report(const hed_key_report *report, const uint8_t *text, size_t text_len, hed_key_press *press);
 
-/* Writes a second press of a key report to *press, for a program in which the first one leads nowhere: that of the key at the same place
- * of a PC-101 keyboard, with the same modifiers. So Ctrl with a Cyrillic letter is tried as Ctrl with a Latin one.
+/* Writes a second press of a key report to *press, for a program in which the first one leads nowhere. It is the first of these:
  *
- * Returns false, and *press isn't written, unless the report has a press with ALT, CTRL, SUPER, HYPER or META, its key is a character that
- * isn't of ASCII, and the terminal told base. */
+ * - With ALT, CTRL, SUPER, HYPER or META, a character that isn't of ASCII, and base told: the key at the same place of a PC-101 keyboard, with
+ *   the same modifiers. So Ctrl with a Cyrillic letter is tried as Ctrl with a Latin one.
+ * - With one of these and Shift, a digit or a sign, and another character told as shifted: the press with Shift. So Ctrl with ! is tried as
+ *   Ctrl, Shift and 1.
+ * - U+0008 and U+000A: Backspace with CTRL, and Enter, which some terminals send so.
+ *
+ * Returns false, and *press isn't written, if there is none. Call it for a report that has a press. */
 bool hed_key_second(const hed_key_report *report, hed_key_press *press);
 
-/* Returns the code point of the character that a press types, if it does: nothing but HED_KITTY_MOD_SHIFT is held. A program inserts it if
- * the press does nothing else. Enter and Tab type none.
+/* Returns the code point of the character that a press types, if it does: nothing is held, or HED_KITTY_MOD_SHIFT with the space alone. A
+ * program inserts it if the press does nothing else. Enter and Tab type none.
  *
  * Returns HED_NO_CODE if it types none, or its numbers are those of no press. No memory is needed. */
 uint32_t hed_key_text(const hed_key_press *press);
@@ -1051,7 +1056,7 @@ enum hed_named {
   HED_NAMED_UNKNOWN_NAME = 6, /* No key has this name. */
   HED_NAMED_AMBIGUOUS = 7, /* `DEL` in capitals is Backspace to Emacs, and Delete to others: write `backspace` or `delete`. */
   HED_NAMED_NOT_A_KEY = 8, /* The key makes no press by itself, as a modifier or a lock. */
-  HED_NAMED_SHIFTED_CHARACTER = 9, /* Shift with a character that isn't a letter of ASCII: write what it types, as `!` for `shift+1`. */
+  HED_NAMED_SHIFTED_CHARACTER = 9, /* Shift with a sign that shows it, as in `shift+!`: write the sign alone. */
   HED_NAMED_TOO_LONG = 10, /* A chord has at most 32 keys, and this is the 33rd. */
   HED_NAMED_EMPTY = 11, /* No key is in the text. */
   HED_NAMED_BAD_TEXT = 12 /* The text isn't UTF-8. */

@@ -91,12 +91,12 @@ static bool give_up(keys *it) {
 }
 
 /* Whether an event brings a text, which comes behind what is pending: a paste, or several characters that a key types. Its report has a press
- * but for them. */
+ * with one character. */
 static bool is_text(const group *of) {
   const hed_extended_event *event = &of->event;
   hed_key_press press;
   if (of->press_count > 0 || event->text_len == 0) return false;
-  if (event->kind == HED_KIND_REPORT) return hed_key_of_report(&event->report, NULL, 0, &press);
+  if (event->kind == HED_KIND_REPORT) return hed_key_of_report(&event->report, (const uint8_t *)"a", 1, &press);
   return event->kind == HED_KIND_PASTE || event->kind == HED_KIND_PASTE_PART;
 }
 

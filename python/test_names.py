@@ -31,6 +31,8 @@ NAMES = [
     ("M-<", "alt+<"),
     ("s-A", "super+shift+a"),
     ("shift+a", "A"),
+    ("ctrl+shift+1 shift+1", "ctrl+shift+1 shift+1"),
+    ("C-<u+00c9>", "ctrl+shift+\xe9"),
     ("alt+U+0441", "alt+\u0441"),
     ("U+200b", "U+200B"),
     ("ESC x", "escape x"),
@@ -41,11 +43,12 @@ NAMES = [
 
 # Texts that name none, what is wrong with them, and where.
 WRONG = [
-    ("shift+1", KeyNameErrorKind.SHIFTED_CHARACTER, 6),
+    ("shift+!", KeyNameErrorKind.SHIFTED_CHARACTER, 6),
     ("gg", KeyNameErrorKind.UNKNOWN_NAME, 0),
     ("foo+x", KeyNameErrorKind.UNKNOWN_MODIFIER, 0),
     ("x ctrl+", KeyNameErrorKind.MISSING_KEY, 7),
     ("M-A-x", KeyNameErrorKind.MODIFIER_TWICE, 2),
+    ("M-A-", KeyNameErrorKind.MISSING_KEY, 4),
     ("\xe9 DEL", KeyNameErrorKind.AMBIGUOUS, 3),
     ("capslock", KeyNameErrorKind.NOT_A_KEY, 0),
     ("x f256", KeyNameErrorKind.BAD_NUMBER, 2),

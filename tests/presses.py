@@ -53,8 +53,15 @@ MAIN_KEYS = {
     **dict(zip("multiply add separator subtract decimal divide".split(), "*+,-./")),
 }
 
-# Rule 7.
-OF_CONTROL = {8: "backspace", 9: "tab", 10: "enter", 13: "enter", 27: "escape", 127: "backspace"}
+# Rule 6.
+OF_CONTROL = {9: "tab", 13: "enter", 27: "escape", 127: "backspace"}
+
+# Rule 8: the cased letters, and the signs of Shift.
+CASED = set("abcdefghijklmnopqrstuvwxyz") | {chr(it) for it in range(0xE0, 0xFF)} - {"\xf7"}
+CASED |= {chr(it) for it in range(0x3B1, 0x3CC)} - {"\u03c2"}
+CASED |= {chr(it) for it in range(0x430, 0x460)}
+CAPITALS = {it.upper(): it for it in CASED}
+SIGNS_OF_SHIFT = set('~!@#$%^&*()_+{}|:"<>?')
 
 # The characters that are printed as they are.
 SEEN = [
@@ -83,16 +90,17 @@ def canonical(key, held, text="", shifted=None, is_release=False):
     if shifted is not None and is_control(shifted):
         shifted = None
     key = KITTY_NAMES.get(key, key)
-    if is_release or key in NO_PRESS or isinstance(key, int) and not 57344 <= key <= 63743:
+    is_alone = key in NO_PRESS or isinstance(key, int) and not 57344 <= key <= 63743
+    if is_release or is_alone and key != 0:
         return None
     held &= ~(CAPS_LOCK | NUM_LOCK)
     if text and not held & ~SHIFT:
         if len(text) > 1:
             return None
         return (text, held if text == " " else 0)
+    if is_alone:
+        return None
     key = MAIN_KEYS.get(key, key)
-    if is_character and held & SHIFT and shifted is not None:
-        key = shifted
     if is_character and is_control(key) and ord(key) < 128:
         if ord(key) in OF_CONTROL:
             key = OF_CONTROL[ord(key)]
@@ -101,12 +109,14 @@ def canonical(key, held, text="", shifted=None, is_release=False):
             key = " " if code == 0 else chr(code + (96 if code < 27 else 64))
             held |= CTRL
     if len(str(key)) == 1 and not isinstance(key, int):
-        if "a" <= key <= "z" and held & SHIFT:
-            key = key.upper()
-        if key != " ":
+        if held & SHIFT and key != " " and shifted is not None:
+            key, held = shifted, held & ~SHIFT
+        if held & SHIFT and key in CASED:
+            key, held = key.upper(), held & ~SHIFT
+        if held & SHIFT and (key in CAPITALS or key in SIGNS_OF_SHIFT):
             held &= ~SHIFT
-        if "A" <= key <= "Z" and held & (CTRL | SUPER | HYPER | META):
-            key, held = key.lower(), held | SHIFT
+        if key in CAPITALS and held & (CTRL | SUPER | HYPER | META):
+            key, held = CAPITALS[key], held | SHIFT
     return (key, held)
 
 

@@ -94,7 +94,7 @@ WRONG = [
     (b"top gg", 5),
     ("top é DEL".encode(), 8),
     (b"top capslock", 5),
-    (b"top shift+1", 11),
+    (b"top shift+!", 11),
     (b"top" + 33 * b" g", 69),
     (b"top x\303", 6),
 ]
@@ -116,7 +116,7 @@ def test_wrong_lines(program, write_keys):
 
 def test_wrong_line_on_a_terminal(program, write_keys):
     """The terminal is left alone."""
-    keys = write_keys(b"save ctrl+s", b"quit shift+1")
+    keys = write_keys(b"save ctrl+s", b"quit shift+!")
     with Edit([*program, keys]) as edit:
         assert edit.wait_for_end() == 2
         assert edit.settings() == edit.settings_before

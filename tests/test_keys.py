@@ -742,8 +742,8 @@ WRONG_LINES = {
     "no such key": (b"copy a\n\nquit ctrl+x foo", ["3:13: no key has this name"]),
     "bytes count": ("copy é foo".encode(), ["1:9: no key has this name"]),
     "a shifted character": (
-        b"copy shift+1",
-        ["1:12: shift with a character that isn't a letter: write what it types"],
+        b"copy shift+!",
+        ["1:12: shift with a sign that shows it: write the sign alone"],
     ),
     "no UTF-8": (b"copy a \xff", ["1:8: the name isn't UTF-8"]),
     "a zero": (b"copy a\0", ["1:7: a control character is in the name"]),

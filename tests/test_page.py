@@ -669,8 +669,8 @@ def test_typing_a_name(page):
     page.press("ctrl+")
     page.wait_for_text("key-fault", "no key is behind the modifiers, at byte ")
     assert page.run("$('key').ariaInvalid") == "true"
-    page.press("x shift+1")
-    wrong = "shift with a character that isn't a letter, at byte 13: '1'."
+    page.press("x shift+!")
+    wrong = "shift with a sign that shows it, at byte 13: '!'."
     page.wait_for_text("key-fault", wrong)
     page.press(8 * Keys.BACKSPACE)
     page.wait("$('key-fault').innerText", "")

@@ -6,6 +6,7 @@ crates/termwiz_binding_laws/README.md, which `twin` and `legacy_twin` follow lin
 of that crate say the same of the definitions. Here the library encodes, reads and names the press,
 and the plain model of presses says what it should be."""
 import itertools
+import string
 
 import pytest
 from presses import ALT, CTRL, KITTY_NAMES, MAIN_KEYS, NO_PRESS, SHIFT, SUPER, canonical, is_control
@@ -60,15 +61,20 @@ def twin(key, held, is_csi_u, level):
     held &= ~SUPER
     if key == "enter" and not (is_csi_u or is_on):
         return key, held & ALT
+    if key == "backspace" and is_csi_u and held & CTRL:
+        return "h", held
     if key in ("escape", "backspace") and not (is_csi_u or is_on and level != 1):
         return key, held & ALT
     if len(key) > 1:
         return key, held
-    if not held & CTRL:
-        return key, held if is_csi_u or is_on or key != " " else held & ~SHIFT
-    if ord(key) < 128:
+    if ord(key) >= 128:
+        return key, held if is_on else held & ALT
+    if key in string.punctuation:
+        held &= ~SHIFT
+    if held & CTRL:
         return twin_of_control(key, held, is_csi_u, level)
-    return key, held if is_on else held & ~CTRL
+    is_coded = (is_csi_u or is_on) and (key == " " or not held & ALT)
+    return key, held if key.isalpha() or is_coded else held & ~SHIFT
 
 
 def plain_name(key):
@@ -166,14 +172,24 @@ def is_of_tables(key, held, shifted):
     return key == "applications" or key in ("f1", "f2", "f3", "f4") and held == 0
 
 
+def shown(key, held, shifted, text):
+    """The character that a key types, or the name of Enter, Tab or Backspace."""
+    if text:
+        return text
+    if len(key) > 1 or not held & SHIFT:
+        return key
+    if shifted is not None and not is_control(shifted):
+        return shifted
+    return key.upper() if "a" <= key <= "z" else key
+
+
 def read_before(key, held, flags, is_repeat, shifted, text):
     """What is read of a key before Kitty's protocol, and whether its modifiers are told to Kitty's
     parser alone."""
     main = MAIN_KEYS.get(key, key)
     types = len(str(main)) == 1 and not is_control(main)
     if not held & ~SHIFT and (text or types) or main in CONTROLS and not held:
-        typed = canonical(key, held, text, shifted)
-        return (" ", 0) if typed[0] == " " else typed, False
+        return canonical(shown(main, held, shifted, text), 0), False
     if not (is_repeat and flags & 2) and is_of_tables(main, held, shifted):
         twin_key, twin_held, twin_shifted = legacy_twin(main, held, shifted)
         return canonical(twin_key, twin_held, "", twin_shifted), main == "applications" and held > 7

@@ -282,14 +282,14 @@ class KeyPress:
 
     It is printed by its name, which `Chord.read` reads.
 
-    Letters, digits and signs are the characters that they type: Shift with a is A. So SHIFT is held
-    only with keys that have a name, with the space, and with a to z where CTRL, SUPER, HYPER or
-    META is held too. The keypad and the arrows in application mode are the keys of the main block,
-    and the locks are never held.
+    Letters, digits and signs are the characters that they type: Shift with a is A. Where CTRL,
+    SUPER, HYPER or META is held too, a letter that has a capital keeps SHIFT. So do digits and
+    signs, where the terminal doesn't tell what they type with Shift. The keypad and the arrows in
+    application mode are the keys of the main block, and the locks are never held.
 
     A program that turns Kitty's keyboard protocol on should ask for DISAMBIGUATE_ESCAPE_CODES and
     REPORT_ALTERNATE_KEYS, and with REPORT_ALL_KEYS_AS_ESCAPE_CODES for REPORT_ASSOCIATED_TEXT too.
-    Otherwise Ctrl, Shift and 1 is 1 with CTRL, and not an exclamation mark."""
+    Otherwise Ctrl, Shift and 1 is 1 with CTRL and SHIFT, and not an exclamation mark."""
 
     key: ReportedKey
     held: KittyModifiers = KittyModifiers.NONE
@@ -319,19 +319,23 @@ class KeyPress:
     @staticmethod
     def second(report: KeyReport) -> Optional[KeyPress]:
         r"""Returns a second press of a key report, for a program in which the first one leads
-        nowhere: that of the key at the same place of a PC-101 keyboard, with the same modifiers.
+        nowhere.
 
             >>> KeyPress.second(KeyReport("\u0441", KittyModifiers.CTRL, base="c"))
             KeyPress(key='c', held=KittyModifiers.CTRL)
 
-        It is there only if the terminal told that key as base, the report has a press, one of ALT,
-        CTRL, SUPER, HYPER and META is held, and the key's character isn't of ASCII."""
+        With ALT, CTRL, SUPER, HYPER or META, a character that isn't of ASCII has that of the key at
+        the same place of a PC-101 keyboard, if the terminal told it as base. A digit or a sign whose
+        character with Shift was told has the press with SHIFT: ctrl+! is tried as ctrl+shift+1.
+        U+0008 is tried as ctrl+backspace, and U+000A as enter.
+
+        Look at the press first: where the report types its text, this says nothing of it."""
         return _written(functools.partial(_library.hed_key_second, _raw_report(report)))
 
     @property
     def text(self) -> Optional[str]:
-        """The character that the press types, or None. Nothing but SHIFT is then held. A program
-        inserts it if the press does nothing else. Enter and Tab type none."""
+        """The character that the press types, or None. Nothing is then held, or SHIFT with the space
+        alone. A program inserts it if the press does nothing else. Enter and Tab type none."""
         return _character(_library.hed_key_text(_raw_press(self)))
 
     def __str__(self) -> str:
@@ -363,8 +367,7 @@ class KeyNameErrorKind(_Named):
     )
     SHIFTED_CHARACTER = _number(
         _NAMED_SHIFTED_CHARACTER,
-        "Shift with a character that isn't a letter of ASCII: write what it types, as ! for "
-        "shift+1.",
+        "Shift with a sign that shows it, as in shift+!: write the sign alone.",
     )
     TOO_LONG = _number(_NAMED_TOO_LONG, "The text has more than 32 keys.")
     EMPTY = _number(_NAMED_EMPTY, "No key is in the text.")
@@ -421,10 +424,10 @@ class Chord:
     def read(text: str) -> Chord:
         """Reads the name of a chord: its keys, parted by spaces or tabs.
 
-            >>> Chord.read("shift+1")
+            >>> Chord.read("shift+!")
             Traceback (most recent call last):
                 ...
-            hedrugal.extended.KeyNameError: shift with a character that isn't a letter, at byte 6
+            hedrugal.extended.KeyNameError: shift with a sign that shows it, at byte 6
 
         Modifiers stand before a key as words (ctrl+x, Ctrl-Shift-Up), or as the letters of Emacs
         (C-x, C-M-<f5>) or Vim (<C-x>). Words are read in any case. The page of the crate
@@ -738,10 +741,11 @@ def typed_text(report: KeyReport) -> str:
 
         >>> typed_text(KeyReport("\\0", text="fi"))
         'fi'"""
-    # Without its text such a report has a press. A release has none, and neither has a modifier.
-    if KeyPress.of_report(report) is None and _press_typing(report, "") is not None:
-        return report.text
-    return ""
+    # With a text of one character such a report has a press. A release has none, and neither has a
+    # modifier.
+    types = KeyPress.of_report(report) is None and _press_typing(report, "a") is not None
+    has_control = any(it < " " or "\x7f" <= it <= "\x9f" for it in report.text)
+    return report.text if types and not has_control else ""
 
 
 @dataclass(frozen=True)
@@ -1064,7 +1068,7 @@ _faults = {
     KeyNameErrorKind.UNKNOWN_NAME: "no key has this name",
     KeyNameErrorKind.AMBIGUOUS: "DEL is either backspace or delete",
     KeyNameErrorKind.NOT_A_KEY: "the key makes no press by itself",
-    KeyNameErrorKind.SHIFTED_CHARACTER: "shift with a character that isn't a letter",
+    KeyNameErrorKind.SHIFTED_CHARACTER: "shift with a sign that shows it",
     KeyNameErrorKind.TOO_LONG: "there are too many keys",
     KeyNameErrorKind.EMPTY: "there is no key",
     KeyNameErrorKind.BAD_TEXT: "a surrogate is in the text",

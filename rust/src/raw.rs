@@ -167,7 +167,7 @@ pub const NAMED_UNKNOWN_NAME: u32 = 6;
 pub const NAMED_AMBIGUOUS: u32 = 7;
 /// The key makes no press by itself, as a modifier or a lock.
 pub const NAMED_NOT_A_KEY: u32 = 8;
-/// Shift with a character that isn't a letter of ASCII: write what it types, as `!` for `shift+1`.
+/// Shift with a sign that shows it, as in `shift+!`: write the sign alone.
 pub const NAMED_SHIFTED_CHARACTER: u32 = 9;
 /// A chord has at most 32 keys, and this is the 33rd.
 pub const NAMED_TOO_LONG: u32 = 10;

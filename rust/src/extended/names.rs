@@ -12,7 +12,7 @@ use std::{error, fmt, str};
 ///
 /// let wrong = |text: &str| text.parse::<Chord>().unwrap_err().kind;
 /// assert_eq!(wrong("ctlr+x"), KeyNameErrorKind::UnknownModifier);
-/// assert_eq!(wrong("shift+1"), KeyNameErrorKind::ShiftedCharacter);
+/// assert_eq!(wrong("shift+!"), KeyNameErrorKind::ShiftedCharacter);
 /// ```
 #[derive(Debug, Clone, Copy, PartialEq, Eq, Hash)]
 pub enum KeyNameErrorKind {
@@ -33,8 +33,7 @@ pub enum KeyNameErrorKind {
     /// The key makes no press by itself, as a modifier or a lock. Of a [`KeyEvent`] or a
     /// [`KeyCode`] it is also a key or a modifier that these can't have.
     NotAKey,
-    /// Shift with a character that isn't a letter of ASCII. Write what it types, as `!` for
-    /// `shift+1`.
+    /// Shift with a sign that shows it, as in `shift+!`. Write the sign alone.
     ShiftedCharacter,
     /// The text has more keys than a [`Chord`] may have, or more than the one of a
     /// [`KeyPress`].
@@ -54,7 +53,7 @@ impl fmt::Display for KeyNameErrorKind {
             KeyNameErrorKind::UnknownName => "no key has this name",
             KeyNameErrorKind::Ambiguous => "DEL is either backspace or delete",
             KeyNameErrorKind::NotAKey => "the key makes no press by itself",
-            KeyNameErrorKind::ShiftedCharacter => "shift with a character that isn't a letter",
+            KeyNameErrorKind::ShiftedCharacter => "shift with a sign that shows it",
             KeyNameErrorKind::TooLong => "there are too many keys",
             KeyNameErrorKind::Empty => "there is no key",
         })

@@ -12,14 +12,14 @@ use std::str::FromStr;
 /// terminal is in and whichever protocol it speaks. A program looks up by it what a key does.
 ///
 /// Letters, digits and signs are the characters that they type: Shift with `a` is `A`, and with `1`
-/// on many keyboards `!`. So SHIFT is held only with keys that have a name, with the space, and with
-/// `a` to `z` where CTRL, SUPER, HYPER or META is held too. The keypad and the arrows in application
-/// mode are the keys of the main block, and the locks are never held. The rules are on the
-/// page of the crate `termwiz_bindings` of the repository.
+/// on many keyboards `!`. Where CTRL, SUPER, HYPER or META is held too, a letter that has a capital
+/// keeps SHIFT. So do digits and signs, where the terminal doesn't tell what they type with Shift.
+/// The keypad and the arrows in application mode are the keys of the main block, and the locks are
+/// never held. The rules are on the page of the crate `termwiz_bindings` of the repository.
 ///
 /// A program that turns Kitty's keyboard protocol on should ask for `DISAMBIGUATE_ESCAPE_CODES` and
 /// `REPORT_ALTERNATE_KEYS`, and with `REPORT_ALL_KEYS_AS_ESCAPE_CODES` for `REPORT_ASSOCIATED_TEXT`
-/// too. Otherwise Ctrl, Shift and `1` come without the `!`, and are `1` with CTRL.
+/// too. Otherwise Ctrl, Shift and `1` come without the `!`, and are `1` with CTRL and SHIFT.
 ///
 /// A press is printed by its name, as `ctrl+shift+up`, and read from one. A text has the names of a
 /// [`Chord`](super::Chord), which says how they are written.
@@ -124,10 +124,13 @@ impl KeyPress {
         KeyPress::typing(report, &report.text)
     }
 
-    /// Returns a second press of a key report, for a program in which the first one leads nowhere:
-    /// that of the key at the same place of a PC-101 keyboard, with the same modifiers. It is there
-    /// only if the terminal told that key (`REPORT_ALTERNATE_KEYS`), the report has a press, one of
-    /// ALT, CTRL, SUPER, HYPER and META is held, and the key's character isn't of ASCII.
+    /// Returns a second press of a key report, for a program in which the first one leads nowhere.
+    /// With ALT, CTRL, SUPER, HYPER or META, a character that isn't of ASCII has that of the key at
+    /// the same place of a PC-101 keyboard, if the terminal told it (`REPORT_ALTERNATE_KEYS`). A digit
+    /// or a sign whose character with Shift was told has the press with SHIFT: Ctrl with `!` is tried
+    /// as Ctrl, Shift and `1`. U+0008 is tried as Backspace with CTRL, and U+000A as Enter.
+    ///
+    /// Look at the press first: where the report types its text, this says nothing of it.
     ///
     /// ```
     /// use hedrugal::extended::{ExtendedParser, KeyPress, Protocol, ReportedKey};
@@ -159,8 +162,8 @@ impl KeyPress {
         self.held
     }
 
-    /// Returns the character that the press types, if it does: nothing but SHIFT is held. A program
-    /// inserts it if the press does nothing else. Enter and Tab type none.
+    /// Returns the character that the press types, if it does: nothing is held, or SHIFT with the
+    /// space alone. A program inserts it if the press does nothing else. Enter and Tab type none.
     ///
     /// ```
     /// use hedrugal::extended::KeyPress;
@@ -267,9 +270,10 @@ impl Ord for KeyPress {
 /// ```
 #[must_use]
 pub fn typed_text(report: &KeyReport) -> &str {
-    // Without its text such a report has a press. A release has none, and neither has a modifier.
-    let is_text = KeyPress::of_report(report).is_none() && KeyPress::typing(report, "").is_some();
-    if is_text {
+    // With a text of one character such a report has a press. A release has none, and neither has a
+    // modifier.
+    let types = KeyPress::of_report(report).is_none() && KeyPress::typing(report, "a").is_some();
+    if types && !report.text.chars().any(char::is_control) {
         &report.text
     } else {
         ""

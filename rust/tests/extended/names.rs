@@ -20,6 +20,16 @@ fn texts_name_chords() {
         ("M-<", "alt+<"),
         ("s-A", "super+shift+a"),
         ("shift+a", "A"),
+        ("shift+A", "A"),
+        ("shift+1", "shift+1"),
+        ("C-S-1", "ctrl+shift+1"),
+        ("<s-numpad1>", "shift+1"),
+        ("shift+é", "É"),
+        ("ctrl+É", "ctrl+shift+é"),
+        ("shift+ß", "shift+ß"),
+        ("u+0041", "A"),
+        ("C-<u+0041>", "ctrl+a"),
+        ("U+0008 U+000a U+007F", "ctrl+h ctrl+j backspace"),
         ("alt+U+0441", "alt+с"),
         ("U+200b", "U+200B"),
         ("ESC x", "escape x"),
@@ -63,10 +73,10 @@ fn texts_name_chords() {
 #[test]
 fn other_texts_are_refused() {
     let rows = [
-        ("shift+1", KeyNameErrorKind::ShiftedCharacter, 6),
-        ("S-1", KeyNameErrorKind::ShiftedCharacter, 2),
+        ("shift+!", KeyNameErrorKind::ShiftedCharacter, 6),
+        ("S-plus", KeyNameErrorKind::ShiftedCharacter, 2),
         ("<s-!>", KeyNameErrorKind::ShiftedCharacter, 3),
-        ("shift+é", KeyNameErrorKind::ShiftedCharacter, 6),
+        ("shift+multiply", KeyNameErrorKind::ShiftedCharacter, 6),
         ("gg", KeyNameErrorKind::UnknownName, 0),
         ("<x>", KeyNameErrorKind::UnknownName, 1),
         ("C-<x>", KeyNameErrorKind::UnknownName, 3),
@@ -77,6 +87,8 @@ fn other_texts_are_refused() {
         ("x ctrl+", KeyNameErrorKind::MissingKey, 7),
         ("<C->", KeyNameErrorKind::MissingKey, 3),
         ("C-M-", KeyNameErrorKind::MissingKey, 4),
+        ("M-A-", KeyNameErrorKind::MissingKey, 4),
+        ("<m-A->", KeyNameErrorKind::MissingKey, 5),
         ("M-A-x", KeyNameErrorKind::ModifierTwice, 2),
         ("ctrl+Control+x", KeyNameErrorKind::ModifierTwice, 5),
         ("<M-a-x>", KeyNameErrorKind::ModifierTwice, 3),
@@ -254,7 +266,7 @@ fn keys_and_events_have_names() {
         Err(wrong(KeyNameErrorKind::TooLong, 2))
     );
     assert_eq!(
-        "shift+1".parse::<KeyEvent>(),
+        "shift+!".parse::<KeyEvent>(),
         Err(wrong(KeyNameErrorKind::ShiftedCharacter, 6))
     );
 }

@@ -151,6 +151,46 @@ fn reports_have_presses() {
         ),
         (shifted('1', CTRL_SHIFT, '!'), KeyCode::Char('!'), CTRL),
         (
+            report(KeyCode::Char('1'), CTRL_SHIFT),
+            KeyCode::Char('1'),
+            CTRL_SHIFT,
+        ),
+        (shifted('é', CTRL_SHIFT, '2'), KeyCode::Char('2'), CTRL),
+        (
+            report(KeyCode::Char('й'), CTRL_SHIFT),
+            KeyCode::Char('й'),
+            CTRL_SHIFT,
+        ),
+        (
+            shifted('й', CTRL_SHIFT, 'Й'),
+            KeyCode::Char('й'),
+            CTRL_SHIFT,
+        ),
+        (
+            shifted('Й', CTRL_SHIFT, 'Й'),
+            KeyCode::Char('й'),
+            CTRL_SHIFT,
+        ),
+        (
+            report(KeyCode::Char('ü'), ALT_SHIFT),
+            KeyCode::Char('Ü'),
+            ALT,
+        ),
+        (
+            report(KeyCode::Char('\x08'), ALT),
+            KeyCode::Char('h'),
+            ALT.union(CTRL),
+        ),
+        (report(KeyCode::Char('\n'), NONE), KeyCode::Char('j'), CTRL),
+        (
+            KeyReport {
+                text: "å".to_string(),
+                ..functional(0, NONE)
+            },
+            KeyCode::Char('å'),
+            NONE,
+        ),
+        (
             typed(KeyCode::Char('a'), caps, "A"),
             KeyCode::Char('A'),
             NONE,
@@ -203,21 +243,37 @@ fn some_reports_have_none() {
     for report in [
         &released,
         &alone,
+        &functional(0, NONE),
         &functional(57343, NONE),
         &functional(63744, NONE),
     ] {
         assert_eq!(KeyPress::of_report(report), None, "{report:?}");
         assert_eq!(typed_text(report), "", "{report:?}");
     }
-    assert_eq!(KeyPress::of_report(&ligature), None);
-    assert_eq!(typed_text(&ligature), "fi");
+    let without_key = KeyReport {
+        text: "fi".to_string(),
+        ..functional(0, SHIFT)
+    };
+    for report in [&ligature, &without_key] {
+        assert_eq!(KeyPress::of_report(report), None, "{report:?}");
+        assert_eq!(typed_text(report), "fi", "{report:?}");
+    }
+    let control = KeyReport {
+        text: "a\t".to_string(),
+        ..functional(0, NONE)
+    };
+    assert_eq!(typed_text(&control), "");
 }
 
 #[test]
-fn keys_beyond_ascii_have_second_presses() {
+fn some_reports_have_second_presses() {
     let with = |key, modifiers, shifted, base| KeyReport {
         shifted,
         base: Some(base),
+        ..report(KeyCode::Char(key), modifiers)
+    };
+    let told_shifted = |key, modifiers, shifted| KeyReport {
+        shifted: Some(shifted),
         ..report(KeyCode::Char(key), modifiers)
     };
     let rows = [
@@ -246,6 +302,46 @@ fn keys_beyond_ascii_have_second_presses() {
             words(KeyCode::Char('с'), CTRL),
             "none".to_string(),
         ),
+        (
+            with('ß', CTRL_SHIFT, Some('?'), '-'),
+            words(KeyCode::Char('?'), CTRL),
+            words(KeyCode::Char('_'), CTRL),
+        ),
+        (
+            told_shifted('1', CTRL_SHIFT, '!'),
+            words(KeyCode::Char('!'), CTRL),
+            words(KeyCode::Char('1'), CTRL_SHIFT),
+        ),
+        (
+            told_shifted('1', SHIFT, '!'),
+            words(KeyCode::Char('!'), NONE),
+            "none".to_string(),
+        ),
+        (
+            told_shifted('!', CTRL_SHIFT, '!'),
+            words(KeyCode::Char('!'), CTRL),
+            "none".to_string(),
+        ),
+        (
+            told_shifted('é', CTRL_SHIFT, '2'),
+            words(KeyCode::Char('2'), CTRL),
+            "none".to_string(),
+        ),
+        (
+            report(KeyCode::Char('\x08'), ALT),
+            words(KeyCode::Char('h'), ALT.union(CTRL)),
+            words(KeyCode::Backspace, ALT.union(CTRL)),
+        ),
+        (
+            report(KeyCode::Char('\n'), NONE),
+            words(KeyCode::Char('j'), CTRL),
+            words(KeyCode::Enter, NONE),
+        ),
+        (
+            report(KeyCode::Char('h'), CTRL),
+            words(KeyCode::Char('h'), CTRL),
+            "none".to_string(),
+        ),
     ];
     for (report, first, second) in rows {
         assert_eq!(told(KeyPress::of_report(&report)), first, "{report:?}");
@@ -260,6 +356,7 @@ fn presses_type_their_characters() {
     assert_eq!(text(KeyCode::Char('a'), SHIFT), Some('A'));
     assert_eq!(text(KeyCode::Char(' '), SHIFT), Some(' '));
     assert_eq!(text(KeyCode::Numpad3, NONE), Some('3'));
+    assert_eq!(text(KeyCode::Numpad3, SHIFT), None);
     assert_eq!(text(KeyCode::Char('a'), ALT), None);
     assert_eq!(text(KeyCode::Char('\u{85}'), NONE), None);
     assert_eq!(text(KeyCode::Tab, NONE), None);
@@ -289,10 +386,12 @@ fn presses_are_ordered_and_hashed() {
 pub fn drawn_key(draws: &mut Draws) -> ReportedKey {
     const CHARACTERS: &[char] = &[
         '\0', '\x01', '\x08', '\t', '\n', '\r', '\x1a', '\x1b', '\x1c', '\x1f', ' ', '!', '1', 'A',
-        'Z', '[', '`', 'a', 'z', '{', '\x7f', '\u{80}', '\u{9f}', '\u{a0}', 'é', 'É', 'с',
-        '\u{e016}',
+        'Z', '[', '`', 'a', 'z', '{', '\x7f', '\u{80}', '\u{9f}', '\u{a0}', '×', 'ß', 'à', 'é',
+        'É', 'Þ', '÷', 'þ', 'ÿ', 'Ā', 'Ϋ', 'ά', 'α', 'ς', 'Σ', 'ϋ', 'ό', 'Ѐ', 'Џ', 'А', 'я', 'ѐ',
+        'с', 'џ', 'Ѡ', '\u{e016}',
     ];
     match draws.below(3) {
+        0 if draws.below(10) == 0 => ReportedKey::Functional(0),
         0 => ReportedKey::Functional(57340 + draws.below(120) as u32),
         1 => ReportedKey::Named(KeyCode::Char(CHARACTERS[draws.below(CHARACTERS.len())])),
         _ => ReportedKey::Named(NAMED[draws.below(NAMED.len())]),
@@ -375,6 +474,9 @@ fn drawn_report(draws: &mut Draws) -> KeyReport {
         Some(','),
         Some(' '),
         Some('Б'),
+        Some('é'),
+        Some('É'),
+        Some('1'),
         Some('\x1b'),
         Some('\u{80}'),
     ];

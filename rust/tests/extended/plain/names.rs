@@ -1,6 +1,6 @@
 // A slow reader and printer of the names of keys. It follows the part "Names" of the page of the crate
 // termwiz_bindings sentence by sentence, and shares nothing with the library but the types.
-use super::presses::{said_of, Press, Said};
+use super::presses::{is_sign_of_shift, said_of, Press, Said};
 use crate::port::names::PLAIN_KEYS;
 use hedrugal::extended::{
     KeyEventKind, KeyNameErrorKind as Fault, KeyReport, KittyModifiers as Held, ReportedKey,
@@ -116,7 +116,7 @@ fn numbered(name: &str, word: &str, least: u32, most: u32) -> Option<Result<u32,
 
 // The character by its number, if the name is U+ and 4 to 6 hexadecimal digits.
 fn code_point(name: &str) -> Option<Result<ReportedKey, Fault>> {
-    let digits = name.strip_prefix("U+")?;
+    let digits = name.strip_prefix("U+").or(name.strip_prefix("u+"))?;
     let is_number =
         (4..=6).contains(&digits.len()) && digits.bytes().all(|b| b.is_ascii_hexdigit());
     let number = is_number.then(|| u32::from_str_radix(digits, 16).unwrap())?;
@@ -174,9 +174,8 @@ fn press_of(key: ReportedKey, held: Held) -> Option<Press> {
 fn press(key: Result<ReportedKey, Fault>, held: Held) -> Result<Press, Fault> {
     let mut key = key?;
     // What the key types without modifiers: it may be one of the keypad.
-    if let Some((ReportedKey::Named(Char(c)), _)) = press_of(key, Held::NONE) {
-        let is_bare = c == ' ' || c.is_ascii_alphabetic();
-        if held.contains(Held::SHIFT) && !is_bare {
+    if let Some((ReportedKey::Named(Char(c)), bare)) = press_of(key, Held::NONE) {
+        if bare == Held::NONE && held.contains(Held::SHIFT) && is_sign_of_shift(c) {
             return Err(Fault::ShiftedCharacter);
         }
     }
@@ -223,6 +222,10 @@ fn letters(text: &str, of: impl Fn(char) -> Option<Held>) -> Result<(Held, usize
         let Some(modifier) = of(char::from(letter)) else {
             break;
         };
+        // Where nothing stands behind the letters the key is missing.
+        if text.len() == at + 2 {
+            return Err((Fault::MissingKey, at + 2));
+        }
         held = with(held, modifier, at)?;
         at += 2;
     }
@@ -259,7 +262,7 @@ fn emacs_key(text: &str) -> Result<Press, Wrong> {
         return Err((Fault::MissingKey, at));
     }
     match in_brackets(name) {
-        Some(inner) => press(word(inner), held).map_err(|fault| (fault, at + 1)),
+        Some(inner) => press(spelled(inner), held).map_err(|fault| (fault, at + 1)),
         None => press(any_name(name), held).map_err(|fault| (fault, at)),
     }
 }

@@ -174,13 +174,13 @@ fn main_key(key: ReportedKey) -> ReportedKey {
     ReportedKey::Named(main.map_or(named, |row| row.1))
 }
 
-// 7: a control character's key, or the character that is it with CTRL.
+// 6: a control character's key, or the character that is it with CTRL.
 fn of_control(c: char) -> Option<(KeyCode, bool)> {
     Some(match u32::from(c) {
         0 => (Char(' '), true),
-        8 | 127 => (KeyCode::Backspace, false),
+        127 => (KeyCode::Backspace, false),
         9 => (KeyCode::Tab, false),
-        10 | 13 => (KeyCode::Enter, false),
+        13 => (KeyCode::Enter, false),
         27 => (KeyCode::Escape, false),
         28 => (Char('\\'), true),
         29 => (Char(']'), true),
@@ -191,14 +191,42 @@ fn of_control(c: char) -> Option<(KeyCode, bool)> {
     })
 }
 
+// The capital of a cased letter.
+fn capital_of(c: char) -> Option<char> {
+    let is_cased = matches!(
+        c,
+        'a'..='z' | 'à'..='ö' | 'ø'..='þ' | 'α'..='ρ' | 'σ'..='ϋ' | 'а'..='я' | 'ѐ'..='џ'
+    );
+    c.to_uppercase().next().filter(|_| is_cased)
+}
+
+// The cased letter of a capital.
+fn letter_of(c: char) -> Option<char> {
+    let letter = c.to_lowercase().next()?;
+    Some(letter).filter(|it| capital_of(*it) == Some(c))
+}
+
+// A sign of Shift.
+pub fn is_sign_of_shift(c: char) -> bool {
+    SIGNS.chars().skip(1).step_by(2).any(|sign| sign == c)
+}
+
+// 8: what a character is with Shift on every keyboard.
+fn with_shift(c: char) -> Option<char> {
+    if letter_of(c).is_some() || is_sign_of_shift(c) {
+        return Some(c);
+    }
+    capital_of(c)
+}
+
 // What a report says of its press.
 pub fn said_of(report: &KeyReport) -> Said {
     // 1
     if report.kind == KeyEventKind::Release {
         return Said::Nothing;
     }
-    // 2
-    if is_alone(report.key) {
+    // 2, but for the number 0
+    if is_alone(report.key) && report.key != ReportedKey::Functional(0) {
         return Said::Nothing;
     }
     let text = text_of(report);
@@ -215,58 +243,99 @@ pub fn said_of(report: &KeyReport) -> Said {
             _ => Said::Text(text.to_string()),
         };
     }
+    // 2, for the number 0
+    if is_alone(report.key) {
+        return Said::Nothing;
+    }
     let shifted = report.shifted.filter(|c| !is_control(*c));
     Said::Press(press_of(report.key, report.modifiers, shifted))
 }
 
-// 5 to 10
-fn press_of(key: ReportedKey, modifiers: Held, shifted: Option<char>) -> Press {
+// 5 and 6: the key before Shift is looked at.
+fn plain_of(key: ReportedKey, modifiers: Held) -> Press {
     // 5
     let key = main_key(key);
-    let mut held = modifiers.difference(Held::CAPS_LOCK.union(Held::NUM_LOCK));
-    let ReportedKey::Named(Char(mut c)) = key else {
+    let held = modifiers.difference(Held::CAPS_LOCK.union(Held::NUM_LOCK));
+    let ReportedKey::Named(Char(c)) = key else {
         return (key, held);
     };
     // 6
-    if let (true, Some(shown)) = (held.contains(Held::SHIFT), shifted) {
-        c = shown;
-    }
-    // 7
     match of_control(c) {
-        Some((Char(of), _)) => {
-            c = of;
-            held = held.union(Held::CTRL);
-        }
-        Some((key, _)) => return (ReportedKey::Named(key), held),
-        None => {}
+        Some((key, true)) => (ReportedKey::Named(key), held.union(Held::CTRL)),
+        Some((key, false)) => (ReportedKey::Named(key), held),
+        None => (key, held),
     }
-    // 8
-    if c.is_ascii_lowercase() && held.contains(Held::SHIFT) {
-        c = c.to_ascii_uppercase();
+}
+
+// 5 to 10
+fn press_of(key: ReportedKey, modifiers: Held, shifted: Option<char>) -> Press {
+    let (key, mut held) = plain_of(key, modifiers);
+    let ReportedKey::Named(Char(mut c)) = key else {
+        return (key, held);
+    };
+    // 7
+    if let (true, Some(told)) = (held.contains(Held::SHIFT) && c != ' ', shifted) {
+        c = told;
+        held = held.difference(Held::SHIFT);
     }
-    // 9
-    if c != ' ' {
+    // 8, and 9 of any other character
+    if let (true, Some(shown)) = (held.contains(Held::SHIFT), with_shift(c)) {
+        c = shown;
         held = held.difference(Held::SHIFT);
     }
     // 10
-    let lowering = [Held::CTRL, Held::SUPER, Held::HYPER, Held::META];
-    if c.is_ascii_uppercase() && has_any(held, &lowering) {
-        c = c.to_ascii_lowercase();
+    let strong = [Held::CTRL, Held::SUPER, Held::HYPER, Held::META];
+    if let (true, Some(letter)) = (has_any(held, &strong), letter_of(c)) {
+        c = letter;
         held = held.union(Held::SHIFT);
     }
     (ReportedKey::Named(Char(c)), held)
 }
 
-// The second press.
-pub fn second_of(report: &KeyReport) -> Option<Press> {
-    let has_press = matches!(said_of(report), Said::Press(_));
+// The key at the same place of a PC-101 keyboard.
+fn placed_second(report: &KeyReport) -> Option<Press> {
     let is_beyond_ascii = matches!(report.key, ReportedKey::Named(Char(c)) if c >= '\u{80}');
     let base = report.base.filter(|c| !is_control(*c))?;
-    if !has_press || !has_any(report.modifiers, OTHERS) || !is_beyond_ascii {
+    if !has_any(report.modifiers, OTHERS) || !is_beyond_ascii {
         return None;
     }
     let signs: Vec<char> = SIGNS.chars().collect();
     let sign = signs.chunks(2).find(|pair| pair[0] == base);
     let key = ReportedKey::Named(Char(base));
     Some(press_of(key, report.modifiers, sign.map(|pair| pair[1])))
+}
+
+// The press without what was told, where rule 7 gave another character and rule 9 would have kept
+// SHIFT.
+fn untold_second(report: &KeyReport) -> Option<Press> {
+    let shifted = report.shifted.filter(|c| !is_control(*c))?;
+    let (ReportedKey::Named(Char(c)), held) = plain_of(report.key, report.modifiers) else {
+        return None;
+    };
+    let is_told = held.contains(Held::SHIFT) && c != ' ' && c != shifted;
+    if !is_told || with_shift(c).is_some() || !has_any(report.modifiers, OTHERS) {
+        return None;
+    }
+    Some(press_of(report.key, report.modifiers, None))
+}
+
+// The key that sends a control character on some terminals.
+fn sending_second(report: &KeyReport) -> Option<Press> {
+    let (key, more) = match report.key {
+        ReportedKey::Named(Char('\u{8}')) => (KeyCode::Backspace, Held::CTRL),
+        ReportedKey::Named(Char('\n')) => (KeyCode::Enter, Held::NONE),
+        _ => return None,
+    };
+    let held = report.modifiers.union(more);
+    Some(press_of(ReportedKey::Named(key), held, None))
+}
+
+// The second press: the first of these that there is.
+pub fn second_of(report: &KeyReport) -> Option<Press> {
+    if report.kind == KeyEventKind::Release || is_alone(report.key) {
+        return None;
+    }
+    placed_second(report)
+        .or_else(|| untold_second(report))
+        .or_else(|| sending_second(report))
 }
