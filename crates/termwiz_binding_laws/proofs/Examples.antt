@@ -44,7 +44,6 @@ can_be_pressed key held is fits normal = record {
   };
   kept = refl;
   text = inl refl;
-  shifted = tt;
 }
 
 -- what is written for a report without any flag, and the press that is read of it

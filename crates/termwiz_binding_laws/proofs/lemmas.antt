@@ -24,5 +24,6 @@ pub mod TextPresses
 pub mod ToldKeys
 pub mod TwinSources
 pub mod TwinTexts
+pub mod TypedPresses
 pub mod WideCharacters
 pub mod WidePresses

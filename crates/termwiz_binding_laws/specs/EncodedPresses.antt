@@ -20,7 +20,7 @@ use Rattle.termwiz_extended_grammar.specs.ExtendedGrammar.{Means}
 use Rattle.termwiz_extended_grammar.specs.Readings.{first_reading}
 use Rattle.termwiz_bindings.specs.declared.press.KeyPress.{KeyPress}
 use Rattle.termwiz_bindings.specs.Presses.{canonical, event_report}
-use Rattle.termwiz_binding_laws.specs.Twins.{SUPER, only_alt, is_on, twin}
+use Rattle.termwiz_binding_laws.specs.Twins.{SUPER, only_alt, is_on, is_erasure, twin}
 
 -- a parser as it begins, before Kitty's protocol: X10 mouse reports aren't read, and no question is open
 abbrev pub at_first : Reading
@@ -112,15 +112,15 @@ pub record IsOwnTwin (k : KeyEvent) (modes : KeyCodeEncodeModes) : Type 0 where
   pub set : Contains any_of_four k.modifiers.0
   pub own : twin k.key k.modifiers.0 modes ≡ k
 
--- Every twin is such a key.
+-- Every twin is such a key, but that of Backspace with CTRL in the form of CSI u: ctrl+h sends the byte 8 there, and is read as Backspace.
 abbrev pub TwinsAreTheirOwn : Type 0
 TwinsAreTheirOwn = (key : KeyCode) (held : ℕ) (modes : KeyCodeEncodeModes) → IsCovered key → Contains any_of_four held
-    → IsOwnTwin (twin key held modes) modes
+    → is_erasure key held modes ≡ false → IsOwnTwin (twin key held modes) modes
 
--- What a key sends and what its twin sends are read as the same press, where neither is a newline.
+-- What such a key sends and what its twin sends are read as the same press, where neither is a newline.
 abbrev pub TwinsReadAlike : Type 0
 TwinsReadAlike = (key : KeyCode) (held : ℕ) (modes : KeyCodeEncodeModes) (text other : List ℕ) → IsCovered key → Contains any_of_four held
-    → is_newline key held modes ≡ false
+    → is_erasure key held modes ≡ false → is_newline key held modes ≡ false
     → is_newline (twin key held modes).key (twin key held modes).modifiers.0 modes ≡ false
     → enc key (record { 0 = held }) modes ≡ Some text
     → enc (twin key held modes).key (twin key held modes).modifiers modes ≡ Some other
@@ -136,5 +136,5 @@ has_more_texts key = false
 -- Without SUPER a key sends the very bytes of its twin, but where that is Backspace, Enter or Tab.
 abbrev pub TwinsSendTheSame : Type 0
 TwinsSendTheSame = (key : KeyCode) (held : ℕ) (modes : KeyCodeEncodeModes) → IsCovered key → Contains any_of_three held
-    → has_more_texts (twin key held modes).key ≡ false
+    → is_erasure key held modes ≡ false → has_more_texts (twin key held modes).key ≡ false
     → enc (twin key held modes).key (twin key held modes).modifiers modes ≡ enc key (record { 0 = held }) modes

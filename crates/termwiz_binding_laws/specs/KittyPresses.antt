@@ -1,9 +1,10 @@
 -- What is read of the texts of Kitty's protocol, as presses.
-use Rattle.std.specs.Prelude.{◌≡◌, ◌≢◌, ◌⊎◌, ⊤, ◌==◌, ◌&&◌, ℕ, Bool, true, false, not, List, [], ◌∷◌, map, nat_le, Option, Some, None, is_some, option_map, if◌then◌else◌, Contains}
+use Rattle.std.specs.Prelude.{◌≡◌, ◌≢◌, ◌⊎◌, ◌==◌, ◌&&◌, ◌||◌, ℕ, Bool, true, false, not, List, [], ◌∷◌, map, nat_le, Option, Some, None, is_some, if◌then◌else◌, Contains}
 use Rattle.std.specs.Char.{is_ascii_lowercase}
+use Rattle.std.specs.List.{list_any}
 use Rattle.std.specs.Str.{chars}
 use Rattle.termwiz_keys.specs.declared.types.KeyCode.{KeyCode}
-use Rattle.termwiz_keys.specs.declared.types.KeyCode.TheVariants.{Applications}
+use Rattle.termwiz_keys.specs.declared.types.KeyCode.TheVariants.{Char, Applications}
 use Rattle.termwiz_keys.specs.KeyCodes.{holds}
 use Rattle.termwiz_extended_events.specs.declared.types.ExtendedEvent.{ExtendedEvent}
 use Rattle.termwiz_extended_events.specs.declared.types.KeyReport.{KeyReport}
@@ -13,11 +14,12 @@ use Rattle.termwiz_extended_events.specs.declared.types.ReportedKey.{ReportedKey
 use Rattle.termwiz_extended_events.specs.declared.types.ReportedKey.TheVariants.{Named}
 use Rattle.termwiz_extended_grammar.specs.ExtendedGrammar.{Means}
 use Rattle.termwiz_kitty.specs.KeyForms.{is_character}
-use Rattle.termwiz_kitty.specs.Telling.{DISAMBIGUATE, ALTERNATE_KEYS, ALL_KEYS, ASSOCIATED_TEXT, is_release, without_locks, is_legacy, told_key, tells_all_keys, types, legacy_of}
-use Rattle.termwiz_kitty.specs.KittyTexts.{kitty_text, IsWithin}
+use Rattle.termwiz_kitty.specs.Telling.{DISAMBIGUATE, ALTERNATE_KEYS, ALL_KEYS, ASSOCIATED_TEXT, is_release, is_shifted, is_typed_text, without_locks, is_legacy, told_key, tells_all_keys, types, legacy_of}
+use Rattle.termwiz_kitty.specs.KittyTexts.{kitty_text, shown, IsWithin}
 use Rattle.termwiz_kitty.specs.KittyLaws.{IsReport, IsWritable, keys_that_wait}
 use Rattle.termwiz_bindings.specs.declared.press.KeyPress.{KeyPress}
-use Rattle.termwiz_bindings.specs.Presses.{SHIFT, canonical, character, character_press, by_character}
+use Rattle.termwiz_bindings.specs.Letters.{is_shifted as is_shifted_character}
+use Rattle.termwiz_bindings.specs.Presses.{canonical, counted, without_shift}
 use Rattle.termwiz_binding_laws.specs.EncodedPresses.{press_of_event}
 use Rattle.termwiz_binding_laws.specs.LegacyTwins.{legacy_twin}
 
@@ -31,22 +33,45 @@ pub record TellsPresses (flags : ℕ) : Type 0 where
 abbrev pub HasOneCharacter : KeyReport → Type 0
 HasOneCharacter r = (r.text ≡ []) ⊎ ((is_character r.key ≡ true) × ((c : ℕ) × (chars r.text ≡ c ∷ [])))
 
--- a character, if there is one, that isn't a small letter of ASCII
-abbrev pub IsNoSmallLetter : Option ℕ → Type 0
-IsNoSmallLetter (Some c) = is_ascii_lowercase c ≡ false
-IsNoSmallLetter None = ⊤
-
--- A press or a repeat that a terminal can write. It has at most one character of text, and types no small letter of ASCII with Shift.
+-- A press or a repeat that a terminal can write. It has at most one character of text.
 pub record IsPressed (r : KeyReport) : Type 0 where
   pub report : IsReport r
   pub writable : IsWritable r
   pub kept : is_release r.kind ≡ false
   pub text : HasOneCharacter r
-  pub shifted : IsNoSmallLetter r.shifted
 
--- shift+space as the space
-abbrev pub space_alone : KeyPress → KeyPress
-space_alone p = by_character (λ c held. character_press c (if (c == 32) && (held == SHIFT) then 0 else held)) p (character p.key)
+-- the key of the character that a key types
+abbrev pub typed_key : ReportedKey → KeyReport → ReportedKey
+typed_key (Named (Char c)) r = Named (Char (shown c r.modifiers r.shifted))
+typed_key key r = key
+
+-- What the text that this key types tells: the character, without SHIFT.
+abbrev pub typed_report : ReportedKey → KeyReport → KeyReport
+typed_report key r = record r { key = typed_key key r; modifiers = without_shift r.modifiers; shifted = None }
+
+-- a letter of ASCII, or a character that shows SHIFT by itself
+abbrev pub shows_shift : ℕ → Bool
+shows_shift c = is_ascii_lowercase c || is_shifted_character c
+
+-- What this character is with SHIFT can't be seen: it is the space, or it isn't told, and the character doesn't show it.
+abbrev pub is_unseen : ℕ → Option ℕ → Bool
+is_unseen c (Some told) = c == 32
+is_unseen c None = not (shows_shift c)
+
+-- the same of a key whose text isn't told
+abbrev pub hides_shift : ReportedKey → Option ℕ → Bool
+hides_shift (Named (Char c)) told = is_unseen c told
+hides_shift key told = false
+
+-- SHIFT is held, and what the key types doesn't show it. A text does, but that of the space.
+abbrev pub loses_shift : KeyReport → Bool
+loses_shift r =
+    is_shifted r.modifiers && (if is_typed_text r.text then list_any (λ c. c == 32) (chars r.text) else hides_shift r.key (counted r.shifted))
+
+-- What a key types tells its very press, unless SHIFT is lost.
+abbrev pub TypedKeysKeepPresses : Type 0
+TypedKeysKeepPresses = (r : KeyReport) → IsPressed r → types r.key r ≡ true → loses_shift r ≡ false
+    → canonical (typed_report r.key r) ≡ canonical r
 
 -- The key is sent as the text that it types, and not as its report.
 abbrev pub is_sent_as_text : KeyReport → ℕ → Bool
@@ -64,18 +89,18 @@ abbrev pub IsReadWith : Reading → List ℕ → Bool → Option KeyPress → Ty
 IsReadWith reading text more p = (event : ExtendedEvent) × Means reading text more (event ∷ []) [] × (press_of_event event ≡ p)
 
 -- What a terminal writes for such a report, if it writes something, is read as one event. Of a report that event has the given press. Of a
--- text it has the press of the key, where the space has no SHIFT.
+-- text it has the press of what the text tells.
 abbrev pub IsReadAsTold : KeyReport → ℕ → Option KeyPress → Type 0
 IsReadAsTold r flags reported = (reading : Reading) (text : List ℕ) (more : Bool) → reading.protocol ≡ Kitty
     → kitty_text r flags ≡ Some text → text ≢ [] → IsWithin r flags text
-    → IsReadWith reading text more (if is_sent_as_text r flags then option_map space_alone (canonical r) else reported)
+    → IsReadWith reading text more (if is_sent_as_text r flags then canonical (typed_report r.key r) else reported)
 
 -- With flag 1 or 8 a report is read as the press of what it tells.
 abbrev pub KittyTellsPresses : Type 0
 KittyTellsPresses = (r : KeyReport) (flags : ℕ) → IsPressed r → is_legacy flags ≡ false
     → IsReadAsTold r flags (canonical (told_of r flags))
 
--- With flags that tell presses it is read as the very press of the key.
+-- With flags that tell presses a report is read as the very press of the key.
 abbrev pub KittyKeepsPresses : Type 0
 KittyKeepsPresses = (r : KeyReport) (flags : ℕ) → IsPressed r → TellsPresses flags → IsReadAsTold r flags (canonical r)
 
@@ -91,11 +116,11 @@ types_before r flags = types (told_key r flags) r
 abbrev pub is_in_tables : KeyReport → ℕ → Bool
 is_in_tables r flags = not (types_before r flags) && is_some (legacy_of r flags)
 
--- The press that is read of a key that is sent so before the protocol. A typed text has that of the key, where the space has no SHIFT. A text of
--- the tables has that of the key's twin, and a report that of what it tells.
+-- The press that is read of a key that is sent so before the protocol: that of what a typed text tells, that of the key's twin of a text of the
+-- tables, and that of what a report tells.
 abbrev pub press_before : KeyReport → ℕ → Option KeyPress
 press_before r flags =
-    if types_before r flags then option_map space_alone (canonical r)
+    if types_before r flags then canonical (typed_report (told_key r flags) r)
     else (if is_in_tables r flags then canonical (legacy_twin (told_key r flags) (held_before r) r.shifted)
     else canonical (told_of r flags))
 

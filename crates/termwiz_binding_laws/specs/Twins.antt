@@ -1,6 +1,6 @@
 -- Keys that a terminal's text doesn't tell apart: what is read in place of a key with modifiers. Each such key is its twin.
-use Rattle.std.specs.Prelude.{◌==◌, ◌&&◌, ◌||◌, ℕ, Bool, not, List, [], ◌∷◌, Option, option_map, unwrap_or, is_some, codes, bit_and, bit_or, nat_le, if◌then◌else◌}
-use Rattle.std.specs.Char.{is_ascii_uppercase, is_ascii_lowercase, to_ascii_lowercase}
+use Rattle.std.specs.Prelude.{◌==◌, ◌&&◌, ◌||◌, ℕ, Bool, false, not, List, [], ◌∷◌, Option, option_map, unwrap_or, is_some, codes, bit_and, bit_or, nat_le, if◌then◌else◌}
+use Rattle.std.specs.Char.{is_ascii_uppercase, is_ascii_lowercase, is_ascii_alphabetic, is_ascii_punctuation, to_ascii_lowercase}
 use Rattle.std.specs.List.{find, list_any}
 use Rattle.bitflags.specs.Sets.{without}
 use Rattle.termwiz_keys.specs.declared.types.KeyCode.{KeyCode}
@@ -90,21 +90,28 @@ ascii_twin c held modes =
     else (if c == 32 then key_with (Char c) (dropping held SHIFT)
     else control_twin c held modes)))
 
--- CTRL and a character beyond ASCII: only its code tells of CTRL
-abbrev pub wide_twin : ℕ → ℕ → KeyCodeEncodeModes → KeyEvent
-wide_twin c held modes = if is_on modes then key_with (Char c) held else key_with (Char c) (dropping held CTRL)
+-- the space is sent by its code, or a digit: its code isn't sent where ALT is held too
+abbrev pub is_coded : ℕ → ℕ → KeyCodeEncodeModes → Bool
+is_coded c held modes = tells_codes modes && (c == 32 || not (holds held ALT))
 
--- a character without CTRL: only its code tells the space with SHIFT from the space
+-- a character of ASCII without CTRL: a letter shows SHIFT, and only their codes tell SHIFT of the space and of digits
 abbrev pub typed_twin : ℕ → ℕ → KeyCodeEncodeModes → KeyEvent
 typed_twin c held modes =
-    if (c == 32) && not (tells_codes modes) then key_with (Char c) (dropping held SHIFT) else key_with (Char c) held
+    if is_ascii_alphabetic c || is_coded c held modes then key_with (Char c) held else key_with (Char c) (dropping held SHIFT)
 
--- a character
+-- a character of ASCII, with the modifiers that are sent
+abbrev pub sent_twin : ℕ → ℕ → KeyCodeEncodeModes → KeyEvent
+sent_twin c held modes = if holds held CTRL then ascii_twin c held modes else typed_twin c held modes
+
+-- a character beyond ASCII: only its code tells of SHIFT and CTRL
+abbrev pub wide_twin : ℕ → ℕ → KeyCodeEncodeModes → KeyEvent
+wide_twin c held modes = if is_on modes then key_with (Char c) held else key_with (Char c) (only_alt held)
+
+-- a character: SHIFT is never sent of a sign of ASCII
 abbrev pub character_twin : ℕ → ℕ → KeyCodeEncodeModes → KeyEvent
 character_twin c held modes =
-    if not (holds held CTRL) then typed_twin c held modes
-    else (if nat_le 128 c then wide_twin c held modes
-    else ascii_twin c held modes)
+    if nat_le 128 c then wide_twin c held modes
+    else sent_twin c (if is_ascii_punctuation c then dropping held SHIFT else held) modes
 
 -- SHIFT and CTRL with Enter, Escape and Backspace are told by codes alone, at level 1 only with Enter
 abbrev pub told_or_plain : Bool → KeyCode → ℕ → KeyEvent
@@ -113,12 +120,18 @@ told_or_plain told key held = if told then key_with key held else key_with key (
 abbrev pub tells_escape : KeyCodeEncodeModes → Bool
 tells_escape modes = in_csi_u modes || (is_on modes && not (at_level modes 1))
 
+-- Backspace with CTRL in the form of CSI u: its code is that of U+0008, which is ctrl+h
+abbrev pub is_erasure : KeyCode → ℕ → KeyCodeEncodeModes → Bool
+is_erasure Backspace held modes = in_csi_u modes && holds held CTRL
+is_erasure key held modes = false
+
 -- the twin of a key without SUPER
 abbrev pub twin_without_super : KeyCode → ℕ → KeyCodeEncodeModes → KeyEvent
 twin_without_super (Char c) held modes = character_twin c held modes
 twin_without_super Enter held modes = told_or_plain (tells_codes modes) Enter held
 twin_without_super Escape held modes = told_or_plain (tells_escape modes) Escape held
-twin_without_super Backspace held modes = told_or_plain (tells_escape modes) Backspace held
+twin_without_super Backspace held modes =
+    if is_erasure Backspace held modes then key_with (Char 104) held else told_or_plain (tells_escape modes) Backspace held
 twin_without_super key held modes = key_with key held
 
 -- The twin of a key that is pressed while modifiers of these bits are held. Nothing tells of SUPER. Tab loses SHIFT and CTRL with it, where

@@ -31,13 +31,16 @@ pub fn newlines_are_two_enters()
 
 /// A twin is its own twin in the same modes (`own`). So what a key sends and what its twin sends are read as the same press, where
 /// neither is Enter in newline mode (`alike`). No program can bind the two to different commands.
+///
+/// Left out is Backspace with CTRL in the form of CSI u. Its code is that of U+0008, which is ctrl+h, and ctrl+h sends the byte 8, which is
+/// read as Backspace.
 pub fn twins_read_alike()
     ensures own { TwinsAreTheirOwn }
     ensures alike { TwinsReadAlike }
 {}
 
 /// Without SUPER a key sends the very bytes of its twin, but where the twin is Backspace, Enter or Tab. Those have more than one text:
-/// ctrl+h sends the byte 8, and Backspace 127.
+/// ctrl+h sends the byte 8, and Backspace 127. Left out is Backspace with CTRL in the form of CSI u.
 pub fn twins_send_the_same()
     ensures { TwinsSendTheSame }
 {}

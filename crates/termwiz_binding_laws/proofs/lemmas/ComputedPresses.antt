@@ -17,6 +17,7 @@ use Rattle.termwiz_extended_events.specs.ReportedKeys.{functional_key}
 use Rattle.termwiz_extended_events.specs.Meanings.{event_of}
 use Rattle.termwiz_extended_grammar.specs.ExtraSequences.{with_alt}
 use Rattle.termwiz_bindings.specs.declared.press.KeyPress.{KeyPress}
+use Rattle.termwiz_bindings.specs.Letters as letters
 use Rattle.termwiz_bindings.specs.MainKeys as keys
 use Rattle.termwiz_bindings.specs.Presses as rules
 use Rattle.termwiz_bindings.specs.Presses.{canonical, event_report, settled_report}
@@ -25,9 +26,10 @@ use Rattle.termwiz_binding_laws.proofs.lemmas.EveryReading.{report_press}
 
 -- the press of a report: to unfold this is to unfold every rule
 unfoldable pub canonical_written_out : KeyReport → Option KeyPress
-unfolding canonical rules.settled rules.main_press rules.shown_press rules.control_press rules.capital_press
-    rules.unshifted_press rules.lowered_press rules.cased_press rules.typed_press rules.kitty_bits keys.makes_no_press
-    keys.main_code keys.main_of_named functional_key text_chars
+unfolding canonical rules.settled rules.plain_press rules.main_press rules.control_press rules.told_press rules.shown_press
+    rules.lowered_press rules.cased_press rules.typed_press rules.kitty_bits letters.has_near_capital
+    letters.has_far_capital letters.capital_of letters.letter_of letters.is_shifted_sign letters.shown_with_shift
+    keys.makes_no_press keys.main_code keys.main_of_named functional_key text_chars
 canonical_written_out = canonical
 
 -- The rows among which the texts of a key are, after at most one ESC. Enter, Escape, Tab and Backspace may be sent by their codes.

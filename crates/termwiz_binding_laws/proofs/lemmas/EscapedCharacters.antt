@@ -1,7 +1,7 @@
 -- ESC and a character is read as that character with ALT.
-use Rattle.std.proofs.Common.{◌≡◌, ◌≢◌, ◌∙◌, ◌⊎◌, ⊎_elim, ℕ, ◌≤◌, ◌<◌, Bool, true, false, not, List, [], ◌∷◌, map, length, Some, refl, sym, subst, arith, Contains, ◌||◌, ◌==◌, nat_le}
+use Rattle.std.proofs.Common.{◌≡◌, ◌≢◌, ◌∙◌, ◌⊎◌, ⊎_elim, ℕ, ◌≤◌, ◌<◌, Bool, true, false, not, List, [], ◌∷◌, map, length, Some, refl, sym, ap, subst, arith, Contains, ◌||◌, nat_le}
 use Rattle.std.specs.List.{list_all}
-use Rattle.std.specs.Char.{encode_utf8, is_control, is_ascii_alphanumeric, is_ascii_punctuation}
+use Rattle.std.specs.Char.{encode_utf8, is_control, is_ascii_alphabetic, is_ascii_alphanumeric, is_ascii_punctuation}
 use Rattle.std.proofs.lemmas.Bool.{and_right, not-true}
 use Rattle.std.proofs.lemmas.Bool.Decides.{nat_tests}
 use Rattle.std.proofs.lemmas.List.Sums.{AllPass-from_list_all}
@@ -42,13 +42,22 @@ wide_sent d high =
     let no_letter : is_ascii_alphanumeric d || is_ascii_punctuation d ≡ false = grind (arith, nat_tests) in
     rw (key_with_alt d (λ e. omega arith) (λ e. omega arith), held_with_alt d, no_letter)
 
-escape_twin : (d : ℕ) → press_of_key (twin (Char d) port.ALT xterm_modes) ≡ canonical (press_of (Char d) ALT)
-unfolding twin kitty_bits
-escape_twin d = go (d == 32) refl
+-- ALT alone stays
+alt_twin : (d : ℕ) → twin (Char d) port.ALT xterm_modes ≡ key_with (Char d) port.ALT
+unfolding twin
+alt_twin d = go (nat_le 128 d) refl (is_ascii_punctuation d) refl (is_ascii_alphabetic d) refl
   where
-    go : (b : Bool) → (d == 32) ≡ b → press_of_key (twin (Char d) port.ALT xterm_modes) ≡ canonical (press_of (Char d) ALT)
-    go true e = rw e refl
-    go false e = rw e refl
+    go : (w : Bool) → nat_le 128 d ≡ w → (p : Bool) → is_ascii_punctuation d ≡ p → (a : Bool) → is_ascii_alphabetic d ≡ a
+        → twin (Char d) port.ALT xterm_modes ≡ key_with (Char d) port.ALT
+    go true e p f a g = rw e refl
+    go false e true f true g = rw (e, f, g) refl
+    go false e true f false g = rw (e, f, g) refl
+    go false e false f true g = rw (e, f, g) refl
+    go false e false f false g = rw (e, f, g) refl
+
+escape_twin : (d : ℕ) → press_of_key (twin (Char d) port.ALT xterm_modes) ≡ canonical (press_of (Char d) ALT)
+unfolding kitty_bits
+escape_twin d = ap press_of_key (alt_twin d)
 
 escape_unbroken : list_all (λ d. not (is_replaced (canonical (press_of (Char d) ALT)))) (numbers 32 95) ≡ true
 unfolding canonical_written_out numbers

@@ -1,6 +1,6 @@
 -- What is written under Kitty's protocol is read as the press of its report.
 use Rattle.std.proofs.Common.{◌≡◌, ◌∙◌, ℕ, Bool, true, false, not, Option, refl, sym, ap, subst, ◌&&◌}
-use Rattle.std.specs.Prelude.{option_map, if◌then◌else◌}
+use Rattle.std.specs.Prelude.{if◌then◌else◌}
 use Rattle.termwiz_extended_events.specs.declared.types.KeyReport.{KeyReport}
 use Rattle.termwiz_extended_events.specs.declared.types.ExtendedEvent.TheVariants.{Key}
 use Rattle.termwiz_kitty.specs.KittyLaws.{typed_events}
@@ -9,7 +9,7 @@ use Rattle.termwiz_kitty.proofs.lemmas.SentPresses.{Sent, sent}
 use Rattle.termwiz_kitty.proofs.lemmas.SentPresses.Sent.{as_text, as_report}
 use Rattle.termwiz_bindings.specs.declared.press.KeyPress.{KeyPress}
 use Rattle.termwiz_bindings.specs.Presses.{canonical}
-use Rattle.termwiz_binding_laws.specs.KittyPresses.{space_alone, is_sent_as_text, told_of, IsPressed, IsReadWith, IsReadAsTold, KittyTellsPresses, KittyKeepsPresses}
+use Rattle.termwiz_binding_laws.specs.KittyPresses.{typed_report, is_sent_as_text, told_of, IsPressed, IsReadWith, IsReadAsTold, KittyTellsPresses, KittyKeepsPresses}
 use Rattle.termwiz_binding_laws.proofs.lemmas.KittyReports.{own_key, report_tells, reports_keys, all_told}
 use Rattle.termwiz_binding_laws.proofs.lemmas.KittyTyped.{kept_read, text_keeps}
 
@@ -25,17 +25,17 @@ read_as_told r flags p is reports tells reading text more kitty writes some with
     go (sent reading r flags text more kitty is.report is.kept reports writes some within)
   where
     go : Sent reading r flags text more
-        → IsReadWith reading text more (if is_sent_as_text r flags then option_map space_alone (canonical r) else p)
+        → IsReadWith reading text more (if is_sent_as_text r flags then canonical (typed_report r.key r) else p)
     go (as_text all typed is_text means) =
         let told : is_sent_as_text r flags ≡ true = rw (all, typed) refl in
-        subst (IsReadWith reading text more) (ap (λ b. if b then option_map space_alone (canonical r) else p) (sym told))
+        subst (IsReadWith reading text more) (ap (λ b. if b then canonical (typed_report r.key r) else p) (sym told))
         (kept_read reading r (typed_events r.key r text) text more (text_keeps r is text typed is_text) means)
     go (as_report unless means) =
         let told : is_sent_as_text r flags ≡ false = not_as_text (tells_all_keys flags) (types r.key r) unless in (
           Key (reported r flags),
           means,
           report_tells r flags r.key (own_key r flags reports) is ∙ tells unless
-              ∙ ap (λ b. if b then option_map space_alone (canonical r) else p) (sym told),
+              ∙ ap (λ b. if b then canonical (typed_report r.key r) else p) (sym told),
         )
 
 pub kitty_tells_presses : KittyTellsPresses

@@ -40,7 +40,7 @@ by_parts r kept = rw (same_release r.kind ∙ kept) refl
 pub untyped : (key : ReportedKey) (bits : ℕ) (shifted : Option ℕ) (text : List ℕ) → is_typed bits text ≡ false
     → canonical (pressed_with key bits shifted text) ≡ canonical (pressed_with key bits shifted [])
 unfolding canonical
-untyped key bits shifted text none = rw none refl
+untyped key bits shifted text none = rw (none, and_right (rules.may_type key) false refl) refl
 
 -- two reports with the same parts have the same press
 same_press : (q r : KeyReport) → is_release q.kind ≡ false → is_release r.kind ≡ false → q.key ≡ r.key

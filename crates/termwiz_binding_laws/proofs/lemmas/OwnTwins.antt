@@ -1,5 +1,6 @@
 -- A twin is its own twin.
-use Rattle.std.proofs.Common.{◌≡◌, ◌∙◌, ◌⊎◌, inl, inr, ℕ, ◌≤◌, ◌<◌, Bool, true, false, List, [], ◌∷◌, map, Some, refl, sym, ap, subst, arith, Contains, lit<, ◌&&◌, nat_le, nat_lt}
+use Rattle.std.proofs.Common.{◌≡◌, ◌∙◌, ◌⊎◌, inl, inr, ℕ, ◌≤◌, ◌<◌, Bool, true, false, List, [], ◌∷◌, map, Option, Some, None, refl, sym, ap, subst, arith, Contains, lit<, ◌&&◌, nat_le, nat_lt}
+use Rattle.std.specs.Prelude.{if◌then◌else◌}
 use Rattle.std.specs.Char.{IsScalar}
 use Rattle.std.proofs.Math.Utf8.{low_scalar}
 use Rattle.std.proofs.lemmas.Bool.{and_parts, ltb-true, leb-true}
@@ -7,14 +8,15 @@ use Rattle.termwiz_keys.specs.declared.types.KeyCode.{KeyCode}
 use Rattle.termwiz_keys.specs.declared.types.KeyCode.TheVariants.{Char, Backspace, Tab, Enter, Escape}
 use Rattle.termwiz_keys.specs.declared.types.KeyEvent.{KeyEvent}
 use Rattle.termwiz_keys.specs.declared.encode.KeyCodeEncodeModes.{KeyCodeEncodeModes}
-use Rattle.termwiz_keys.specs.Keys.{key_with}
+use Rattle.termwiz_keys.specs.Keys.{CTRL, key_with}
+use Rattle.termwiz_keys.specs.KeyCodes.{holds}
 use Rattle.termwiz_grammar.specs.Table.{numbers}
 use Rattle.termwiz_grammar.proofs.lemmas.lists.ListMembers.{pairs, in_map, in_pairs, same_on}
 use Rattle.termwiz_laws.proofs.lemmas.further_keys.AlikeModes.{Alike}
 use Rattle.termwiz_laws.proofs.lemmas.further_keys.ComputedReadings.{Held, chars}
 use Rattle.termwiz_laws.proofs.lemmas.further_keys.SingleKey.{among, among_contains}
 use Rattle.termwiz_kitty.proofs.lemmas.PortKeys.{at_number}
-use Rattle.termwiz_binding_laws.specs.Twins.{SUPER, dropping, is_on, twin}
+use Rattle.termwiz_binding_laws.specs.Twins.{SUPER, dropping, is_on, is_erasure, twin}
 use Rattle.termwiz_binding_laws.specs.EncodedPresses.{at_first, any_of_four, IsCovered, IsReadAsPress, IsReadAsKey, IsOwnTwin, TwinsAreTheirOwn, TwinsReadAlike}
 use Rattle.termwiz_binding_laws.proofs.lemmas.AsciiPresses.{printable}
 use Rattle.termwiz_binding_laws.proofs.lemmas.ComputedPresses.{twin_of}
@@ -52,8 +54,16 @@ again modes p = (
 abbrev settled : KeyCodeEncodeModes → Held → KeyEvent × Bool
 settled modes p = (twin_of modes p, true)
 
+-- the same of all keys that the law speaks of
+abbrev unless_erasure : (KeyCodeEncodeModes → Held → KeyEvent × Bool) → KeyCodeEncodeModes → Held → Option (KeyEvent × Bool)
+unless_erasure f modes p = if is_erasure p.0 p.1 modes then None else Some (f modes p)
+
+kept : (b : Bool) (x y : KeyEvent × Bool) → b ≡ false → (if b then None else Some x) ≡ (if b then None else Some y) → x ≡ y
+kept true x y e h = absurd (cc (e))
+kept false x y e h = cc (h)
+
 abbrev AllOwn : List Held → KeyCodeEncodeModes → Type 0
-AllOwn cases modes = map (again modes) cases ≡ map (settled modes) cases
+AllOwn cases modes = map (unless_erasure again modes) cases ≡ map (unless_erasure settled modes) cases
 
 abbrev named : List Held
 named = pairs (Tab ∷ Enter ∷ Escape ∷ Backspace ∷ []) any_of_four
@@ -86,9 +96,10 @@ named_own n = record {
 
 -- what was computed of a list of keys
 by_list : (cases : List Held) (key : KeyCode) (held : ℕ) (modes : KeyCodeEncodeModes) → Contains cases (key, held) → AllOwn cases modes
-    → IsOwnTwin (twin key held modes) modes
-by_list cases key held modes here test =
-    let both = same_on (again modes) (settled modes) cases (key, held) test here in
+    → is_erasure key held modes ≡ false → IsOwnTwin (twin key held modes) modes
+by_list cases key held modes here test other =
+    let both = kept (is_erasure key held modes) (again modes (key, held)) (settled modes (key, held)) other
+    (same_on (unless_erasure again modes) (unless_erasure settled modes) cases (key, held) test here) in
     let k : KeyEvent = twin key held modes in
     let parts = and_parts (is_covered k.key) (among any_of_four k.modifiers.0) (ap (λ x. x.1) both) in
     record {
@@ -104,11 +115,19 @@ own_alike key held a b alike own =
     subst (λ j. IsOwnTwin j a) (sym (twin_same a b alike key held))
     (record { covered = own.covered; set = own.set; own = twin_same a b alike k.key k.modifiers.0 ∙ own.own })
 
+same_erasure : (key : KeyCode) (held : ℕ) (a b : KeyCodeEncodeModes) → Alike a b → is_erasure key held a ≡ is_erasure key held b
+same_erasure Backspace held a b alike = ap (λ csi. csi && holds held CTRL) alike.csi_u
+same_erasure key held a b alike = refl
+
+-- the statement for one key in some modes
+abbrev Own : KeyCode → ℕ → KeyCodeEncodeModes → Type 0
+Own key held modes = is_erasure key held modes ≡ false → IsOwnTwin (twin key held modes) modes
+
 in_modes : (cases : List Held) (key : KeyCode) (held : ℕ) (modes : KeyCodeEncodeModes) → Contains cases (key, held)
-    → InEveryClass (AllOwn cases) modes.newline_mode → IsOwnTwin (twin key held modes) modes
+    → InEveryClass (AllOwn cases) modes.newline_mode → Own key held modes
 in_modes cases key held modes here all =
-    in_all_modes (AllOwn cases) (λ m. IsOwnTwin (twin key held m) m) (λ m test. by_list cases key held m here test)
-    (own_alike key held) modes all
+    in_all_modes (AllOwn cases) (Own key held) (λ m test. by_list cases key held m here test)
+    (λ a b alike own other. own_alike key held a b alike (own (sym (same_erasure key held a b alike) ∙ other))) modes all
 
 -- what a twin beyond ASCII holds
 wide_again_on : map (λ held. wide_held true (wide_held true held)) any_of_four ≡ map (wide_held true) any_of_four
@@ -163,7 +182,7 @@ character_own c held modes covered here = go (below_or_not 128)
     go (inl small) = in_modes printable (Char c) held modes
         (in_pairs (chars (numbers 32 95)) any_of_four (Char c) held
         (in_map (λ d. Char d) (numbers 32 95) c (at_number 32 95 c covered.1 (omega (arith, covered.2)))) here)
-        (printable_own modes.newline_mode)
+        (printable_own modes.newline_mode) refl
     go (inr high) = wide_own c held modes covered.0 high here
 
 -- a key whose twin loses SUPER alone
@@ -180,29 +199,29 @@ steady_own key held modes covered here loses =
 
 pub twins_are_their_own : TwinsAreTheirOwn
 unfolding twin
-twins_are_their_own (Char c) held modes covered here = character_own c held modes covered here
-twins_are_their_own Tab held modes covered here =
+twins_are_their_own (Char c) held modes covered here other = character_own c held modes covered here
+twins_are_their_own Tab held modes covered here other =
     in_modes named Tab held modes (in_pairs (Tab ∷ Enter ∷ Escape ∷ Backspace ∷ []) any_of_four Tab held (0, lit< tt, refl) here)
-    (named_own modes.newline_mode)
-twins_are_their_own Enter held modes covered here =
+    (named_own modes.newline_mode) other
+twins_are_their_own Enter held modes covered here other =
     in_modes named Enter held modes (in_pairs (Tab ∷ Enter ∷ Escape ∷ Backspace ∷ []) any_of_four Enter held (1, lit< tt, refl) here)
-    (named_own modes.newline_mode)
-twins_are_their_own Escape held modes covered here =
+    (named_own modes.newline_mode) other
+twins_are_their_own Escape held modes covered here other =
     in_modes named Escape held modes (in_pairs (Tab ∷ Enter ∷ Escape ∷ Backspace ∷ []) any_of_four Escape held (2, lit< tt, refl) here)
-    (named_own modes.newline_mode)
-twins_are_their_own Backspace held modes covered here =
+    (named_own modes.newline_mode) other
+twins_are_their_own Backspace held modes covered here other =
     in_modes named Backspace held modes
     (in_pairs (Tab ∷ Enter ∷ Escape ∷ Backspace ∷ []) any_of_four Backspace held (3, lit< tt, refl) here)
-    (named_own modes.newline_mode)
-twins_are_their_own key held modes covered here = steady_own key held modes covered here (λ h. refl)
+    (named_own modes.newline_mode) other
+twins_are_their_own key held modes covered here other = steady_own key held modes covered here (λ h. refl)
 
 pub twins_read_alike : TwinsReadAlike
-twins_read_alike key held modes text other covered here newline twin_newline sends sends_too some some_too =
+twins_read_alike key held modes text second covered here other newline twin_newline sends sends_too some some_too =
     let k : KeyEvent = twin key held modes in
-    let own = twins_are_their_own key held modes covered here in
+    let own = twins_are_their_own key held modes covered here other in
     let one = presses_of_encoded_keys key held modes text covered here newline sends some in
-    let too = subst (λ j. IsReadAsKey at_first other j) own.own
-    (presses_of_encoded_keys k.key k.modifiers.0 modes other own.covered own.set twin_newline sends_too some_too) in
+    let too = subst (λ j. IsReadAsKey at_first second j) own.own
+    (presses_of_encoded_keys k.key k.modifiers.0 modes second own.covered own.set twin_newline sends_too some_too) in
     let e : Some too.0 ≡ Some one.0 = sym too.1 ∙ one.1 in
     let same : too.0 ≡ one.0 = cc (e) in
-    (one.0, one.2, subst (λ p. IsReadAsPress at_first other p) same too.2)
+    (one.0, one.2, subst (λ p. IsReadAsPress at_first second p) same too.2)

@@ -1,6 +1,6 @@
 -- What is written as before Kitty's protocol is read as the press of the key, of its twin, or of what a report tells.
 use Rattle.std.proofs.Common.{Contains, ◌≡◌, ◌≢◌, ◌∙◌, ℕ, ◌<◌, Bool, true, false, not, List, [], Option, Some, None, refl, sym, ap, subst, arith, ◌&&◌, nat_le}
-use Rattle.std.specs.Prelude.{is_some, option_map, if◌then◌else◌}
+use Rattle.std.specs.Prelude.{is_some, if◌then◌else◌}
 use Rattle.std.proofs.lemmas.Bool.{and_parts, and_right, not-true}
 use Rattle.std.proofs.lemmas.Nat.{and_le_r}
 use Rattle.termwiz_keys.specs.KeyCodes.{holds}
@@ -19,8 +19,8 @@ use Rattle.termwiz_kitty.specs.KittyTexts.{kitty_text, typed_by, typed_text, IsW
 use Rattle.termwiz_kitty.specs.KittyLaws.{typed_events}
 use Rattle.termwiz_kitty.proofs.lemmas.read_back.SequencesMean.{kitty_read_back}
 use Rattle.termwiz_kitty.proofs.lemmas.typed.TypedTexts.{typed_read_back}
-use Rattle.termwiz_bindings.specs.Presses.{canonical}
-use Rattle.termwiz_binding_laws.specs.KittyPresses.{PressesBeforeKitty, IsPressed, IsReadWith, space_alone, told_of, held_before, is_in_tables, press_before, is_applications, needs_kitty, presses_that_wait, BeginsLonger}
+use Rattle.termwiz_bindings.specs.Presses.{canonical, without_shift}
+use Rattle.termwiz_binding_laws.specs.KittyPresses.{PressesBeforeKitty, IsPressed, IsReadWith, typed_key, typed_report, told_of, held_before, is_in_tables, press_before, is_applications, needs_kitty, presses_that_wait, BeginsLonger}
 use Rattle.termwiz_binding_laws.specs.LegacyTwins.{legacy_twin}
 use Rattle.termwiz_binding_laws.proofs.lemmas.KittyReports.{report_tells}
 use Rattle.termwiz_binding_laws.proofs.lemmas.KittyTyped.{kept_read, text_keeps}
@@ -48,14 +48,22 @@ typed_text_same : (key k : ReportedKey) (r : KeyReport) → typed_text key r ≡
 unfolding typed_text
 typed_text_same key k r = ap (λ s. if is_typed_text r.text then r.text else s) (sym (typed_same key k r))
 
+-- and so is what its text tells
+typed_key_same : (key k : ReportedKey) (r : KeyReport) → typed_key key (record r { key = k }) ≡ typed_key key r
+typed_key_same (Named (Char c)) k r = refl
+typed_key_same (Named key) k r = refl
+typed_key_same (Functional n) k r = refl
+
+typed_press_same : (key k : ReportedKey) (r : KeyReport)
+    → canonical (typed_report key (record r { key = k })) ≡ canonical (typed_report key r)
+typed_press_same key k r =
+    ap (λ (n : ReportedKey). canonical (record r { key = n; modifiers = without_shift r.modifiers; shifted = None })) (typed_key_same key k r)
+
 module _ (reading : Reading) (r : KeyReport) (flags : ℕ) (text : List ℕ) (more : Bool) (is : IsPressed r) (before : is_legacy flags ≡ true)
     (kitty : needs_kitty r flags ≡ true → reading.protocol ≡ Kitty) (tables : more ≡ true → ¬ BeginsLonger r flags)
     (writes : kitty_text r flags ≡ Some text) (some : text ≢ []) (within : IsWithin r flags text) where
   key_told : told_key r flags ≡ main_key r.key
   key_told = rw before refl
-
-  press_told : canonical (told r) ≡ canonical r
-  press_told = same_key_press r (main_key r.key) (main_alike r.key)
 
   not_all : tells_all_keys flags ≡ false
   not_all = not-true (tells_all_keys flags) (and_parts (not (holds flags DISAMBIGUATE)) (not (tells_all_keys flags)) before).1
@@ -86,8 +94,8 @@ module _ (reading : Reading) (r : KeyReport) (flags : ℕ) (text : List ℕ) (mo
         let means : Means reading text more (typed_events (main_key r.key) r text) [] =
         subst (λ k. Means reading text more (typed_events k r text) []) key_told
         (typed_read_back reading r flags text more is.report (rw (before, is.kept, sent, types', no_control, not_all) refl) writes) in
-        let press : press_before r flags ≡ option_map space_alone (canonical r) = rw (before, types') refl in
-        subst (IsReadWith reading text more) (ap (option_map space_alone) press_told ∙ sym press)
+        let press : press_before r flags ≡ canonical (typed_report (main_key r.key) r) = rw (before, types') refl in
+        subst (IsReadWith reading text more) (typed_press_same (main_key r.key) (main_key r.key) r ∙ sym press)
         (kept_read reading (told r) (typed_events (main_key r.key) r text) text more (text_keeps (told r) (told_pressed r is) text types' is_text)
         means)
 

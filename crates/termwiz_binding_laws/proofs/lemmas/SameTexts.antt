@@ -17,7 +17,7 @@ use Rattle.termwiz_laws.proofs.lemmas.further_keys.AlikeModes.{Alike, enc_same}
 use Rattle.termwiz_laws.proofs.lemmas.further_keys.ComputedReadings.{Held, chars, enc_written_out}
 use Rattle.termwiz_laws.proofs.lemmas.further_keys.FurtherReadings.{bits}
 use Rattle.termwiz_kitty.proofs.lemmas.PortKeys.{at_number}
-use Rattle.termwiz_binding_laws.specs.Twins.{SUPER, dropping, only_alt, is_on, tells_codes, tells_escape, twin}
+use Rattle.termwiz_binding_laws.specs.Twins.{SUPER, dropping, only_alt, is_on, is_erasure, tells_codes, tells_escape, twin}
 use Rattle.termwiz_binding_laws.specs.EncodedPresses.{IsCovered, has_more_texts, TwinsSendTheSame}
 use Rattle.termwiz_binding_laws.proofs.lemmas.ComputedPresses.{twin_of}
 use Rattle.termwiz_binding_laws.proofs.lemmas.ModeClasses.{twin_same, InEveryClass, in_all_modes}
@@ -159,19 +159,26 @@ more_of_either : (b : Bool) (key : KeyCode) (x y : ℕ) → has_more_texts key �
 more_of_either true key x y more = more
 more_of_either false key x y more = more
 
+-- CTRL is held without SUPER too
+erasure_kept : (held : ℕ) (modes : KeyCodeEncodeModes) → Contains any_of_three held → is_erasure Backspace held modes ≡ false
+    → is_erasure Backspace (dropping held SUPER) modes ≡ false
+erasure_kept held modes here other =
+    ap (λ h. is_erasure Backspace h modes) (same_on (λ h. dropping h SUPER) (λ h. h) any_of_three held no_super here) ∙ other
+
 pub twins_send_the_same : TwinsSendTheSame
 unfolding twin
-twins_send_the_same (Char c) held modes covered here one = character_same c held modes covered here one
-twins_send_the_same Escape held modes covered here one =
+twins_send_the_same (Char c) held modes covered here other one = character_same c held modes covered here one
+twins_send_the_same Escape held modes covered here other one =
     in_modes escapes Escape held modes (in_pairs (Escape ∷ []) any_of_three Escape held (0, lit< tt, refl) here)
     (escapes_same modes.newline_mode) one
-twins_send_the_same Tab held modes covered here one =
+twins_send_the_same Tab held modes covered here other one =
     let more = more_of_either (holds held SUPER && not (is_on modes)) Tab (only_alt held) (dropping held SUPER) refl in
     absurd (cc (one, more))
-twins_send_the_same Enter held modes covered here one =
+twins_send_the_same Enter held modes covered here other one =
     let more = more_of_either (tells_codes modes) Enter (dropping held SUPER) (only_alt (dropping held SUPER)) refl in
     absurd (cc (one, more))
-twins_send_the_same Backspace held modes covered here one =
+twins_send_the_same Backspace held modes covered here other one =
+    let plain : is_erasure Backspace (dropping held SUPER) modes ≡ false = erasure_kept held modes here other in
     let more = more_of_either (tells_escape modes) Backspace (dropping held SUPER) (only_alt (dropping held SUPER)) refl in
-    absurd (cc (one, more))
-twins_send_the_same key held modes covered here one = steady_same key held modes here
+    absurd (cc (rw plain at one, more))
+twins_send_the_same key held modes covered here other one = steady_same key held modes here

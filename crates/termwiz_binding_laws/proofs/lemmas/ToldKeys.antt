@@ -36,12 +36,17 @@ entry_in (row ∷ table) n k e = go (row.0 == n) refl (λ later. entry_in table 
 
 -- the keys have the same press
 pub record HaveSamePress (k l : ReportedKey) : Type 0 where
+  pub no_key : keys.is_no_key k ≡ keys.is_no_key l
   pub none : keys.makes_no_press k ≡ keys.makes_no_press l
   pub main : keys.main_key k ≡ keys.main_key l
 
 pub same_key_press : (r : KeyReport) (k : ReportedKey) → HaveSamePress k r.key → canonical (record r { key = k }) ≡ canonical r
-unfolding canonical rules.settled rules.main_press
-same_key_press r k same = rw (same.none, same.main) refl
+unfolding canonical rules.settled rules.plain_press rules.main_press
+same_key_press r k same = rw (same.no_key, same.none, same.main) refl
+
+main_no_key : map (λ (row : ℕ × KeyCode). keys.is_no_key (Named row.1)) main_keys
+    ≡ map (λ (row : ℕ × KeyCode). keys.is_no_key (Functional row.0)) main_keys
+main_no_key = refl
 
 main_none : map (λ (row : ℕ × KeyCode). keys.makes_no_press (Named row.1)) main_keys
     ≡ map (λ (row : ℕ × KeyCode). keys.makes_no_press (Functional row.0)) main_keys
@@ -80,24 +85,25 @@ function_own n = go (nat_le 13 n && nat_le n 35) refl
 -- a key by its number, or its main key
 functional_alike : (n : ℕ) (o : Option KeyCode) → entry_at main_keys n ≡ o
     → HaveSamePress (unwrap_or (option_map Named o) (Functional n)) (Functional n)
-functional_alike n None e = record { none = refl; main = refl }
+functional_alike n None e = record { no_key = refl; none = refl; main = refl }
 functional_alike n (Some k) e =
     let here = entry_in main_keys n k e in
     record {
+      no_key = same_on (λ row. keys.is_no_key (Named row.1)) (λ row. keys.is_no_key (Functional row.0)) main_keys (n, k) main_no_key here;
       none = same_on (λ row. keys.makes_no_press (Named row.1)) (λ row. keys.makes_no_press (Functional row.0)) main_keys (n, k) main_none here;
       main = same_on (λ row. keys.main_key (Named row.1)) (λ row. keys.main_key (Functional row.0)) main_keys (n, k) main_same here;
     }
 
 pub main_alike : (key : ReportedKey) → HaveSamePress (main_key key) key
 unfolding main_key named_form keys.makes_no_press keys.main_of_named keys.main_code functional_key
-main_alike (Named (Char c)) = record { none = refl; main = refl }
-main_alike (Named (Function n)) = rw (function_own n) (record { none = refl; main = refl })
-main_alike (Named key) = record { none = refl; main = refl }
+main_alike (Named (Char c)) = record { no_key = refl; none = refl; main = refl }
+main_alike (Named (Function n)) = rw (function_own n) (record { no_key = refl; none = refl; main = refl })
+main_alike (Named key) = record { no_key = refl; none = refl; main = refl }
 main_alike (Functional n) = go (is_functional n) refl
   where
     go : (b : Bool) → is_functional n ≡ b → HaveSamePress (main_key (Functional n)) (Functional n)
     go true inside = rw inside (functional_alike n (entry_at main_keys n) refl)
-    go false outside = rw outside (record { none = refl; main = refl })
+    go false outside = rw outside (record { no_key = refl; none = refl; main = refl })
 
 -- a key in its normal form has a main key in its normal form
 normal_or : (n : ℕ) (o : Option KeyCode) → entry_at main_keys n ≡ o → normal_key (Functional n) ≡ Functional n
@@ -165,5 +171,4 @@ module _ (r : KeyReport) (is : IsPressed r) where
     };
     kept = is.kept;
     text = one_character is.text;
-    shifted = is.shifted;
   }

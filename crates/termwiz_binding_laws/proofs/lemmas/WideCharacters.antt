@@ -1,7 +1,7 @@
 -- Characters beyond ASCII: what they send, and the presses of their twins.
-use Rattle.std.proofs.Common.{◌≡◌, ◌∙◌, ℕ, ◌≤◌, Bool, true, false, not, ◌++◌, Some, None, refl, ap, arith, ◌==◌, ◌&&◌, ◌||◌, bit_and, nat_le, nat_lt}
+use Rattle.std.proofs.Common.{◌≡◌, ◌∙◌, ℕ, ◌≤◌, Bool, true, false, ◌++◌, Some, None, refl, ap, arith, ◌==◌, ◌&&◌, ◌||◌, bit_and, nat_le, nat_lt}
 use Rattle.std.specs.Prelude.{if◌then◌else◌}
-use Rattle.std.specs.Char.{encode_utf8, is_ascii_control, is_ascii_lowercase, is_ascii_uppercase, is_ascii_alphanumeric, is_ascii_punctuation, to_ascii_uppercase}
+use Rattle.std.specs.Char.{encode_utf8, is_ascii_control, is_ascii_lowercase, is_ascii_uppercase, is_ascii_alphanumeric, is_ascii_punctuation}
 use Rattle.std.proofs.lemmas.Bool.{and_right}
 use Rattle.std.proofs.lemmas.Bool.Decides.{nat_tests}
 use Rattle.termwiz_base.specs.Control.{control_of}
@@ -16,32 +16,30 @@ use Rattle.termwiz_extended_events.specs.declared.types.KeyEventKind.TheVariants
 use Rattle.termwiz_extended_events.specs.KeyReports.{report_of}
 use Rattle.termwiz_bindings.specs.MainKeys as keys
 use Rattle.termwiz_bindings.specs.Presses as rules
-use Rattle.termwiz_bindings.specs.Presses.{canonical, kitty_bits, character_press, without_shift, all_but_locks}
-use Rattle.termwiz_binding_laws.specs.Twins.{SUPER, dropping, is_on, twin}
+use Rattle.termwiz_bindings.specs.declared.press.KeyPress.{KeyPress}
+use Rattle.termwiz_bindings.specs.Presses.{canonical, character_press, cased_press, all_but_locks}
+use Rattle.termwiz_binding_laws.specs.Twins.{SUPER, dropping, only_alt, is_on, twin}
 
 if_same : {A : Type 0} (b : Bool) (x : A) → (if b then x else x) ≡ x
 if_same true x = refl
 if_same false x = refl
 
--- the press of such a character: only SHIFT is dropped
+-- the press of such a character with these modifiers, by the rules on SHIFT
+abbrev pub wide_press_with : ℕ → ℕ → KeyPress
+wide_press_with c held = cased_press (character_press c held)
+
 pub wide_press : (c bits : ℕ) → 128 ≤ c
     → canonical (report_of (Named (Char c)) (record { modifiers = bits; kind = Press }))
-    ≡ Some (character_press c (without_shift (bit_and bits all_but_locks)))
-unfolding canonical keys.makes_no_press rules.settled rules.main_press keys.main_of_named keys.main_code rules.shown_press
-    rules.control_press rules.cased_press rules.capital_press rules.unshifted_press rules.lowered_press
+    ≡ Some (wide_press_with c (bit_and bits all_but_locks))
+unfolding canonical keys.makes_no_press rules.settled rules.plain_press rules.main_press keys.main_of_named keys.main_code
+    rules.control_press rules.told_press
 wide_press c bits high =
     let no_control : is_ascii_control c ≡ false = grind (arith, nat_tests) in
-    let upper : to_ascii_uppercase c ≡ c = grind (arith, nat_tests) in
-    let no_space : (c == 32) ≡ false = grind (arith, nat_tests) in
-    let no_capital : is_ascii_uppercase c ≡ false = grind (arith, nat_tests) in
-    rw (no_control, upper, if_same (rules.has_shift (bit_and bits all_but_locks)) c, no_space, no_capital)
-    (refl {a = Some (character_press c (without_shift (bit_and bits all_but_locks)))})
+    rw no_control refl
 
 -- what its twin holds
 abbrev pub wide_held : Bool → ℕ → ℕ
-wide_held on held =
-    if not (holds (dropping held SUPER) CTRL) then dropping held SUPER
-    else (if on then dropping held SUPER else dropping (dropping held SUPER) CTRL)
+wide_held on held = if on then dropping held SUPER else only_alt (dropping held SUPER)
 
 if_inside : (c a b : ℕ) (x : Bool) → (if x then key_with (Char c) a else key_with (Char c) b) ≡ key_with (Char c) (if x then a else b)
 if_inside c a b true = refl
@@ -50,19 +48,9 @@ if_inside c a b false = refl
 pub wide_twin_is : (c held : ℕ) (modes : KeyCodeEncodeModes) → 128 ≤ c
     → twin (Char c) held modes ≡ key_with (Char c) (wide_held (is_on modes) held)
 unfolding twin
-wide_twin_is c held modes high = go (holds (dropping held SUPER) CTRL) (is_on modes) refl refl
-  where
-    no_space : (c == 32) ≡ false
-    no_space = grind (arith, nat_tests)
-
-    wide : nat_le 128 c ≡ true
-    wide = grind (arith, nat_tests)
-
-    go : (x o : Bool) → holds (dropping held SUPER) CTRL ≡ x → is_on modes ≡ o
-        → twin (Char c) held modes ≡ key_with (Char c) (wide_held (is_on modes) held)
-    go false o e f = rw (e, no_space) refl
-    go true true e f = rw (e, wide, f) refl
-    go true false e f = rw (e, wide, f) refl
+wide_twin_is c held modes high =
+    let wide : nat_le 128 c ≡ true = grind (arith, nat_tests) in
+    rw wide (if_inside c (dropping held SUPER) (only_alt (dropping held SUPER)) (is_on modes))
 
 -- what it sends
 

@@ -29,7 +29,7 @@ use Rattle.termwiz_extended_grammar.specs.ExtendedGrammar.{Means}
 use Rattle.termwiz_kitty.proofs.lemmas.legacy.ReadAsOne.{IsReportText, ReadAs, read_as as read_as_one, no_escape_before, second_range}
 use Rattle.termwiz_kitty.proofs.lemmas.legacy.ReadAsOne.ReadAs.{as_key, as_report, apart}
 use Rattle.termwiz_kitty.proofs.lemmas.read_back.SequenceForms.{written}
-use Rattle.termwiz_bindings.specs.Presses.{canonical, kitty_bits, character_press, without_shift, all_but_locks}
+use Rattle.termwiz_bindings.specs.Presses.{canonical, kitty_bits, all_but_locks}
 use Rattle.termwiz_binding_laws.specs.Twins.{is_on, twin}
 use Rattle.termwiz_binding_laws.specs.EncodedPresses.{any_of_four, press_of_key, IsReadAsPress}
 use Rattle.termwiz_binding_laws.proofs.lemmas.BeginKey.{small_number}
@@ -37,7 +37,7 @@ use Rattle.termwiz_binding_laws.proofs.lemmas.Readers.{Reader, IsReadBy, IsKeyRe
 use Rattle.termwiz_binding_laws.proofs.lemmas.Readers.Reader.{extended, of_port}
 use Rattle.termwiz_binding_laws.proofs.lemmas.RowReports.{shape}
 use Rattle.termwiz_binding_laws.proofs.lemmas.OtherCodes.{form_is, code_means}
-use Rattle.termwiz_binding_laws.proofs.lemmas.WideCharacters.{wide_press, wide_held, wide_twin_is, sent_alone, sent_by_code, sent_plainly}
+use Rattle.termwiz_binding_laws.proofs.lemmas.WideCharacters.{wide_press, wide_press_with, wide_held, wide_twin_is, sent_alone, sent_by_code, sent_plainly}
 
 -- what the port reads of the modifiers: ALT alone
 abbrev read_bits : ℕ → ℕ
@@ -45,7 +45,7 @@ read_bits held = if holds held ALT then ALT else NONE
 
 -- the modifiers of the presses
 abbrev told_bits : ℕ → ℕ
-told_bits bits' = without_shift (bit_and bits' all_but_locks)
+told_bits bits' = bit_and bits' all_but_locks
 
 abbrev twin_bits : Bool → ℕ → ℕ
 twin_bits on held = told_bits (kitty_bits (wide_held on held))
@@ -75,20 +75,20 @@ module _ (reader : Reader) (c held : ℕ) (modes : KeyCodeEncodeModes) (text : L
   sides = same_on sideless (λ h. h) any_of_four held no_sides here
 
   -- the press of the twin
-  twin_press : (on : Bool) → is_on modes ≡ on → press_of_key (twin (Char c) held modes) ≡ Some (character_press c (twin_bits on held))
+  twin_press : (on : Bool) → is_on modes ≡ on → press_of_key (twin (Char c) held modes) ≡ Some (wide_press_with c (twin_bits on held))
   twin_press on e =
       ap press_of_key (wide_twin_is c held modes high)
       ∙ wide_press c (kitty_bits (wide_held (is_on modes) held)) high
-      ∙ ap (λ o. Some (character_press c (twin_bits o held))) e
+      ∙ ap (λ o. Some (wide_press_with c (twin_bits o held))) e
 
   -- an event of this press, which is the whole text
   read_as : (on : Bool) (t : List ℕ) → is_on modes ≡ on → enc (Char c) (bits held) modes ≡ Some t
-      → IsReadBy reader t (character_press c (twin_bits on held)) → IsKeyReadBy reader text (twin (Char c) held modes)
+      → IsReadBy reader t (wide_press_with c (twin_bits on held)) → IsKeyReadBy reader text (twin (Char c) held modes)
   read_as on t e sent is =
       let same : t ≡ text = (let s : Some t ≡ Some text = sym sent ∙ sends in cc (s)) in (
-        character_press c (twin_bits on held),
+        wide_press_with c (twin_bits on held),
         twin_press on e,
-        subst (λ u. IsReadBy reader u (character_press c (twin_bits on held))) same is,
+        subst (λ u. IsReadBy reader u (wide_press_with c (twin_bits on held))) same is,
       )
 
   -- the two texts are no reports, nor is what follows their ESC
@@ -112,22 +112,22 @@ module _ (reader : Reader) (c held : ℕ) (modes : KeyCodeEncodeModes) (text : L
       → IsKeyReadBy reader text (twin (Char c) held modes)
   by_port on t k form e sent means same = read_as on t e sent (go reader)
     where
-      press : canonical (pressed_key (key_with (Char c) k)) ≡ Some (character_press c (twin_bits on held))
-      press = wide_press c (xterm_number k) high ∙ ap (λ n. Some (character_press c n)) same
+      press : canonical (pressed_key (key_with (Char c) k)) ≡ Some (wide_press_with c (twin_bits on held))
+      press = wide_press c (xterm_number k) high ∙ ap (λ n. Some (wide_press_with c n)) same
 
-      as_one : (reading : Reading) → ReadAs reading t (key_with (Char c) k) false → IsReadAsPress reading t (character_press c (twin_bits on held))
+      as_one : (reading : Reading) → ReadAs reading t (key_with (Char c) k) false → IsReadAsPress reading t (wide_press_with c (twin_bits on held))
       as_one reading (as_key it) = (Input (input.Key (key_with (Char c) k)), it, press)
       as_one reading (as_report is it) = absurd (no_report reading t form is)
       as_one reading (apart v splits is) = absurd (none_behind reading t v form splits is)
 
-      go : (r : Reader) → IsReadBy r t (character_press c (twin_bits on held))
+      go : (r : Reader) → IsReadBy r t (wide_press_with c (twin_bits on held))
       go (extended reading) = as_one reading (read_as_one reading t (key_with (Char c) k) false (record {
         flushed = means;
         means = means;
         closed = λ h. cc (h.more_comes);
         closed_after = λ v split h. cc (h.more_comes);
       }))
-      go of_port = read_by_port t (key_with (Char c) k) (character_press c (twin_bits on held)) means press
+      go of_port = read_by_port t (key_with (Char c) k) (wide_press_with c (twin_bits on held)) means press
 
   plain_means : port.Means (encode_utf8 c) false (input.Key (key_with (Char c) NONE) ∷ []) []
   plain_means = char_means c scalar (omega arith) (λ e. omega arith)
@@ -161,12 +161,12 @@ module _ (reader : Reader) (c held : ℕ) (modes : KeyCodeEncodeModes) (text : L
           (let e : 1 + xterm_number held - 1 ≡ xterm_number held = omega arith in e)
           (code_means (1 + xterm_number held) c (omega arith) (omega (arith, small)) high scalar reading))
 
-      go : (r : Reader) → Knows r (Char c) held modes → IsReadBy r (other_keys_form c held) (character_press c (twin_bits true held))
+      go : (r : Reader) → Knows r (Char c) held modes → IsReadBy r (other_keys_form c held) (wide_press_with c (twin_bits true held))
       go (extended reading) k = (
         Key (report_of (Named (Char c)) (record { modifiers = xterm_number held; kind = Press })),
         means reading,
         wide_press c (xterm_number held) high
-            ∙ ap (λ n. Some (character_press c n))
+            ∙ ap (λ n. Some (wide_press_with c n))
             (same_on (λ h. told_bits (xterm_number h)) (twin_bits true) any_of_four held bits_by_code here),
       )
       go of_port k =
