@@ -1,6 +1,6 @@
 -- What is read of the texts of keys, as presses.
 use Rattle.std.specs.Prelude.{◌≡◌, ◌≢◌, ⊤, ◌+◌, ◌≤◌, ◌==◌, ℕ, Bool, true, false, not, ◌&&◌, ◌||◌, List, [], ◌∷◌, ◌++◌, map, nat_le, Option, Some, option_and_then, Contains}
-use Rattle.std.specs.Char.{IsScalar}
+use Rattle.std.specs.Char.{IsScalar, is_control, is_ascii_digit}
 use Rattle.termwiz_keys.specs.declared.types.KeyCode.{KeyCode}
 use Rattle.termwiz_keys.specs.declared.types.KeyCode.TheVariants.{Char, Function, Backspace, Tab, Enter, KeyPadBegin, Numpad0, Numpad1, Numpad2, Numpad3, Numpad4, Numpad5, Numpad6, Numpad7, Numpad8, Numpad9, Decimal}
 use Rattle.termwiz_keys.specs.declared.types.KeyEvent.{KeyEvent}
@@ -13,14 +13,15 @@ use Rattle.termwiz_grammar.specs.Grammar as port
 use Rattle.termwiz_grammar.specs.Listed.{any_of_three}
 use Rattle.termwiz_extended_events.specs.declared.types.ExtendedEvent.{ExtendedEvent}
 use Rattle.termwiz_extended_events.specs.declared.types.ExtendedEvent.TheVariants.{Input}
-use Rattle.termwiz_extended_events.specs.declared.types.Protocol.TheVariants.{Legacy}
+use Rattle.termwiz_extended_events.specs.declared.types.Protocol.{Protocol}
+use Rattle.termwiz_extended_events.specs.declared.types.Protocol.TheVariants.{Legacy, Kitty}
 use Rattle.termwiz_extended_events.specs.declared.types.Reading.{Reading}
 use Rattle.termwiz_extended_events.specs.EventKeys.{key_of_event}
 use Rattle.termwiz_extended_grammar.specs.ExtendedGrammar.{Means}
-use Rattle.termwiz_extended_grammar.specs.Readings.{first_reading}
+use Rattle.termwiz_extended_grammar.specs.Readings.{first_reading, is_asking}
 use Rattle.termwiz_bindings.specs.declared.press.KeyPress.{KeyPress}
 use Rattle.termwiz_bindings.specs.Presses.{canonical, event_report}
-use Rattle.termwiz_binding_laws.specs.Twins.{SUPER, only_alt, is_on, is_erasure, twin}
+use Rattle.termwiz_binding_laws.specs.Twins.{SUPER, only_alt, in_csi_u, is_on, is_erasure, twin, twin_in}
 
 -- a parser as it begins, before Kitty's protocol: X10 mouse reports aren't read, and no question is open
 abbrev pub at_first : Reading
@@ -73,16 +74,17 @@ PressesOfEncodedKeys = (key : KeyCode) (held : ℕ) (modes : KeyCodeEncodeModes)
     → is_newline key held modes ≡ false → enc key (record { 0 = held }) modes ≡ Some text → text ≢ []
     → IsReadAsKey at_first text (twin key held modes)
 
--- F3 with a modifier: its text is also a report of the cursor's position
+-- F3 with a modifier: its text is also a report of the cursor's position, and is read as one while a question for it is open
 abbrev pub is_position : KeyCode → ℕ → Bool
 is_position (Function n) held = (n == 3) && not (held == NONE)
 is_position key held = false
 
--- The same under every reading, but for F3 with a modifier.
+-- The same under every reading, but for F3 with a modifier while such a question is open.
 abbrev pub PressesInEveryReading : Type 0
 PressesInEveryReading = (reading : Reading) (key : KeyCode) (held : ℕ) (modes : KeyCodeEncodeModes) (text : List ℕ) → IsCovered key
-    → Contains any_of_four held → is_newline key held modes ≡ false → is_position key held ≡ false
-    → enc key (record { 0 = held }) modes ≡ Some text → text ≢ [] → IsReadAsKey reading text (twin key held modes)
+    → Contains any_of_four held → is_newline key held modes ≡ false → (is_position key held && is_asking reading) ≡ false
+    → enc key (record { 0 = held }) modes ≡ Some text → text ≢ []
+    → IsReadAsKey reading text (twin_in reading.protocol key held modes)
 
 -- With no more to come, the parser of the port reads the text as one key, with this press.
 abbrev pub IsReadByPort : List ℕ → KeyPress → Type 0
@@ -106,25 +108,35 @@ NewlinesAreTwoEnters = (held : ℕ) (modes : KeyCodeEncodeModes) (text : List �
     → is_newline Enter held modes ≡ true → enc Enter (record { 0 = held }) modes ≡ Some text
     → Means at_first text false (Input (input.Key (key_with Enter (only_alt held))) ∷ Input (input.Key (key_with Enter NONE)) ∷ []) []
 
--- A key that the laws speak of, with such modifiers, that is its own twin.
-pub record IsOwnTwin (k : KeyEvent) (modes : KeyCodeEncodeModes) : Type 0 where
+-- A key that the laws speak of, with such modifiers, that is its own twin under a protocol.
+pub record IsOwnTwin (protocol : Protocol) (k : KeyEvent) (modes : KeyCodeEncodeModes) : Type 0 where
   pub covered : IsCovered k.key
   pub set : Contains any_of_four k.modifiers.0
-  pub own : twin k.key k.modifiers.0 modes ≡ k
+  pub own : twin_in protocol k.key k.modifiers.0 modes ≡ k
 
--- Every twin is such a key, but that of Backspace with CTRL in the form of CSI u: ctrl+h sends the byte 8 there, and is read as Backspace.
+-- Before Kitty's protocol Backspace with CTRL is read as ctrl+h in the form of CSI u: but ctrl+h sends the byte 8 there, and is read as Backspace.
+abbrev pub is_misread : Protocol → KeyCode → ℕ → KeyCodeEncodeModes → Bool
+is_misread Legacy key held modes = is_erasure key held modes
+is_misread Kitty key held modes = false
+
+-- Every other twin is such a key.
 abbrev pub TwinsAreTheirOwn : Type 0
-TwinsAreTheirOwn = (key : KeyCode) (held : ℕ) (modes : KeyCodeEncodeModes) → IsCovered key → Contains any_of_four held
-    → is_erasure key held modes ≡ false → IsOwnTwin (twin key held modes) modes
+TwinsAreTheirOwn = (protocol : Protocol) (key : KeyCode) (held : ℕ) (modes : KeyCodeEncodeModes) → IsCovered key → Contains any_of_four held
+    → is_misread protocol key held modes ≡ false → IsOwnTwin protocol (twin_in protocol key held modes) modes
 
--- What such a key sends and what its twin sends are read as the same press, where neither is a newline.
+-- The text of the key is read as one key, whatever else may be asked: it is no newline, and no position while a question is open.
+pub record IsReadAlone (reading : Reading) (key : KeyCode) (held : ℕ) (modes : KeyCodeEncodeModes) : Type 0 where
+  pub newline : is_newline key held modes ≡ false
+  pub apart : (is_position key held && is_asking reading) ≡ false
+
+-- What such a key sends and what its twin sends are read as the same press, where each is read as one key.
 abbrev pub TwinsReadAlike : Type 0
-TwinsReadAlike = (key : KeyCode) (held : ℕ) (modes : KeyCodeEncodeModes) (text other : List ℕ) → IsCovered key → Contains any_of_four held
-    → is_erasure key held modes ≡ false → is_newline key held modes ≡ false
-    → is_newline (twin key held modes).key (twin key held modes).modifiers.0 modes ≡ false
+TwinsReadAlike = (reading : Reading) (key : KeyCode) (held : ℕ) (modes : KeyCodeEncodeModes) (text other : List ℕ) → IsCovered key
+    → Contains any_of_four held → is_misread reading.protocol key held modes ≡ false → IsReadAlone reading key held modes
+    → IsReadAlone reading (twin_in reading.protocol key held modes).key (twin_in reading.protocol key held modes).modifiers.0 modes
     → enc key (record { 0 = held }) modes ≡ Some text
-    → enc (twin key held modes).key (twin key held modes).modifiers modes ≡ Some other
-    → text ≢ [] → other ≢ [] → (p : KeyPress) × IsReadAsPress at_first text p × IsReadAsPress at_first other p
+    → enc (twin_in reading.protocol key held modes).key (twin_in reading.protocol key held modes).modifiers modes ≡ Some other
+    → text ≢ [] → other ≢ [] → (p : KeyPress) × IsReadAsPress reading text p × IsReadAsPress reading other p
 
 -- keys that are sent in more than one way: backspace as 127 and 8, Enter as 13 and 10, Tab as its byte and, with ALT, by its code
 abbrev pub has_more_texts : KeyCode → Bool
@@ -133,8 +145,19 @@ has_more_texts Enter = true
 has_more_texts Tab = true
 has_more_texts key = false
 
--- Without SUPER a key sends the very bytes of its twin, but where that is Backspace, Enter or Tab.
+-- the code of such a character tells what SHIFT made: one beyond ASCII, but a control character, and under Kitty's protocol a digit
+abbrev pub is_told_shifted : Protocol → ℕ → KeyCodeEncodeModes → Bool
+is_told_shifted Legacy c modes = nat_le 128 c && not (is_control c)
+is_told_shifted Kitty c modes = (nat_le 128 c && not (is_control c)) || (is_ascii_digit c && not (in_csi_u modes))
+
+-- the key is sent by its code, and SHIFT with it
+abbrev pub is_shown : Protocol → KeyCode → ℕ → KeyCodeEncodeModes → Bool
+is_shown protocol (Char c) held modes = is_on modes && holds held SHIFT && is_told_shifted protocol c modes
+is_shown protocol key held modes = false
+
+-- Without SUPER a key sends the very bytes of its twin, but where that is Backspace, Enter or Tab, and where a code tells what SHIFT made.
 abbrev pub TwinsSendTheSame : Type 0
-TwinsSendTheSame = (key : KeyCode) (held : ℕ) (modes : KeyCodeEncodeModes) → IsCovered key → Contains any_of_three held
-    → is_erasure key held modes ≡ false → has_more_texts (twin key held modes).key ≡ false
-    → enc (twin key held modes).key (twin key held modes).modifiers modes ≡ enc key (record { 0 = held }) modes
+TwinsSendTheSame = (protocol : Protocol) (key : KeyCode) (held : ℕ) (modes : KeyCodeEncodeModes) → IsCovered key → Contains any_of_three held
+    → is_misread protocol key held modes ≡ false → has_more_texts (twin_in protocol key held modes).key ≡ false
+    → is_shown protocol key held modes ≡ false
+    → enc (twin_in protocol key held modes).key (twin_in protocol key held modes).modifiers modes ≡ enc key (record { 0 = held }) modes

@@ -1,6 +1,6 @@
 -- Keys that a terminal's text doesn't tell apart: what is read in place of a key with modifiers. Each such key is its twin.
 use Rattle.std.specs.Prelude.{◌==◌, ◌&&◌, ◌||◌, ℕ, Bool, false, not, List, [], ◌∷◌, Option, option_map, unwrap_or, is_some, codes, bit_and, bit_or, nat_le, if◌then◌else◌}
-use Rattle.std.specs.Char.{is_ascii_uppercase, is_ascii_lowercase, is_ascii_alphabetic, is_ascii_punctuation, to_ascii_lowercase}
+use Rattle.std.specs.Char.{is_control, is_ascii_uppercase, is_ascii_lowercase, is_ascii_alphabetic, is_ascii_digit, is_ascii_punctuation, to_ascii_lowercase}
 use Rattle.std.specs.List.{find, list_any}
 use Rattle.bitflags.specs.Sets.{without}
 use Rattle.termwiz_keys.specs.declared.types.KeyCode.{KeyCode}
@@ -10,6 +10,8 @@ use Rattle.termwiz_keys.specs.declared.encode.KeyCodeEncodeModes.{KeyCodeEncodeM
 use Rattle.termwiz_keys.specs.Encoding.{is_csi_u, is_level}
 use Rattle.termwiz_keys.specs.Keys.{NONE, SHIFT, ALT, CTRL, key_with}
 use Rattle.termwiz_keys.specs.KeyCodes.{holds}
+use Rattle.termwiz_extended_events.specs.declared.types.Protocol.{Protocol}
+use Rattle.termwiz_extended_events.specs.declared.types.Protocol.TheVariants.{Legacy, Kitty}
 
 -- the bit of SUPER
 abbrev pub SUPER : ℕ
@@ -103,9 +105,13 @@ typed_twin c held modes =
 abbrev pub sent_twin : ℕ → ℕ → KeyCodeEncodeModes → KeyEvent
 sent_twin c held modes = if holds held CTRL then ascii_twin c held modes else typed_twin c held modes
 
--- a character beyond ASCII: only its code tells of SHIFT and CTRL
+-- The modifiers that the code of such a character tells. It tells the character as what SHIFT made, but a control character.
+abbrev pub coded_held : ℕ → ℕ → ℕ
+coded_held c held = if is_control c then held else dropping held SHIFT
+
+-- a character beyond ASCII: only its code tells of CTRL
 abbrev pub wide_twin : ℕ → ℕ → KeyCodeEncodeModes → KeyEvent
-wide_twin c held modes = if is_on modes then key_with (Char c) held else key_with (Char c) (only_alt held)
+wide_twin c held modes = key_with (Char c) (if is_on modes then coded_held c held else only_alt held)
 
 -- a character: SHIFT is never sent of a sign of ASCII
 abbrev pub character_twin : ℕ → ℕ → KeyCodeEncodeModes → KeyEvent
@@ -120,7 +126,7 @@ told_or_plain told key held = if told then key_with key held else key_with key (
 abbrev pub tells_escape : KeyCodeEncodeModes → Bool
 tells_escape modes = in_csi_u modes || (is_on modes && not (at_level modes 1))
 
--- Backspace with CTRL in the form of CSI u: its code is that of U+0008, which is ctrl+h
+-- Backspace with CTRL in the form of CSI u: before Kitty's protocol its code is that of U+0008, which is ctrl+h
 abbrev pub is_erasure : KeyCode → ℕ → KeyCodeEncodeModes → Bool
 is_erasure Backspace held modes = in_csi_u modes && holds held CTRL
 is_erasure key held modes = false
@@ -134,9 +140,25 @@ twin_without_super Backspace held modes =
     if is_erasure Backspace held modes then key_with (Char 104) held else told_or_plain (tells_escape modes) Backspace held
 twin_without_super key held modes = key_with key held
 
--- The twin of a key that is pressed while modifiers of these bits are held. Nothing tells of SUPER. Tab loses SHIFT and CTRL with it, where
--- modifyOtherKeys is off.
+-- The twin of a key that is pressed while modifiers of these bits are held, before Kitty's protocol. Nothing tells of SUPER. Tab loses SHIFT and
+-- CTRL with it, where modifyOtherKeys is off.
 unfoldable pub twin : KeyCode → ℕ → KeyCodeEncodeModes → KeyEvent
 twin Tab held modes =
     if holds held SUPER && not (is_on modes) then key_with Tab (only_alt held) else key_with Tab (dropping held SUPER)
 twin key held modes = twin_without_super key (dropping held SUPER) modes
+
+-- the key of a digit
+abbrev pub is_digit_key : KeyCode → Bool
+is_digit_key (Char c) = is_ascii_digit c
+is_digit_key key = false
+
+-- a digit without SHIFT, unless it is sent in the form of CSI u
+abbrev pub shown_twin : Bool → KeyEvent → KeyEvent
+shown_twin csi_u k = if is_digit_key k.key && not csi_u then key_with k.key (dropping k.modifiers.0 SHIFT) else k
+
+-- The twin under a protocol. Under Kitty's the codes of modifyOtherKeys are read as reports: that of a digit tells it as what SHIFT made. In the
+-- form of CSI u the code 8 is Backspace.
+abbrev pub twin_in : Protocol → KeyCode → ℕ → KeyCodeEncodeModes → KeyEvent
+twin_in Legacy key held modes = twin key held modes
+twin_in Kitty Backspace held modes = told_or_plain (tells_escape modes) Backspace (dropping held SUPER)
+twin_in Kitty key held modes = shown_twin (in_csi_u modes) (twin key held modes)

@@ -12,8 +12,9 @@ pub fn presses_of_encoded_keys()
     ensures { PressesOfEncodedKeys }
 {}
 
-/// The same with any state of the parser, under Kitty's protocol too, but for F3 with a modifier. Its text is also a report of the cursor's
-/// position, and is read as one under Kitty's protocol, and while a question for the position is open.
+/// The same with any state of the parser, but for F3 with a modifier while a question for the cursor's position is open: its text is then read
+/// as one. Under Kitty's protocol two keys have other twins (`twin_in`). There xterm's code of a digit tells it as what SHIFT made, and
+/// Backspace with CTRL is told in the form of CSI u.
 pub fn presses_in_every_reading()
     ensures { PressesInEveryReading }
 {}
@@ -29,18 +30,20 @@ pub fn newlines_are_two_enters()
     ensures { NewlinesAreTwoEnters }
 {}
 
-/// A twin is its own twin in the same modes (`own`). So what a key sends and what its twin sends are read as the same press, where
-/// neither is Enter in newline mode (`alike`). No program can bind the two to different commands.
+/// A twin is its own twin in the same modes and under the same protocol (`own`). So what a key sends and what its twin sends are read as the
+/// same press (`alike`). That is so where neither is Enter in newline mode, nor F3 with a modifier while a question is open. No program can
+/// bind the two to different commands.
 ///
-/// Left out is Backspace with CTRL in the form of CSI u. Its code is that of U+0008, which is ctrl+h, and ctrl+h sends the byte 8, which is
-/// read as Backspace.
+/// Before Kitty's protocol Backspace with CTRL in the form of CSI u is left out. Its code is that of U+0008, which is ctrl+h, and ctrl+h sends
+/// the byte 8, which is read as Backspace.
 pub fn twins_read_alike()
     ensures own { TwinsAreTheirOwn }
     ensures alike { TwinsReadAlike }
 {}
 
 /// Without SUPER a key sends the very bytes of its twin, but where the twin is Backspace, Enter or Tab. Those have more than one text:
-/// ctrl+h sends the byte 8, and Backspace 127. Left out is Backspace with CTRL in the form of CSI u.
+/// ctrl+h sends the byte 8, and Backspace 127. Left out is that Backspace with CTRL, and where a code tells what SHIFT made. So is a
+/// character beyond ASCII but a control character, and a digit under Kitty's protocol.
 pub fn twins_send_the_same()
     ensures { TwinsSendTheSame }
 {}

@@ -24,11 +24,11 @@ use Rattle.termwiz_laws.proofs.lemmas.shared_texts.TwinKeys.{read_once, sent_mea
 use Rattle.termwiz_extended_events.specs.declared.types.ExtendedEvent.{ExtendedEvent}
 use Rattle.termwiz_extended_events.specs.declared.types.ExtendedEvent.TheVariants.{Input, Key, CursorPosition}
 use Rattle.termwiz_extended_events.specs.declared.types.Reading.{Reading}
-use Rattle.termwiz_extended_events.specs.Meanings.{event_of, IsKey, IsKeyOrPosition}
+use Rattle.termwiz_extended_events.specs.Meanings.{IsKey, IsKeyOrPosition}
 use Rattle.termwiz_extended_grammar.specs.ExtraSequences as extra
 use Rattle.termwiz_extended_grammar.specs.ExtendedGrammar.{HasItem, IsRest, Means}
 use Rattle.termwiz_extended_grammar.specs.ExtendedGrammar.Stands.{alt_key, lone_escape}
-use Rattle.termwiz_extended_grammar.specs.Readings.{after_events}
+use Rattle.termwiz_extended_grammar.specs.Readings.{after_events, event_in}
 use Rattle.termwiz_extended_grammar.proofs.lemmas.cuts.ExtendedCuts.{cut_independent}
 use Rattle.termwiz_extended_grammar.proofs.lemmas.items.ExtendedRests.{one_meaning}
 use Rattle.termwiz_kitty.proofs.lemmas.PortKeys.{xterm_modes, held_that_wait}
@@ -118,12 +118,12 @@ first_item reading text event means = (means.steps.0, event, means.steps.1)
 item : (reading : Reading) (text : List ℕ) (k : KeyEvent) → IsRead reading text k true → HasItem reading text true
 item reading text k is = go (read_as reading text k true is)
   where
-    behind : (v : List ℕ) → text ≡ ESC ++ v → IsReportText reading v → IsKey (event_of v) ⊎ (¬ IsKey (event_of v)) → HasItem reading text true
+    behind : (v : List ℕ) → text ≡ ESC ++ v → IsReportText reading v → IsKey (event_in reading v) ⊎ (¬ IsKey (event_in reading v)) → HasItem reading text true
     behind v split report (inl key) =
         let row = behind_row reading text v k split (single text k is.flushed) report in (
           [],
-          extra.with_alt (event_of v),
-          alt_key v [] (event_of v) report.is_extra (record { is_key = key; layout = inl (row.0, row_is v row.0 row.1) })
+          extra.with_alt (event_in reading v),
+          alt_key v [] (event_in reading v) report.is_extra (record { is_key = key; layout = inl (row.0, row_is v row.0 row.1) })
               (split ∙ ap (λ u. ESC ++ u) (sym (append-nil v))),
         )
     behind v split report (inr position) = (
@@ -131,7 +131,7 @@ item reading text k is = go (read_as reading text k true is)
       Input (input.Key escape),
       lone_escape v split (inl (record {
         text = v;
-        event = event_of v;
+        event = event_in reading v;
         is_extra = report.is_extra;
         not_bare = λ bare. position bare.is_key;
         begins = ([], sym (append-nil v));
@@ -140,8 +140,8 @@ item reading text k is = go (read_as reading text k true is)
 
     go : ReadAs reading text k true → HasItem reading text true
     go (as_key means) = first_item reading text (Input (input.Key k)) means
-    go (as_report report means) = first_item reading text (event_of text) means
-    go (apart v split report) = behind v split report (key_or_not (event_of v) report.reports)
+    go (as_report report means) = first_item reading text (event_in reading text) means
+    go (apart v split report) = behind v split report (key_or_not (event_in reading v) report.reports)
 
 -- two lists that join to one event
 record IsOneEvent (e event : ExtendedEvent) (E D : List ExtendedEvent) : Type 0 where

@@ -21,6 +21,8 @@ use Rattle.termwiz_laws.proofs.lemmas.further_keys.ComputedReadings.{enc_written
 use Rattle.termwiz_laws.proofs.lemmas.further_keys.FurtherReadings.{bits}
 use Rattle.termwiz_extended_events.specs.declared.types.KeyReport.{KeyReport}
 use Rattle.termwiz_extended_events.specs.declared.types.KeyEventKind.TheVariants.{Press}
+use Rattle.termwiz_extended_events.specs.declared.types.Protocol.{Protocol}
+use Rattle.termwiz_extended_events.specs.declared.types.Protocol.TheVariants.{Legacy, Kitty}
 use Rattle.termwiz_extended_events.specs.declared.types.Reading.{Reading}
 use Rattle.termwiz_extended_events.specs.declared.types.ReportedKey.TheVariants.{Named}
 use Rattle.termwiz_extended_events.specs.declared.types.ExtendedEvent.TheVariants.{Key}
@@ -31,11 +33,12 @@ use Rattle.termwiz_extended_grammar.specs.Forms.{IsForm}
 use Rattle.termwiz_extended_grammar.specs.Forms.IsForm.{control}
 use Rattle.termwiz_extended_grammar.specs.ExtraSequences.{IsFree}
 use Rattle.termwiz_extended_grammar.specs.ExtendedGrammar.{Means}
+use Rattle.termwiz_extended_grammar.specs.Readings.{is_asking}
 use Rattle.termwiz_kitty.proofs.lemmas.read_back.SequenceForms.{written, is_control}
 use Rattle.termwiz_kitty.proofs.lemmas.read_back.SequencesMean.{means_alone}
 use Rattle.termwiz_bindings.specs.declared.press.KeyPress.{KeyPress}
 use Rattle.termwiz_bindings.specs.Presses.{canonical, event_report}
-use Rattle.termwiz_binding_laws.specs.Twins.{twin}
+use Rattle.termwiz_binding_laws.specs.Twins.{twin, twin_in}
 use Rattle.termwiz_binding_laws.specs.EncodedPresses.{any_of_four, IsReadAsKey}
 use Rattle.termwiz_binding_laws.proofs.lemmas.ComputedPresses.{canonical_written_out}
 
@@ -54,18 +57,21 @@ begin_sent : (modes : KeyCodeEncodeModes) → map (λ held. enc KeyPadBegin (bit
 unfolding enc_written_out keypad_text keypad_letter_text digits
 begin_sent modes = refl
 
-begin_events : map (λ held. event_of (begin_text held)) any_of_four ≡ map (λ held. Key (begin_report held)) any_of_four
+begin_events : (asks : Bool) → map (λ held. event_of asks (begin_text held)) any_of_four ≡ map (λ held. Key (begin_report held)) any_of_four
 unfolding events_written_out
-begin_events = refl
+begin_events true = refl
+begin_events false = refl
 
 begin_read : map (λ held. canonical (begin_report held)) any_of_four ≡ map (λ held. Some (begin_press held)) any_of_four
 unfolding canonical_written_out
 begin_read = refl
 
-begin_twins : (modes : KeyCodeEncodeModes) → map (λ held. canonical (event_report (twin KeyPadBegin held modes))) any_of_four
+begin_twins : (protocol : Protocol) (modes : KeyCodeEncodeModes)
+    → map (λ held. canonical (event_report (twin_in protocol KeyPadBegin held modes))) any_of_four
     ≡ map (λ held. Some (begin_press held)) any_of_four
 unfolding canonical_written_out twin
-begin_twins modes = refl
+begin_twins Legacy modes = refl
+begin_twins Kitty modes = refl
 
 -- no row is such a text
 abbrev is_no_row : ℕ → Bool
@@ -122,22 +128,23 @@ module _ (held : ℕ) (here : Contains any_of_four held) where
           ((omega arith, omega arith), ((omega arith, omega arith), ((omega arith, omega (arith, small)), tt)))
           (omega arith, omega arith, (λ same. omega arith), (λ same. omega arith)) (omega arith))
 
-  event : event_of (begin_text held) ≡ Key (begin_report held)
-  event = same_on (λ h. event_of (begin_text h)) (λ h. Key (begin_report h)) any_of_four held begin_events here
+  event : (asks : Bool) → event_of asks (begin_text held) ≡ Key (begin_report held)
+  event asks = same_on (λ h. event_of asks (begin_text h)) (λ h. Key (begin_report h)) any_of_four held (begin_events asks) here
 
 -- its text is read as that key, which is its twin but for SUPER
 pub begin_is_read : (reading : Reading) (held : ℕ) (modes : KeyCodeEncodeModes) (text : List ℕ) → Contains any_of_four held
-    → enc KeyPadBegin (bits held) modes ≡ Some text → IsReadAsKey reading text (twin KeyPadBegin held modes)
+    → enc KeyPadBegin (bits held) modes ≡ Some text → IsReadAsKey reading text (twin_in reading.protocol KeyPadBegin held modes)
 begin_is_read reading held modes text here sends = (
   begin_press held,
-  same_on (λ h. canonical (event_report (twin KeyPadBegin h modes))) (λ h. Some (begin_press h)) any_of_four held (begin_twins modes) here,
+  same_on (λ h. canonical (event_report (twin_in reading.protocol KeyPadBegin h modes))) (λ h. Some (begin_press h)) any_of_four held
+      (begin_twins reading.protocol modes) here,
   (
     Key (begin_report held),
     subst (λ t. Means reading t false (Key (begin_report held) ∷ []) []) same
         (means_alone reading (begin_text held) false (Key (begin_report held)) (record {
           is_form = form held here reading.x10_mouse;
           is_free = free held here reading;
-          means = sym (event held here);
+          means = sym (event held here (is_asking reading));
         })),
     same_on (λ h. canonical (begin_report h)) (λ h. Some (begin_press h)) any_of_four held begin_read here,
   ),

@@ -1,6 +1,6 @@
 -- The presses that the texts of keys are read as, computed over lists of keys with modifiers.
-use Rattle.std.proofs.Common.{◌≡◌, ℕ, List, [], ◌∷◌, ◌++◌, map, drop, Option, Some, None}
-use Rattle.std.specs.Prelude.{option_and_then}
+use Rattle.std.proofs.Common.{◌≡◌, ℕ, Bool, true, false, List, [], ◌∷◌, ◌++◌, map, drop, Option, Some, None, Contains, lit<, refl}
+use Rattle.std.specs.Prelude.{option_map, option_and_then}
 use Rattle.std.specs.Str.{chars as text_chars}
 use Rattle.termwiz_keys.specs.declared.types.KeyCode.{KeyCode}
 use Rattle.termwiz_keys.specs.declared.types.KeyCode.TheVariants.{Char, Tab, Enter, Escape, Backspace}
@@ -12,6 +12,8 @@ use Rattle.termwiz_grammar.proofs.lemmas.read_back.RuleReader.{rows_for, csi_u_r
 use Rattle.termwiz_laws.proofs.lemmas.further_keys.ComputedReadings.{Held}
 use Rattle.termwiz_laws.proofs.lemmas.further_keys.WideReadings.{wide_reading, part_of}
 use Rattle.termwiz_extended_events.specs.declared.types.KeyReport.{KeyReport}
+use Rattle.termwiz_extended_events.specs.declared.types.Protocol.{Protocol}
+use Rattle.termwiz_extended_events.specs.declared.types.Protocol.TheVariants.{Legacy, Kitty}
 use Rattle.termwiz_extended_events.specs.EventKeys.{pressed_key}
 use Rattle.termwiz_extended_events.specs.ReportedKeys.{functional_key}
 use Rattle.termwiz_extended_events.specs.Meanings.{event_of}
@@ -21,8 +23,8 @@ use Rattle.termwiz_bindings.specs.Letters as letters
 use Rattle.termwiz_bindings.specs.MainKeys as keys
 use Rattle.termwiz_bindings.specs.Presses as rules
 use Rattle.termwiz_bindings.specs.Presses.{canonical, event_report, settled_report}
-use Rattle.termwiz_binding_laws.specs.Twins.{twin}
-use Rattle.termwiz_binding_laws.proofs.lemmas.EveryReading.{report_press}
+use Rattle.termwiz_binding_laws.specs.Twins.{twin_in}
+use Rattle.termwiz_binding_laws.proofs.lemmas.EveryReading.{row_press, is_report}
 
 -- the press of a report: to unfold this is to unfold every rule
 unfoldable pub canonical_written_out : KeyReport → Option KeyPress
@@ -48,44 +50,58 @@ part_of_key key = rows_for key
 abbrev pub press_read : Option KeyEvent → Option KeyPress
 press_read read = option_and_then (λ k. canonical (pressed_key k)) read
 
-abbrev pub twin_of : KeyCodeEncodeModes → Held → KeyEvent
-twin_of modes p = twin p.0 p.1 modes
+-- that press, or another one in its place
+abbrev pub press_or : Bool → KeyPress → Option KeyEvent → Option KeyPress
+press_or true press read = option_map (λ k. press) read
+press_or false press read = press_read read
 
-abbrev pub twin_press : KeyCodeEncodeModes → Held → KeyPress
-twin_press modes p = settled_report (event_report (twin_of modes p))
+-- a protocol, and whether a question for the cursor's position is open
+abbrev pub Kind : Type 0
+Kind = Protocol × Bool
+
+abbrev pub kinds : List Kind
+kinds = (Legacy, false) ∷ (Legacy, true) ∷ (Kitty, false) ∷ (Kitty, true) ∷ []
+
+-- those without a question
+abbrev pub unasked : List Kind
+unasked = (Legacy, false) ∷ (Kitty, false) ∷ []
+
+-- both protocols
+abbrev pub protocols : List Protocol
+protocols = Legacy ∷ Kitty ∷ []
+
+pub in_protocols : (protocol : Protocol) → Contains protocols protocol
+in_protocols Legacy = (0, lit< tt, refl)
+in_protocols Kitty = (1, lit< tt, refl)
+
+abbrev pub twin_of : Protocol → KeyCodeEncodeModes → Held → KeyEvent
+twin_of protocol modes p = twin_in protocol p.0 p.1 modes
+
+abbrev pub twin_press : Protocol → KeyCodeEncodeModes → Held → KeyPress
+twin_press protocol modes p = settled_report (event_report (twin_of protocol modes p))
 
 -- what a text may be read as: the port's key, a report, or a report after an ESC
-abbrev pub presses_of_text : List TableRow → KeyPress → Option (List ℕ) → List (Option KeyPress)
-presses_of_text part press (Some text) =
-    press_read (wide_reading part text) ∷ report_press (event_of text) (Some press)
-    ∷ report_press (with_alt (event_of (drop 1 text))) (Some press) ∷ []
-presses_of_text part press None = []
+abbrev pub presses_of_text : Kind → List TableRow → KeyPress → Option (List ℕ) → List (Option KeyPress)
+presses_of_text kind part press (Some text) =
+    press_or (is_report kind.0 kind.1 text) press (wide_reading part text)
+    ∷ row_press kind.0 (event_of kind.1 text) (Some press)
+    ∷ row_press kind.0 (with_alt (event_of kind.1 (drop 1 text))) (Some press) ∷ []
+presses_of_text kind part press None = []
 
 -- the press of the twin, and those of what the text of a key may be read as
-abbrev pub told : KeyCodeEncodeModes → Held → List (Option KeyPress)
-told modes p =
-    canonical (event_report (twin_of modes p))
-    ∷ presses_of_text (part_of_key p.0) (twin_press modes p) (enc p.0 (record { 0 = p.1 }) modes)
+abbrev pub told : KeyCodeEncodeModes → Held → Kind → List (Option KeyPress)
+told modes p kind =
+    canonical (event_report (twin_of kind.0 modes p))
+    ∷ presses_of_text kind (part_of_key p.0) (twin_press kind.0 modes p) (enc p.0 (record { 0 = p.1 }) modes)
 
 -- all are the press of the twin
-abbrev pub wanted : KeyCodeEncodeModes → Held → List (Option KeyPress)
-wanted modes p =
-    Some (twin_press modes p) ∷ Some (twin_press modes p) ∷ Some (twin_press modes p) ∷ Some (twin_press modes p) ∷ []
+abbrev pub wanted : KeyCodeEncodeModes → Held → Kind → List (Option KeyPress)
+wanted modes p kind =
+    Some (twin_press kind.0 modes p) ∷ Some (twin_press kind.0 modes p) ∷ Some (twin_press kind.0 modes p)
+    ∷ Some (twin_press kind.0 modes p) ∷ []
+
+abbrev pub ToldIn : List Kind → KeyCodeEncodeModes → List Held → Type 0
+ToldIn kinds' modes cases = map (λ p. map (told modes p) kinds') cases ≡ map (λ p. map (wanted modes p) kinds') cases
 
 abbrev pub AllTold : KeyCodeEncodeModes → List Held → Type 0
-AllTold modes cases = map (told modes) cases ≡ map (wanted modes) cases
-
--- the same where the text is read as the port's key alone
-abbrev pub press_of_text : List TableRow → Option (List ℕ) → Option KeyPress
-press_of_text part (Some text) = press_read (wide_reading part text)
-press_of_text part None = None
-
-abbrev pub told_at_first : KeyCodeEncodeModes → Held → List (Option KeyPress)
-told_at_first modes p =
-    canonical (event_report (twin_of modes p)) ∷ press_of_text (part_of_key p.0) (enc p.0 (record { 0 = p.1 }) modes) ∷ []
-
-abbrev pub wanted_at_first : KeyCodeEncodeModes → Held → List (Option KeyPress)
-wanted_at_first modes p = Some (twin_press modes p) ∷ Some (twin_press modes p) ∷ []
-
-abbrev pub AllToldAtFirst : KeyCodeEncodeModes → List Held → Type 0
-AllToldAtFirst modes cases = map (told_at_first modes) cases ≡ map (wanted_at_first modes) cases
+AllTold modes cases = ToldIn kinds modes cases

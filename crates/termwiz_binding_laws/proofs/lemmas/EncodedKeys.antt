@@ -1,18 +1,15 @@
 -- Every key is read as the press of its twin: by the key, its modifiers and the modes.
 use Rattle.std.proofs.Common.{◌≡◌, ◌≢◌, ◌∙◌, ◌⊎◌, inl, inr, ⊎_elim, ℕ, suc, ◌≤◌, ◌<◌, Bool, true, false, not, List, [], ◌∷◌, map, Option, Some, refl, sym, ap, subst, arith, Contains, lit<, ◌&&◌, ◌||◌, ◌==◌}
 use Rattle.std.specs.List.{list_all}
-use Rattle.std.proofs.lemmas.Bool.{and_parts, or_cases, eqb-true, eqb-false}
+use Rattle.std.proofs.lemmas.Bool.{or_cases, eqb-true, eqb-false}
 use Rattle.std.proofs.lemmas.List.Sums.{AllPass-from_list_all}
 use Rattle.std.proofs.lemmas.List.Elements.{All-contains, Contains-append_left, Contains-append_right}
 use Rattle.termwiz_keys.specs.declared.types.KeyCode.{KeyCode}
 use Rattle.termwiz_keys.specs.declared.types.KeyCode.TheVariants.{Char, Backspace, Tab, Enter, Escape, End, Home, LeftArrow, RightArrow, UpArrow, DownArrow, Insert, Delete, PageUp, PageDown, KeyPadHome, KeyPadEnd, KeyPadPageUp, KeyPadPageDown, KeyPadBegin, ApplicationLeftArrow, ApplicationRightArrow, ApplicationUpArrow, ApplicationDownArrow, Function, Numpad0, Numpad1, Numpad2, Numpad3, Numpad4, Numpad5, Numpad6, Numpad7, Numpad8, Numpad9, Decimal}
-use Rattle.termwiz_keys.specs.declared.types.KeyEvent.{KeyEvent}
-use Rattle.termwiz_keys.specs.declared.types.InputEvent.TheVariants as input
 use Rattle.termwiz_keys.specs.declared.encode.KeyCodeEncodeModes.{KeyCodeEncodeModes}
 use Rattle.termwiz_keys.specs.Encoding.{enc, key_text, normal_key, named_key, keypad_text, keypad_number_text, keypad_letter_text}
 use Rattle.termwiz_keys.specs.Keys.{NONE, SHIFT, CTRL}
 use Rattle.termwiz_keys.specs.KeyCodes.{holds, shifted}
-use Rattle.termwiz_grammar.specs.Grammar as port
 use Rattle.termwiz_grammar.specs.Table.{numbers}
 use Rattle.termwiz_grammar.proofs.lemmas.lists.ListMembers.{pairs, in_map, in_pairs, same_on}
 use Rattle.termwiz_grammar.proofs.lemmas.read_back.RuleReader.{AreRows, rows_for_are}
@@ -20,23 +17,18 @@ use Rattle.termwiz_laws.proofs.lemmas.further_keys.ComputedReadings.{mode, chars
 use Rattle.termwiz_laws.proofs.lemmas.further_keys.FurtherReadings.{bits}
 use Rattle.termwiz_laws.proofs.lemmas.further_keys.OtherKeys.{function_range}
 use Rattle.termwiz_laws.proofs.lemmas.further_keys.SingleKey.{among, among_contains}
-use Rattle.termwiz_extended_events.specs.declared.types.ExtendedEvent.TheVariants.{Input}
-use Rattle.termwiz_extended_events.specs.EventKeys.{pressed_key}
 use Rattle.termwiz_kitty.proofs.lemmas.PortKeys.{at_number}
-use Rattle.termwiz_bindings.specs.declared.press.KeyPress.{KeyPress}
-use Rattle.termwiz_bindings.specs.Presses.{canonical}
-use Rattle.termwiz_binding_laws.specs.Twins.{twin}
-use Rattle.termwiz_binding_laws.specs.EncodedPresses.{at_first, any_of_four, IsCovered, is_newline, is_position, press_of_key, IsReadAsPress, IsReadAsKey, IsReadByPort, PressesOfEncodedKeys, PressesInEveryReading, PressesByPort}
+use Rattle.termwiz_binding_laws.specs.Twins.{twin_in}
+use Rattle.termwiz_binding_laws.specs.EncodedPresses.{at_first, any_of_four, IsCovered, is_newline, is_position, PressesOfEncodedKeys, PressesInEveryReading, PressesByPort}
 use Rattle.termwiz_binding_laws.proofs.lemmas.AsciiPresses as ascii
 use Rattle.termwiz_binding_laws.proofs.lemmas.AsciiPresses.{printable}
 use Rattle.termwiz_binding_laws.proofs.lemmas.BeginKey.{begin_is_read}
-use Rattle.termwiz_binding_laws.proofs.lemmas.ComputedPresses.{AllTold, part_of_key}
-use Rattle.termwiz_binding_laws.proofs.lemmas.LegacyReading.{port_key_read}
+use Rattle.termwiz_binding_laws.proofs.lemmas.ComputedPresses.{kinds, unasked, AllTold, part_of_key}
 use Rattle.termwiz_binding_laws.proofs.lemmas.ModeClasses.{InEveryClass}
 use Rattle.termwiz_binding_laws.proofs.lemmas.NamedPresses as named
 use Rattle.termwiz_binding_laws.proofs.lemmas.NamedPresses.{function_keys, functions, thirds, steady_keys, steady, cursor_keys, cursor, coded_keys, coded, enters, with_shift_or_ctrl, without_shift_and_ctrl}
-use Rattle.termwiz_binding_laws.proofs.lemmas.PortPresses.{told_key, told_key_at_first, told_in_all, rows_of_tab, rows_of_enter, rows_of_escape, rows_of_backspace, rows_of_character}
-use Rattle.termwiz_binding_laws.proofs.lemmas.Readers.{Reader, IsKeyReadBy, Knows, read_by_port}
+use Rattle.termwiz_binding_laws.proofs.lemmas.PortPresses.{kind_of, in_kinds, in_unasked, told_key, told_in_all, rows_of_tab, rows_of_enter, rows_of_escape, rows_of_backspace, rows_of_character}
+use Rattle.termwiz_binding_laws.proofs.lemmas.Readers.{Reader, protocol_of, is_asking_reader, IsKeyReadBy, Knows}
 use Rattle.termwiz_binding_laws.proofs.lemmas.Readers.Reader.{extended, of_port}
 use Rattle.termwiz_binding_laws.proofs.lemmas.WidePresses.{wide_is_read}
 
@@ -97,6 +89,10 @@ plain_sets = refl
 empty_text : (text : List ℕ) (o : Option (List ℕ)) → o ≡ Some [] → o ≡ Some text → text ≡ []
 empty_text text o a b = (let e : Some text ≡ Some [] = sym b ∙ a in cc (e))
 
+left_false : (a b : Bool) → b ≡ true → (a && b) ≡ false → a ≡ false
+left_false true b e f = absurd (cc (e, f))
+left_false false b e f = refl
+
 -- no modifier is held, where F3 sends no position
 alone_is : (b : Bool) (held : ℕ) → (held == NONE) ≡ b → (true && not (held == NONE)) ≡ false → held ≡ NONE
 alone_is true held e apart = eqb-true held NONE e
@@ -107,15 +103,17 @@ module _ (reader : Reader) (held : ℕ) (modes : KeyCodeEncodeModes) (text : Lis
   Sends key = enc key (bits held) modes ≡ Some text
 
   abbrev Read : KeyCode → Type 0
-  Read key = IsKeyReadBy reader text (twin key held modes)
+  Read key = IsKeyReadBy reader text (twin_in (protocol_of reader) key held modes)
+
+  every : Contains kinds (kind_of reader)
+  every = in_kinds (protocol_of reader) (is_asking_reader reader)
 
   steady_read : (key : KeyCode) → Contains steady_keys key → AreRows (part_of_key key) → Sends key → Read key
   steady_read key k are sends =
-      told_key reader modes steady key held text (named.steady_told _ _ _ _) (in_pairs steady_keys any_of_four key held k here) are sends
+      told_key reader kinds modes steady key held text every (named.steady_told _ _ _ _) (in_pairs steady_keys any_of_four key held k here) are sends
 
-  function_read : (n : ℕ) → is_position (Function n) held ≡ false → Sends (Function n) → Read (Function n)
-  function_read n apart sends =
-      told_key reader modes functions (Function n) held text (named.functions_told _ _ _ _) (go (n == 3) refl) (rows_for_are (Function n)) sends
+  function_read : (n : ℕ) → (is_position (Function n) held && is_asking_reader reader) ≡ false → Sends (Function n) → Read (Function n)
+  function_read n apart sends = by (is_asking_reader reader) refl
     where
       range : (1 ≤ n) × (n ≤ 24)
       range = function_range n (bits held) modes text sends
@@ -129,16 +127,39 @@ module _ (reader : Reader) (held : ℕ) (modes : KeyCodeEncodeModes) (text : Lis
           (λ (more : (n ≡ 2) ⊎ (4 ≤ n)). ⊎_elim (λ (two : n ≡ 2). (1, omega arith, sym two)) later more)
           (let low : 1 ≤ n = range.0 in grind arith)
 
-      go : (b : Bool) → (n == 3) ≡ b → Contains functions (Function n, held)
-      go true e =
-          let none : held ≡ NONE = alone_is (held == NONE) held refl (subst (λ b. (b && not (held == NONE)) ≡ false) e apart) in
+      third : n ≡ 3 → is_asking_reader reader ≡ false → Read (Function n)
+      third three none =
+          told_key reader unasked modes thirds (Function n) held text (in_unasked (protocol_of reader) (is_asking_reader reader) none)
+          (named.thirds_told _ _ _ _)
+          (in_pairs (Function 3 ∷ []) any_of_four (Function n) held (0, lit< tt, ap (λ m. Function m) (sym three)) here)
+          (rows_for_are (Function n)) sends
+
+      other_function : Contains functions (Function n, held) → Read (Function n)
+      other_function k =
+          told_key reader kinds modes functions (Function n) held text every (named.functions_told _ _ _ _) k (rows_for_are (Function n)) sends
+
+      go : (b : Bool) → (n == 3) ≡ b → is_asking_reader reader ≡ true → Contains functions (Function n, held)
+      go true e asks =
+          let none : held ≡ NONE = alone_is (held == NONE) held refl
+          (subst (λ b. (b && not (held == NONE)) ≡ false) e (left_false (is_position (Function n) held) (is_asking_reader reader) asks apart)) in
           Contains-append_right (pairs function_keys any_of_four) (pairs (Function 3 ∷ []) (NONE ∷ [])) (Function n, held)
           (in_pairs (Function 3 ∷ []) (NONE ∷ []) (Function n) held
           (0, lit< tt, ap (λ m. Function m) (sym (eqb-true n 3 e))) (0, lit< tt, sym none))
-      go false e =
+      go false e asks =
           Contains-append_left (pairs function_keys any_of_four) (pairs (Function 3 ∷ []) (NONE ∷ [])) (Function n, held)
           (in_pairs function_keys any_of_four (Function n) held
           (in_map (λ m. Function m) (1 ∷ 2 ∷ numbers 4 21) n (number (eqb-false n 3 e))) here)
+
+      unasked_read : (b : Bool) → (n == 3) ≡ b → is_asking_reader reader ≡ false → Read (Function n)
+      unasked_read true e none = third (eqb-true n 3 e) none
+      unasked_read false e none = other_function
+          (Contains-append_left (pairs function_keys any_of_four) (pairs (Function 3 ∷ []) (NONE ∷ [])) (Function n, held)
+          (in_pairs function_keys any_of_four (Function n) held
+          (in_map (λ m. Function m) (1 ∷ 2 ∷ numbers 4 21) n (number (eqb-false n 3 e))) here))
+
+      by : (b : Bool) → is_asking_reader reader ≡ b → Read (Function n)
+      by true asks = other_function (go (n == 3) refl asks)
+      by false none = unasked_read (n == 3) refl none
 
   cursor_read : (key : KeyCode) → Contains cursor_keys key → AreRows (part_of_key key) → Sends key → Read key
   cursor_read key k are sends = go modes.application_cursor_keys refl
@@ -147,7 +168,7 @@ module _ (reader : Reader) (held : ℕ) (modes : KeyCodeEncodeModes) (text : Lis
       Told a = AllTold (mode modes.encoding a modes.newline_mode modes.modify_other_keys) cursor
 
       by : Told modes.application_cursor_keys → Read key
-      by test = told_key reader modes cursor key held text test (in_pairs cursor_keys any_of_four key held k here) are sends
+      by test = told_key reader kinds modes cursor key held text every test (in_pairs cursor_keys any_of_four key held k here) are sends
 
       go : (a : Bool) → modes.application_cursor_keys ≡ a → Read key
       go true e = by (subst Told (sym e) (named.cursor_on_told _ _ _))
@@ -187,11 +208,13 @@ module _ (reader : Reader) (held : ℕ) (modes : KeyCodeEncodeModes) (text : Lis
           (rows_of_character c small) sends
       go (inr high) = wide_is_read reader c held modes text covered.0 high here sends known
 
-  begin_read : (r : Reader) → Knows r KeyPadBegin held modes → Sends KeyPadBegin → IsKeyReadBy r text (twin KeyPadBegin held modes)
+  begin_read : (r : Reader) → Knows r KeyPadBegin held modes → Sends KeyPadBegin
+      → IsKeyReadBy r text (twin_in (protocol_of r) KeyPadBegin held modes)
   begin_read (extended reading) known sends = begin_is_read reading held modes text here sends
   begin_read of_port known sends = absurd (cc (known))
 
-  by_key : (key : KeyCode) → IsCovered key → is_newline key held modes ≡ false → is_position key held ≡ false → Knows reader key held modes
+  by_key : (key : KeyCode) → IsCovered key → is_newline key held modes ≡ false
+      → (is_position key held && is_asking_reader reader) ≡ false → Knows reader key held modes
       → Sends key → text ≢ [] → Read key
   unfolding enc key_text normal_key named_key shifted keypad_text keypad_number_text keypad_letter_text
   by_key (Char c) covered newline apart known sends some = character_read c covered known sends
@@ -241,30 +264,14 @@ pub presses_in_every_reading : PressesInEveryReading
 presses_in_every_reading reading key held modes text covered here newline apart sends some =
     by_key (extended reading) held modes text here key covered newline apart tt sends some
 
--- F3 with a modifier, by what the port reads
-third_read : (R : KeyPress → Type 0) (key : KeyCode) (held : ℕ) (modes : KeyCodeEncodeModes) (text : List ℕ)
-    → ((k : KeyEvent) (p : KeyPress) → port.Means text false (input.Key k ∷ []) [] → canonical (pressed_key k) ≡ Some p → R p)
-    → Contains any_of_four held → is_position key held ≡ true → enc key (bits held) modes ≡ Some text
-    → (p : KeyPress) × (press_of_key (twin key held modes) ≡ Some p) × R p
-third_read R (Function n) held modes text read here is sends =
-    let parts = and_parts (n == 3) (not (held == NONE)) is in
-    let third : n ≡ 3 = eqb-true n 3 parts.0 in
-    told_key_at_first R modes thirds (Function n) held text read (named.thirds_told _ _ _ _)
-    (in_pairs (Function 3 ∷ []) any_of_four (Function n) held (0, lit< tt, ap (λ m. Function m) (sym third)) here)
-    (rows_for_are (Function n)) sends
-third_read R key held modes text read here is sends = absurd (cc (is))
+no_question : (b : Bool) → (b && false) ≡ false
+no_question true = refl
+no_question false = refl
 
 pub presses_of_encoded_keys : PressesOfEncodedKeys
-presses_of_encoded_keys key held modes text covered here newline sends some = go (is_position key held) refl
-  where
-    go : (b : Bool) → is_position key held ≡ b → IsReadAsKey at_first text (twin key held modes)
-    go true e = third_read (IsReadAsPress at_first text) key held modes text
-        (λ k p means is. (Input (input.Key k), port_key_read text k means, is)) here e sends
-    go false e = presses_in_every_reading at_first key held modes text covered here newline e sends some
+presses_of_encoded_keys key held modes text covered here newline sends some =
+    presses_in_every_reading at_first key held modes text covered here newline (no_question (is_position key held)) sends some
 
 pub presses_by_port : PressesByPort
-presses_by_port key held modes text covered here newline known sends some = go (is_position key held) refl
-  where
-    go : (b : Bool) → is_position key held ≡ b → (p : KeyPress) × (press_of_key (twin key held modes) ≡ Some p) × IsReadByPort text p
-    go true e = third_read (IsReadByPort text) key held modes text (read_by_port text) here e sends
-    go false e = by_key of_port held modes text here key covered newline e known sends some
+presses_by_port key held modes text covered here newline known sends some =
+    by_key of_port held modes text here key covered newline (no_question (is_position key held)) known sends some

@@ -1,7 +1,7 @@
 -- ESC and a character is read as that character with ALT.
 use Rattle.std.proofs.Common.{◌≡◌, ◌≢◌, ◌∙◌, ◌⊎◌, ⊎_elim, ℕ, ◌≤◌, ◌<◌, Bool, true, false, not, List, [], ◌∷◌, map, length, Some, refl, sym, ap, subst, arith, Contains, ◌||◌, nat_le}
 use Rattle.std.specs.List.{list_all}
-use Rattle.std.specs.Char.{encode_utf8, is_control, is_ascii_alphabetic, is_ascii_alphanumeric, is_ascii_punctuation}
+use Rattle.std.specs.Char.{encode_utf8, is_control, is_ascii_alphabetic, is_ascii_alphanumeric, is_ascii_punctuation, is_ascii_digit}
 use Rattle.std.proofs.lemmas.Bool.{and_right, not-true}
 use Rattle.std.proofs.lemmas.Bool.Decides.{nat_tests}
 use Rattle.std.proofs.lemmas.List.Sums.{AllPass-from_list_all}
@@ -18,6 +18,8 @@ use Rattle.termwiz_laws.proofs.lemmas.further_keys.ComputedReadings.{enc_written
 use Rattle.termwiz_laws.proofs.lemmas.further_keys.FurtherReadings.{bits}
 use Rattle.termwiz_laws.proofs.lemmas.further_keys.SingleCharacters.{key_with_alt, held_with_alt}
 use Rattle.termwiz_laws.proofs.lemmas.further_keys.SingleKey.{among_contains}
+use Rattle.termwiz_extended_events.specs.declared.types.Protocol.{Protocol}
+use Rattle.termwiz_extended_events.specs.declared.types.Protocol.TheVariants.{Legacy, Kitty}
 use Rattle.termwiz_extended_events.specs.declared.types.Reading.{Reading}
 use Rattle.termwiz_kitty.specs.LegacyTexts.{ALT}
 use Rattle.termwiz_kitty.specs.KittyLaws.{press_of}
@@ -25,7 +27,7 @@ use Rattle.termwiz_kitty.proofs.lemmas.PortKeys.{xterm_modes, at_number}
 use Rattle.termwiz_kitty.proofs.lemmas.typed.TypedCharacters.{low_is_control}
 use Rattle.termwiz_kitty.proofs.lemmas.typed.TypedTexts.{IsShown}
 use Rattle.termwiz_bindings.specs.Presses.{canonical, kitty_bits}
-use Rattle.termwiz_binding_laws.specs.Twins.{twin}
+use Rattle.termwiz_binding_laws.specs.Twins.{shown_twin, twin, twin_in}
 use Rattle.termwiz_binding_laws.specs.EncodedPresses.{any_of_four, IsCovered, press_of_key}
 use Rattle.termwiz_binding_laws.proofs.lemmas.AtOnce.{IsWhole}
 use Rattle.termwiz_binding_laws.proofs.lemmas.ComputedPresses.{canonical_written_out}
@@ -55,9 +57,21 @@ alt_twin d = go (nat_le 128 d) refl (is_ascii_punctuation d) refl (is_ascii_alph
     go false e false f true g = rw (e, f, g) refl
     go false e false f false g = rw (e, f, g) refl
 
-escape_twin : (d : ℕ) → press_of_key (twin (Char d) port.ALT xterm_modes) ≡ canonical (press_of (Char d) ALT)
+-- a digit holds no SHIFT anyway
+alt_shown : (d : ℕ) → shown_twin false (key_with (Char d) port.ALT) ≡ key_with (Char d) port.ALT
+alt_shown d = go (is_ascii_digit d) refl
+  where
+    go : (b : Bool) → is_ascii_digit d ≡ b → shown_twin false (key_with (Char d) port.ALT) ≡ key_with (Char d) port.ALT
+    go true e = rw e refl
+    go false e = rw e refl
+
+alt_twin_in : (protocol : Protocol) (d : ℕ) → twin_in protocol (Char d) port.ALT xterm_modes ≡ key_with (Char d) port.ALT
+alt_twin_in Legacy d = alt_twin d
+alt_twin_in Kitty d = ap (shown_twin false) (alt_twin d) ∙ alt_shown d
+
+escape_twin : (protocol : Protocol) (d : ℕ) → press_of_key (twin_in protocol (Char d) port.ALT xterm_modes) ≡ canonical (press_of (Char d) ALT)
 unfolding kitty_bits
-escape_twin d = ap press_of_key (alt_twin d)
+escape_twin protocol d = ap press_of_key (alt_twin_in protocol d)
 
 escape_unbroken : list_all (λ d. not (is_replaced (canonical (press_of (Char d) ALT)))) (numbers 32 95) ≡ true
 unfolding canonical_written_out numbers
@@ -111,6 +125,6 @@ module _ (reading : Reading) (d : ℕ) (shown : IsShown d) (more : Bool) where
       (λ e. cc (e)) in
       let by_port = presses_by_port (Char d) port.ALT xterm_modes (27 ∷ encode_utf8 d) alt_covered set refl
       (and_right (nat_le 128 d) false refl) alt_sends (λ e. cc (e)) in
-      let press : press_of_key by_port.2.0 ≡ canonical (press_of (Char d) ALT) = by_port.2.2 ∙ sym by_port.1 ∙ escape_twin d in
+      let press : press_of_key by_port.2.0 ≡ canonical (press_of (Char d) ALT) = by_port.2.2 ∙ sym by_port.1 ∙ escape_twin Legacy d in
       reads_as reading (27 ∷ encode_utf8 d) more (canonical (press_of (Char d) ALT)) by_port.2.0
-      (read.2.0, read.2.1, read.2.2 ∙ sym read.1 ∙ escape_twin d) by_port.2.1 press (alt_whole by_port.2.0 press)
+      (read.2.0, read.2.1, read.2.2 ∙ sym read.1 ∙ escape_twin reading.protocol d) by_port.2.1 press (alt_whole by_port.2.0 press)

@@ -9,9 +9,9 @@ use Rattle.termwiz_grammar.specs.Table.{rows}
 use Rattle.termwiz_laws.proofs.lemmas.further_keys.SingleKey.{single}
 use Rattle.termwiz_extended_events.specs.declared.types.ExtendedEvent.{ExtendedEvent}
 use Rattle.termwiz_extended_events.specs.declared.types.ExtendedEvent.TheVariants.{Input}
-use Rattle.termwiz_extended_events.specs.Meanings.{event_of}
 use Rattle.termwiz_extended_grammar.specs.ExtraSequences.{IsExtra}
 use Rattle.termwiz_extended_grammar.specs.ExtendedGrammar.{Means}
+use Rattle.termwiz_extended_grammar.specs.Readings.{event_in}
 use Rattle.termwiz_kitty.proofs.lemmas.legacy.ReadAsOne.{IsReportText, IsRead, ReadAs, read_as, row_is}
 use Rattle.termwiz_kitty.proofs.lemmas.legacy.ReadAsOne.ReadAs.{as_key, as_report, apart}
 use Rattle.termwiz_binding_laws.specs.EncodedPresses.{at_first}
@@ -22,7 +22,7 @@ free : (text : List ℕ) (e : ExtendedEvent) (m : Meaning) → IsExtra at_first 
 free text e m is sequence = (let over = (is.is_free m sequence).2 in omega (arith, over.0))
 
 row_free : (text : List ℕ) (k : KeyEvent) → Contains rows (text, k) → IsReportText at_first text → ⊥
-row_free text k row is = free text (event_of text) (Row k) is.is_extra (row_is text k row)
+row_free text k row is = free text (event_in at_first text) (Row k) is.is_extra (row_is text k row)
 
 -- what the port reads as a key, with more to come or without, is that key
 pub key_read : (text : List ℕ) (k : KeyEvent) (f : Bool) → IsRead at_first text k f → Means at_first text f (Input (input.Key k) ∷ []) []

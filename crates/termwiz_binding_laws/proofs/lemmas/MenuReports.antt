@@ -1,5 +1,5 @@
 -- What Applications sends before Kitty's protocol, with SUPER, HYPER or META, is a report of F16.
-use Rattle.std.proofs.Common.{◌≡◌, ℕ, ◌+◌, ◌≤◌, ◌<◌, Bool, true, List, [], ◌∷◌, map, length, refl, sym, subst, arith, nat_le, decimal}
+use Rattle.std.proofs.Common.{◌≡◌, ℕ, ◌+◌, ◌≤◌, ◌<◌, Bool, true, false, List, [], ◌∷◌, map, length, refl, sym, subst, arith, nat_le, decimal}
 use Rattle.std.specs.List.{AllByRecursion, list_all}
 use Rattle.std.specs.Fmt.{digits}
 use Rattle.std.proofs.lemmas.Bool.Decides.{nat_tests}
@@ -17,6 +17,7 @@ use Rattle.termwiz_extended_events.specs.declared.types.Reading.{Reading}
 use Rattle.termwiz_extended_events.specs.Meanings.{event_of}
 use Rattle.termwiz_extended_events.proofs.Examples.{written_out as events_written_out}
 use Rattle.termwiz_extended_grammar.specs.ExtendedGrammar.{Means}
+use Rattle.termwiz_extended_grammar.specs.Readings.{event_in, is_asking}
 use Rattle.termwiz_kitty.specs.KittyTexts.{numbered_text, manner_text}
 use Rattle.termwiz_kitty.specs.KittyLaws.{press_of}
 use Rattle.termwiz_kitty.proofs.lemmas.PortKeys.{at_number}
@@ -33,9 +34,11 @@ menus_written : map (λ held. numbered_text 29 held Press) (numbers 8 56) ≡ ma
 unfolding numbered_text manner_text numbers digits
 menus_written = refl
 
-menus_read : map (λ held. event_of (written (menu_body held) 126)) (numbers 8 56) ≡ map (λ held. Key (press_of (Function 16) held)) (numbers 8 56)
+menus_read : (asks : Bool) → map (λ held. event_of asks (written (menu_body held) 126)) (numbers 8 56)
+    ≡ map (λ held. Key (press_of (Function 16) held)) (numbers 8 56)
 unfolding events_written_out numbers digits
-menus_read = refl
+menus_read true = refl
+menus_read false = refl
 
 menus_short : list_all (λ held. nat_le (length (written (menu_body held) 126)) 256) (numbers 8 56) ≡ true
 unfolding numbers digits
@@ -63,7 +66,8 @@ menu_means reading held more past small kitty =
     let short : nat_le (length (written (menu_body held) 126)) 256 ≡ true =
     All-contains (λ h. nat_le (length (written (menu_body h) 126)) 256 ≡ true) (numbers 8 56) held
     (AllPass-from_list_all (λ h. nat_le (length (written (menu_body h) 126)) 256) (numbers 8 56) menus_short) here in
-    let event = same_on (λ h. event_of (written (menu_body h) 126)) (λ h. Key (press_of (Function 16) h)) (numbers 8 56) held menus_read here in
+    let event = same_on (λ h. event_in reading (written (menu_body h) 126)) (λ h. Key (press_of (Function 16) h)) (numbers 8 56) held
+    (menus_read (is_asking reading)) here in
     let extra = is_extra reading (menu_body held) 126 (Key (press_of (Function 16) held)) kitty (menu_parameters held small)
     (omega arith, omega arith, (λ same. omega arith), (λ same. omega arith)) (grind (arith, nat_tests)) tt event in
     subst (λ t. Means reading t more (Key (press_of (Function 16) held) ∷ []) [])

@@ -1,5 +1,5 @@
 -- What the encoder and twins look at in the modes: eight classes of encodings and levels, beside cursor keys and newline mode.
-use Rattle.std.proofs.Common.{◌≡◌, ℕ, ℤ, Bool, true, false, Option, None, refl}
+use Rattle.std.proofs.Common.{◌≡◌, ℕ, ℤ, Bool, true, false, Option, None, refl, ap₂}
 use Rattle.termwiz_keys.specs.declared.types.KeyCode.{KeyCode}
 use Rattle.termwiz_keys.specs.declared.types.KeyCode.TheVariants.{Char, Tab, Enter, Escape, Backspace}
 use Rattle.termwiz_keys.specs.declared.encode.KeyboardEncoding.{KeyboardEncoding}
@@ -10,7 +10,9 @@ use Rattle.termwiz_laws.proofs.lemmas.further_keys.AlikeModes.{Alike}
 use Rattle.termwiz_laws.proofs.lemmas.further_keys.ComputedReadings.{mode, level}
 use Rattle.termwiz_laws.proofs.lemmas.further_keys.FurtherReadings.{SameLevel, equal_levels, Levels, levels_of, with_level}
 use Rattle.termwiz_laws.proofs.lemmas.further_keys.FurtherReadings.Levels.{off, first, second, other}
-use Rattle.termwiz_binding_laws.specs.Twins.{twin}
+use Rattle.termwiz_extended_events.specs.declared.types.Protocol.{Protocol}
+use Rattle.termwiz_extended_events.specs.declared.types.Protocol.TheVariants.{Legacy, Kitty}
+use Rattle.termwiz_binding_laws.specs.Twins.{shown_twin, twin, twin_in}
 
 -- modes that the encoder can't tell apart give a key the same twin
 pub twin_same : (a b : KeyCodeEncodeModes) → Alike a b → (key : KeyCode) (held : ℕ) → twin key held a ≡ twin key held b
@@ -21,6 +23,13 @@ twin_same a b alike Enter held = rw (alike.csi_u, alike.is_on) refl
 twin_same a b alike Escape held = rw (alike.csi_u, alike.is_on, alike.one) refl
 twin_same a b alike Backspace held = rw (alike.csi_u, alike.is_on, alike.one) refl
 twin_same a b alike key held = refl
+
+-- under each protocol
+pub twin_in_same : (protocol : Protocol) (a b : KeyCodeEncodeModes) → Alike a b → (key : KeyCode) (held : ℕ)
+    → twin_in protocol key held a ≡ twin_in protocol key held b
+twin_in_same Legacy a b alike key held = twin_same a b alike key held
+twin_in_same Kitty a b alike Backspace held = rw (alike.csi_u, alike.is_on, alike.one) refl
+twin_in_same Kitty a b alike key held = ap₂ shown_twin alike.csi_u (twin_same a b alike key held)
 
 -- something holds in modes of each class, with newline mode on or off
 pub record InEveryClass (Q : KeyCodeEncodeModes → Type 0) (n : Bool) : Type 0 where

@@ -13,7 +13,7 @@ use Rattle.termwiz_laws.proofs.lemmas.further_keys.ComputedReadings.{mode, level
 use Rattle.termwiz_extended_events.proofs.Examples.{written_out as events_written_out}
 use Rattle.termwiz_binding_laws.specs.Twins.{SUPER, twin}
 use Rattle.termwiz_binding_laws.specs.EncodedPresses.{any_of_four}
-use Rattle.termwiz_binding_laws.proofs.lemmas.ComputedPresses.{canonical_written_out, AllTold, AllToldAtFirst}
+use Rattle.termwiz_binding_laws.proofs.lemmas.ComputedPresses.{canonical_written_out, AllTold, ToldIn, unasked}
 
 -- F1 to F24 but F3, and F3 alone
 abbrev pub function_keys : List KeyCode
@@ -26,12 +26,12 @@ pub functions_told : (e : KeyboardEncoding) (a n : Bool) (l : Option ℤ) → Al
 unfolding enc_written_out written_out events_written_out canonical_written_out twin digits
 functions_told e a n l = refl
 
--- F3, whose text with a modifier is also a report of the cursor's position
+-- F3, whose text with a modifier is a report of the cursor's position while a question for it is open
 abbrev pub thirds : List Held
 thirds = pairs (Function 3 ∷ []) any_of_four
 
-pub thirds_told : (e : KeyboardEncoding) (a n : Bool) (l : Option ℤ) → AllToldAtFirst (mode e a n l) thirds
-unfolding enc_written_out written_out canonical_written_out twin
+pub thirds_told : (e : KeyboardEncoding) (a n : Bool) (l : Option ℤ) → ToldIn unasked (mode e a n l) thirds
+unfolding enc_written_out written_out events_written_out canonical_written_out twin digits
 thirds_told e a n l = refl
 
 -- keys that send the same text in all modes

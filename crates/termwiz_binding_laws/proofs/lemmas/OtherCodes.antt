@@ -1,6 +1,7 @@
 -- A character beyond ASCII that is sent by its code, as xterm's modifyOtherKeys sends it.
 use Rattle.std.proofs.Common.{◌≡◌, ◌∙◌, ℕ, ◌+◌, ◌-◌, ◌^◌, ◌≤◌, ◌<◌, lt_trans, Bool, true, false, not, List, [], ◌∷◌, ◌++◌, length, drop, lit<, Option, Some, None, refl, sym, ap, subst, arith, Contains, nat_le, decimal, length-append}
 use Rattle.std.specs.List.{AllByRecursion, list_all}
+use Rattle.std.specs.Prelude.{◌==◌, if◌then◌else◌}
 use Rattle.std.specs.Char.{IsScalar}
 use Rattle.std.proofs.lemmas.Bool.Decides.{nat_tests}
 use Rattle.std.proofs.lemmas.Fmt.{decimal_digit, length-decimal-le}
@@ -23,12 +24,13 @@ use Rattle.termwiz_extended_events.specs.declared.types.ReportedKey.{ReportedKey
 use Rattle.termwiz_extended_events.specs.declared.types.ReportedKey.TheVariants.{Named}
 use Rattle.termwiz_extended_events.specs.declared.types.ExtendedEvent.TheVariants.{Key}
 use Rattle.termwiz_extended_events.specs.Numbers.{before_end, fields, number, number_within, scalar, is_scalar}
-use Rattle.termwiz_extended_events.specs.ReportedKeys.{tilde_key}
-use Rattle.termwiz_extended_events.specs.KeyReports.{report_of, character_key, lettered_key, numbered_key, other_key, key_report}
+use Rattle.termwiz_extended_events.specs.ReportedKeys.{no_key, tilde_key}
+use Rattle.termwiz_extended_events.specs.KeyReports.{character_key, lettered_key, numbered_key, is_shifted_by, other_held, other_key, key_report}
 use Rattle.termwiz_extended_events.specs.Meanings.{event_of}
 use Rattle.termwiz_extended_grammar.specs.Forms.IsForm.{control}
 use Rattle.termwiz_extended_grammar.specs.ExtraSequences.{IsFree, IsExtra}
 use Rattle.termwiz_extended_grammar.specs.ExtendedGrammar.{Means}
+use Rattle.termwiz_extended_grammar.specs.Readings.{is_asking}
 use Rattle.termwiz_kitty.proofs.lemmas.read_back.Decimals.{IsDecimal, decimal_is, number_decimal, in_word, scalar_small, scalar_decimal}
 use Rattle.termwiz_kitty.proofs.lemmas.read_back.FieldSplits.{IsFieldByte, digit_in_field, one_field, more_fields, without_last, before_end_here, before_other_end, last_byte}
 use Rattle.termwiz_kitty.proofs.lemmas.read_back.KeysOfForms.{scalar_is}
@@ -45,9 +47,20 @@ abbrev is_wide : Option KeyReport → Bool
 is_wide (Some r) = is_wide_key r.key
 is_wide None = false
 
+-- the report of a character by its code: with SHIFT, and unless it is a control character, it is what SHIFT made
+abbrev pub coded_report : ℕ → ℕ → KeyReport
+coded_report c bits = record {
+  key = Named (Char c);
+  modifiers = bits;
+  kind = Press;
+  shifted = if is_shifted_by bits c then Some c else None;
+  base = None;
+  text = [];
+}
+
 -- no row is the code of such a character
 no_wide_row : list_all (λ (r : TableRow). not (is_wide (other_key (drop 2 r.0)))) rows ≡ true
-unfolding written_out other_key before_end number_within scalar
+unfolding written_out other_key other_held before_end number_within scalar
 no_wide_row = refl
 
 -- what stands between ESC [ and ~: 27, the number of the modifiers, and the code, parted by semicolons
@@ -86,11 +99,14 @@ module _ (m c : ℕ) (one : 1 ≤ m) (eight : m ≤ 8) (high : 128 ≤ c) (is : 
   own = grind (arith, nat_tests)
 
   abbrev report : KeyReport
-  report = report_of (Named (Char c)) (record { modifiers = m - 1; kind = Press })
+  report = coded_report c (m - 1)
+
+  some : (c == no_key) ≡ false
+  some = grind (arith, nat_tests)
 
   by_code : other_key (body m c ++ 126 ∷ []) ≡ Some report
-  unfolding other_key
-  by_code = rw (before_end_here (body m c) 126, split, number_read, scalar_decimal c spelled, own) refl
+  unfolding other_key other_held
+  by_code = rw (before_end_here (body m c) 126, split, number_read, scalar_decimal c spelled, some, own) refl
 
   not_character : character_key (body m c ++ 126 ∷ []) ≡ None
   unfolding character_key
@@ -108,8 +124,8 @@ module _ (m c : ℕ) (one : 1 ≤ m) (eight : m ≤ 8) (high : 128 ≤ c) (is : 
   unfolding key_report
   reads = rw (not_character, not_lettered, not_numbered, by_code) refl
 
-  pub event : event_of (written (body m c) 126) ≡ Key report
-  event = event_back (body m c) 126 report (λ same. omega arith) (λ same. omega arith) reads
+  pub event : (asks : Bool) → event_of asks (written (body m c) 126) ≡ Key report
+  event asks = event_back asks (body m c) 126 report (λ same. omega arith) (λ same. omega arith) reads
 
   row_free : (k : KeyEvent) → Contains rows (written (body m c) 126, k) → ⊥
   row_free k row =
@@ -155,7 +171,7 @@ module _ (m c : ℕ) (one : 1 ≤ m) (eight : m ≤ 8) (high : 128 ≤ c) (is : 
     is_form = control (is_control (body m c) 126 parameters
         (omega arith, omega arith, (λ same. omega arith), (λ same. omega arith)) short);
     is_free = free reading;
-    means = sym event;
+    means = sym (event (is_asking reading));
   }
 
   pub code_means : (reading : Reading) → Means reading (written (body m c) 126) false (Key report ∷ []) []

@@ -10,8 +10,8 @@ use Rattle.termwiz_grammar.proofs.lemmas.lists.ListMembers.{same_on}
 use Rattle.termwiz_extended_events.specs.declared.types.KeyReport.{KeyReport}
 use Rattle.termwiz_extended_events.specs.declared.types.ReportedKey.{ReportedKey}
 use Rattle.termwiz_extended_events.specs.declared.types.ReportedKey.TheVariants.{Named, Functional}
-use Rattle.termwiz_extended_events.specs.ReportedKeys.{entry_at, is_functional, functional_key, key_of}
-use Rattle.termwiz_kitty.specs.KeyForms.{function_forms, function_form, named_form, form_of, normal_key, is_character, main_keys, main_of, main_key}
+use Rattle.termwiz_extended_events.specs.ReportedKeys.{entry_at, functional_key, key_of}
+use Rattle.termwiz_kitty.specs.KeyForms.{function_forms, function_form, named_form, has_number, form_of, normal_key, is_character, main_keys, main_of, main_key}
 use Rattle.termwiz_kitty.specs.Telling.{has_text}
 use Rattle.termwiz_kitty.specs.KittyLaws.{IsKey}
 use Rattle.termwiz_kitty.proofs.lemmas.PortKeys.{at_number}
@@ -99,9 +99,9 @@ unfolding main_key named_form keys.makes_no_press keys.main_of_named keys.main_c
 main_alike (Named (Char c)) = record { no_key = refl; none = refl; main = refl }
 main_alike (Named (Function n)) = rw (function_own n) (record { no_key = refl; none = refl; main = refl })
 main_alike (Named key) = record { no_key = refl; none = refl; main = refl }
-main_alike (Functional n) = go (is_functional n) refl
+main_alike (Functional n) = go (has_number n) refl
   where
-    go : (b : Bool) → is_functional n ≡ b → HaveSamePress (main_key (Functional n)) (Functional n)
+    go : (b : Bool) → has_number n ≡ b → HaveSamePress (main_key (Functional n)) (Functional n)
     go true inside = rw inside (functional_alike n (entry_at main_keys n) refl)
     go false outside = rw outside (record { no_key = refl; none = refl; main = refl })
 
@@ -117,9 +117,9 @@ unfolding main_key named_form normal_key key_of
 main_is_normal (Named (Char c)) normal = normal
 main_is_normal (Named (Function n)) normal = rw (function_own n) refl
 main_is_normal (Named key) normal = refl
-main_is_normal (Functional n) normal = go (is_functional n) refl
+main_is_normal (Functional n) normal = go (has_number n) refl
   where
-    go : (b : Bool) → is_functional n ≡ b → normal_key (main_key (Functional n)) ≡ main_key (Functional n)
+    go : (b : Bool) → has_number n ≡ b → normal_key (main_key (Functional n)) ≡ main_key (Functional n)
     go true inside = rw inside (normal_or n (entry_at main_keys n) refl normal)
     go false outside = rw outside normal
 

@@ -1,5 +1,5 @@
 -- The text that a key sends before Kitty's protocol is read as the press of the key's twin. Each such text is sent by a key of the port too.
-use Rattle.std.proofs.Common.{◌≡◌, ◌≢◌, ◌∙◌, ◌⊎◌, ⊎_elim, ℕ, ◌≤◌, ◌<◌, Bool, true, false, not, List, [], ◌∷◌, map, Option, Some, None, refl, sym, subst, arith, Contains, lit<, ◌&&◌, ◌==◌, nat_le, suc}
+use Rattle.std.proofs.Common.{◌≡◌, ◌≢◌, ◌∙◌, ◌⊎◌, ⊎_elim, ℕ, ◌≤◌, ◌<◌, Bool, true, false, not, List, [], ◌∷◌, map, Option, Some, None, refl, sym, ap, subst, arith, Contains, lit<, ◌&&◌, ◌==◌, nat_le, suc}
 use Rattle.std.specs.Prelude.{option_map}
 use Rattle.std.specs.Char.{encode_utf8}
 use Rattle.std.proofs.lemmas.Bool.{eqb-true, not-true}
@@ -13,12 +13,14 @@ use Rattle.termwiz_grammar.proofs.lemmas.lists.ListMembers.{pairs, in_map, in_pa
 use Rattle.termwiz_laws.proofs.lemmas.further_keys.ComputedReadings.{Held}
 use Rattle.termwiz_extended_events.specs.declared.types.ExtendedEvent.TheVariants.{Key}
 use Rattle.termwiz_extended_events.specs.declared.types.KeyEventKind.TheVariants.{Press}
-use Rattle.termwiz_extended_events.specs.declared.types.Protocol.TheVariants.{Kitty}
+use Rattle.termwiz_extended_events.specs.declared.types.Protocol.{Protocol}
+use Rattle.termwiz_extended_events.specs.declared.types.Protocol.TheVariants.{Legacy, Kitty}
 use Rattle.termwiz_extended_events.specs.declared.types.Reading.{Reading}
 use Rattle.termwiz_extended_events.specs.declared.types.ReportedKey.{ReportedKey}
 use Rattle.termwiz_extended_events.specs.declared.types.ReportedKey.TheVariants.{Named, Functional}
 use Rattle.termwiz_extended_events.specs.ReportedKeys.{entry_at, functional_key}
 use Rattle.termwiz_extended_grammar.specs.ExtendedGrammar.{Means}
+use Rattle.termwiz_extended_grammar.specs.Readings.{is_asking}
 use Rattle.termwiz_kitty.specs.KeyForms.{normal_key}
 use Rattle.termwiz_kitty.specs.LegacyTexts.{NONE, ALT, CTRL, SHIFT_ALT, CTRL_ALT, is_text_key, with_shift, function_letters, menu_number, legacy_text}
 use Rattle.termwiz_kitty.specs.KittyTexts.{legacy_bytes, numbered_text}
@@ -27,7 +29,7 @@ use Rattle.termwiz_kitty.proofs.lemmas.PortKeys.{xterm_modes, at_number}
 use Rattle.termwiz_kitty.proofs.lemmas.typed.TypedTexts.{IsShownOrMissing, with_shift_is}
 use Rattle.termwiz_bindings.specs.declared.press.KeyPress.{KeyPress}
 use Rattle.termwiz_bindings.specs.Presses.{canonical}
-use Rattle.termwiz_binding_laws.specs.Twins.{twin}
+use Rattle.termwiz_binding_laws.specs.Twins.{twin_in}
 use Rattle.termwiz_binding_laws.specs.EncodedPresses.{press_of_key}
 use Rattle.termwiz_binding_laws.specs.KittyPresses.{is_applications}
 use Rattle.termwiz_binding_laws.specs.LegacyTwins.{legacy_twin}
@@ -64,17 +66,18 @@ module _ (reading : Reading) (shifted : Option ℕ) (text : List ℕ) (more : Bo
       (AllPass-from_list_all (λ q. is_source (source q)) cases are.sources) here) in
       let sent : text_before (Named key) held shifted ≡ sent_by_port p =
       same_on (λ q. text_before (Named q.0) q.1 shifted) (λ q. sent_by_port (source q)) cases (key, held) are.sent here in
-      let pressed = same_on (λ q. press_of_key (twin (source q).0 (source q).1 xterm_modes))
-      (λ q. canonical (legacy_twin (Named q.0) q.1 shifted)) cases (key, held) are.pressed here in
+      let pressed = λ (protocol : Protocol). same_on (λ q. press_of_key (twin_in protocol (source q).0 (source q).1 xterm_modes))
+      (λ q. canonical (legacy_twin (Named q.0) q.1 shifted)) cases (key, held) (are.pressed protocol) here in
       let sends' : sent_by_port p ≡ Some text = sym sent ∙ sends in
-      let read = presses_in_every_reading reading p.0 p.1 xterm_modes text is.covered is.set is.newline is.apart sends' some in
+      let read = presses_in_every_reading reading p.0 p.1 xterm_modes text is.covered is.set is.newline
+      (ap (λ b. b && is_asking reading) is.apart) sends' some in
       let by_port = presses_by_port p.0 p.1 xterm_modes text is.covered is.set is.newline is.known sends' some in
       let told : Option KeyPress = canonical (legacy_twin (Named key) held shifted) in
-      let press : press_of_key by_port.2.0 ≡ told = by_port.2.2 ∙ sym by_port.1 ∙ pressed in
+      let press : press_of_key by_port.2.0 ≡ told = by_port.2.2 ∙ sym by_port.1 ∙ pressed Legacy in
       let unbroken : is_replaced told ≡ false = not-true (is_replaced told)
       (All-contains (λ q. not (is_replaced (canonical (legacy_twin (Named q.0) q.1 shifted))) ≡ true) cases (key, held)
       (AllPass-from_list_all (λ q. not (is_replaced (canonical (legacy_twin (Named q.0) q.1 shifted)))) cases are.unbroken) here) in
-      reads_as reading text more told by_port.2.0 (read.2.0, read.2.1, read.2.2 ∙ sym read.1 ∙ pressed) by_port.2.1 press
+      reads_as reading text more told by_port.2.0 (read.2.0, read.2.1, read.2.2 ∙ sym read.1 ∙ pressed reading.protocol) by_port.2.1 press
       (whole_of text by_port.2.0 told press unbroken)
 
   control_read : (key : KeyCode) (held : ℕ) → Contains control_keys key → held < 64 → Sends (Named key) held → Read (Named key) held

@@ -1,24 +1,27 @@
 -- Characters beyond ASCII: what they send, and the presses of their twins.
-use Rattle.std.proofs.Common.{◌≡◌, ◌∙◌, ℕ, ◌≤◌, Bool, true, false, ◌++◌, Some, None, refl, ap, arith, ◌==◌, ◌&&◌, ◌||◌, bit_and, nat_le, nat_lt}
+use Rattle.std.proofs.Common.{◌≡◌, ◌∙◌, ℕ, ◌≤◌, Bool, true, false, not, ◌++◌, Some, None, refl, ap, arith, ◌==◌, ◌&&◌, ◌||◌, bit_and, nat_le, nat_lt}
 use Rattle.std.specs.Prelude.{if◌then◌else◌}
-use Rattle.std.specs.Char.{encode_utf8, is_ascii_control, is_ascii_lowercase, is_ascii_uppercase, is_ascii_alphanumeric, is_ascii_punctuation}
+use Rattle.std.specs.Char.{encode_utf8, is_control, is_ascii_control, is_ascii_digit, is_ascii_lowercase, is_ascii_uppercase, is_ascii_alphanumeric, is_ascii_punctuation}
 use Rattle.std.proofs.lemmas.Bool.{and_right}
 use Rattle.std.proofs.lemmas.Bool.Decides.{nat_tests}
 use Rattle.termwiz_base.specs.Control.{control_of}
 use Rattle.termwiz_keys.specs.declared.types.KeyCode.TheVariants.{Char}
 use Rattle.termwiz_keys.specs.declared.encode.KeyCodeEncodeModes.{KeyCodeEncodeModes}
 use Rattle.termwiz_keys.specs.Encoding.{enc, sideless, normal_key, normal_held, shows_shift, named_key, key_text, char_text, plain_char_text, other_text, other_keys_form, escape_if_alt, is_csi_u, is_level, is_ambiguous, stays_at_one}
-use Rattle.termwiz_keys.specs.Keys.{NONE, ALT, CTRL, key_with}
+use Rattle.termwiz_keys.specs.Keys.{NONE, SHIFT, ALT, CTRL, key_with}
 use Rattle.termwiz_keys.specs.KeyCodes.{holds, shifted}
 use Rattle.termwiz_laws.proofs.lemmas.further_keys.FurtherReadings.{bits}
 use Rattle.termwiz_extended_events.specs.declared.types.ReportedKey.TheVariants.{Named}
 use Rattle.termwiz_extended_events.specs.declared.types.KeyEventKind.TheVariants.{Press}
+use Rattle.termwiz_extended_events.specs.declared.types.Protocol.{Protocol}
+use Rattle.termwiz_extended_events.specs.declared.types.Protocol.TheVariants.{Legacy, Kitty}
 use Rattle.termwiz_extended_events.specs.KeyReports.{report_of}
 use Rattle.termwiz_bindings.specs.MainKeys as keys
 use Rattle.termwiz_bindings.specs.Presses as rules
 use Rattle.termwiz_bindings.specs.declared.press.KeyPress.{KeyPress}
-use Rattle.termwiz_bindings.specs.Presses.{canonical, character_press, cased_press, all_but_locks}
-use Rattle.termwiz_binding_laws.specs.Twins.{SUPER, dropping, only_alt, is_on, twin}
+use Rattle.termwiz_bindings.specs.Presses.{canonical, character_press, cased_press, has_shift, without_shift, all_but_locks}
+use Rattle.termwiz_binding_laws.specs.Twins.{SUPER, dropping, only_alt, is_on, twin, twin_in}
+use Rattle.termwiz_binding_laws.proofs.lemmas.OtherCodes.{coded_report}
 
 if_same : {A : Type 0} (b : Bool) (x : A) → (if b then x else x) ≡ x
 if_same true x = refl
@@ -37,20 +40,51 @@ wide_press c bits high =
     let no_control : is_ascii_control c ≡ false = grind (arith, nat_tests) in
     rw no_control refl
 
+-- the same where the report tells that the character is what SHIFT made
+abbrev pub coded_bits : Bool → ℕ → ℕ
+coded_bits control bits' = if control then bits' else without_shift bits'
+
+pub coded_press : (c held : ℕ) → 128 ≤ c → has_shift (bit_and held all_but_locks) ≡ not (bit_and held 1 == 0)
+    → ((bit_and held 1 == 0) ≡ true → without_shift (bit_and held all_but_locks) ≡ bit_and held all_but_locks)
+    → canonical (coded_report c held) ≡ Some (wide_press_with c (coded_bits (is_control c) (bit_and held all_but_locks)))
+unfolding canonical keys.makes_no_press rules.settled rules.plain_press rules.main_press keys.main_of_named keys.main_code
+    rules.control_press rules.told_press
+coded_press c held high told none = go (is_control c) refl (bit_and held 1 == 0) refl
+  where
+    no_control : is_ascii_control c ≡ false
+    no_control = grind (arith, nat_tests)
+
+    no_space : (c == 32) ≡ false
+    no_space = grind (arith, nat_tests)
+
+    go : (x : Bool) → is_control c ≡ x → (y : Bool) → (bit_and held 1 == 0) ≡ y
+        → canonical (coded_report c held) ≡ Some (wide_press_with c (coded_bits (is_control c) (bit_and held all_but_locks)))
+    go true control true e = rw (no_control, e, control) refl
+    go true control false e = rw (no_control, e, control) refl
+    go false control true e = rw (no_control, e, control, none e) refl
+    go false control false e =
+        let shift : has_shift (bit_and held all_but_locks) ≡ true = told ∙ ap not e in
+        rw (no_control, e, control, control, shift, no_space) refl
+
 -- what its twin holds
-abbrev pub wide_held : Bool → ℕ → ℕ
-wide_held on held = if on then dropping held SUPER else only_alt (dropping held SUPER)
+abbrev pub wide_held : Bool → Bool → ℕ → ℕ
+wide_held on control held =
+    if on then (if control then dropping held SUPER else dropping (dropping held SUPER) SHIFT) else only_alt (dropping held SUPER)
 
-if_inside : (c a b : ℕ) (x : Bool) → (if x then key_with (Char c) a else key_with (Char c) b) ≡ key_with (Char c) (if x then a else b)
-if_inside c a b true = refl
-if_inside c a b false = refl
-
-pub wide_twin_is : (c held : ℕ) (modes : KeyCodeEncodeModes) → 128 ≤ c
-    → twin (Char c) held modes ≡ key_with (Char c) (wide_held (is_on modes) held)
+pub wide_twin_is : (protocol : Protocol) (c held : ℕ) (modes : KeyCodeEncodeModes) → 128 ≤ c
+    → twin_in protocol (Char c) held modes ≡ key_with (Char c) (wide_held (is_on modes) (is_control c) held)
 unfolding twin
-wide_twin_is c held modes high =
-    let wide : nat_le 128 c ≡ true = grind (arith, nat_tests) in
-    rw wide (if_inside c (dropping held SUPER) (only_alt (dropping held SUPER)) (is_on modes))
+wide_twin_is protocol c held modes high = go protocol
+  where
+    wide : nat_le 128 c ≡ true
+    wide = grind (arith, nat_tests)
+
+    no_digit : is_ascii_digit c ≡ false
+    no_digit = grind (arith, nat_tests)
+
+    go : (p : Protocol) → twin_in p (Char c) held modes ≡ key_with (Char c) (wide_held (is_on modes) (is_control c) held)
+    go Legacy = rw wide refl
+    go Kitty = rw (wide, no_digit) refl
 
 -- what it sends
 
