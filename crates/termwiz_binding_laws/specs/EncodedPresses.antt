@@ -124,7 +124,7 @@ abbrev pub TwinsAreTheirOwn : Type 0
 TwinsAreTheirOwn = (protocol : Protocol) (key : KeyCode) (held : ℕ) (modes : KeyCodeEncodeModes) → IsCovered key → Contains any_of_four held
     → is_misread protocol key held modes ≡ false → IsOwnTwin protocol (twin_in protocol key held modes) modes
 
--- The text of the key is read as one key, whatever else may be asked: it is no newline, and no position while a question is open.
+-- The text of the key is read as one key: it is no newline, and no position while a question is open.
 pub record IsReadAlone (reading : Reading) (key : KeyCode) (held : ℕ) (modes : KeyCodeEncodeModes) : Type 0 where
   pub newline : is_newline key held modes ≡ false
   pub apart : (is_position key held && is_asking reading) ≡ false

@@ -19,6 +19,7 @@ use Rattle.termwiz_kitty.specs.KittyTexts.{kitty_text, shown, IsWithin}
 use Rattle.termwiz_kitty.specs.KittyLaws.{IsReport, IsWritable, keys_that_wait}
 use Rattle.termwiz_bindings.specs.declared.press.KeyPress.{KeyPress}
 use Rattle.termwiz_bindings.specs.Letters.{is_shifted as is_shifted_character}
+use Rattle.termwiz_bindings.specs.MainKeys.{is_no_key}
 use Rattle.termwiz_bindings.specs.Presses.{canonical, counted, without_shift}
 use Rattle.termwiz_binding_laws.specs.EncodedPresses.{press_of_event}
 use Rattle.termwiz_binding_laws.specs.LegacyTwins.{legacy_twin}
@@ -29,9 +30,13 @@ pub record TellsPresses (flags : ℕ) : Type 0 where
   pub shifted : holds flags ALTERNATE_KEYS ≡ true
   pub text : holds flags ALL_KEYS ≡ true → holds flags ASSOCIATED_TEXT ≡ true
 
--- a text of at most one character, which only the key of a character has
+-- the key of a character, or the number of a text that no key typed
+abbrev pub takes_text : ReportedKey → Bool
+takes_text key = is_character key || is_no_key key
+
+-- a text of at most one character, which only such a key has
 abbrev pub HasOneCharacter : KeyReport → Type 0
-HasOneCharacter r = (r.text ≡ []) ⊎ ((is_character r.key ≡ true) × ((c : ℕ) × (chars r.text ≡ c ∷ [])))
+HasOneCharacter r = (r.text ≡ []) ⊎ ((takes_text r.key ≡ true) × ((c : ℕ) × (chars r.text ≡ c ∷ [])))
 
 -- A press or a repeat that a terminal can write. It has at most one character of text.
 pub record IsPressed (r : KeyReport) : Type 0 where

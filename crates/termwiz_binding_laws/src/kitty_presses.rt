@@ -3,7 +3,7 @@ ghost use Rattle.termwiz_binding_laws.specs.KittyPresses.{KittyKeepsPresses, Kit
 
 /// What `encode_kitty` writes as a report for a press or a repeat, if it writes one, is read as one event of the same press. With it a program
 /// asks for flags 1 and 4, and for 16 too if it asks for 8. The press is one that a terminal can write. Its text is at most one character,
-/// of the key of a character.
+/// of the key of a character or without a key.
 ///
 /// Where a key is sent as the text that it types, that is read as the character without SHIFT. With flag 8 it never is.
 pub fn kitty_keeps_presses()

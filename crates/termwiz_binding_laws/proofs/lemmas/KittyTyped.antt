@@ -16,7 +16,6 @@ use Rattle.termwiz_extended_events.specs.declared.types.ReportedKey.TheVariants.
 use Rattle.termwiz_extended_events.specs.declared.types.ExtendedEvent.{ExtendedEvent}
 use Rattle.termwiz_extended_events.specs.declared.types.Reading.{Reading}
 use Rattle.termwiz_extended_grammar.specs.ExtendedGrammar.{Means}
-use Rattle.termwiz_kitty.specs.KeyForms.{is_character}
 use Rattle.termwiz_kitty.specs.Telling.{is_at_most_shifted, is_bare, is_typed_text, has_control, types, types_character, sends_control}
 use Rattle.termwiz_kitty.specs.KittyTexts.{shown, typed_by, typed_text}
 use Rattle.termwiz_kitty.specs.KittyLaws.{IsKey, pressed, characters_pressed, typed_by_events, typed_events}
@@ -27,7 +26,7 @@ use Rattle.termwiz_bindings.specs.Presses as rules
 use Rattle.termwiz_bindings.specs.Letters.{letter_of}
 use Rattle.termwiz_bindings.specs.Presses.{canonical, is_counted_text, is_typed, is_shortcut, without_shift, character_press, typed_character, typed_press, all_but_locks}
 use Rattle.termwiz_binding_laws.specs.EncodedPresses.{press_of_event}
-use Rattle.termwiz_binding_laws.specs.KittyPresses.{IsPressed, typed_key, typed_report, IsReadWith}
+use Rattle.termwiz_binding_laws.specs.KittyPresses.{takes_text, IsPressed, typed_key, typed_report, IsReadWith}
 use Rattle.termwiz_binding_laws.proofs.lemmas.KittyReports.{pressed_with, by_parts, counted_same}
 
 -- without SHIFT nothing is held but the locks
@@ -66,12 +65,12 @@ control_press Backspace bits e held = rw held refl
 control_press key bits e held = absurd (cc (e))
 
 -- a typed text of one character
-pub typed_canonical : (key : ReportedKey) (bits : ℕ) (shifted : Option ℕ) (text : List ℕ) (c : ℕ) → is_character key ≡ true
+pub typed_canonical : (key : ReportedKey) (bits : ℕ) (shifted : Option ℕ) (text : List ℕ) (c : ℕ) → takes_text key ≡ true
     → is_typed bits text ≡ true → chars text ≡ c ∷ [] → canonical (pressed_with key bits shifted text) ≡ Some (typed_character c bits)
 unfolding canonical keys.makes_no_press typed_press
 typed_canonical (Named (Char d)) bits shifted text c e typed one = rw (typed, one) refl
 typed_canonical (Named key) bits shifted text c e typed one = absurd (cc (e))
-typed_canonical (Functional n) bits shifted text c e typed one = absurd (cc (e))
+typed_canonical (Functional n) bits shifted text c e typed one = rw (e, typed, one) refl
 
 -- without SHIFT
 pub typed_bare : (c bits : ℕ) → typed_character c (without_shift bits) ≡ character_press c 0
@@ -108,14 +107,18 @@ typed_by_itself : (key : ReportedKey) (r : KeyReport) → is_typed_text r.text �
 unfolding typed_text
 typed_by_itself key r e = rw e refl
 
-pub at_most_of : (key : ReportedKey) (r : KeyReport) → is_character key ≡ true → types key r ≡ true → is_at_most_shifted r.modifiers ≡ true
+pub at_most_of : (key : ReportedKey) (r : KeyReport) → takes_text key ≡ true → types key r ≡ true → is_at_most_shifted r.modifiers ≡ true
 at_most_of (Named (Char d)) r e t = ⊎_elim
     (λ (a : (is_at_most_shifted r.modifiers && (is_typed_text r.text || not (is_control d))) ≡ true).
     (and_parts (is_at_most_shifted r.modifiers) (is_typed_text r.text || not (is_control d)) a).0)
     (λ (b : (false && is_bare r.modifiers) ≡ true). absurd (cc (b)))
     (or_cases (is_at_most_shifted r.modifiers && (is_typed_text r.text || not (is_control d))) (false && is_bare r.modifiers) t)
 at_most_of (Named key) r e t = absurd (cc (e))
-at_most_of (Functional n) r e t = absurd (cc (e))
+at_most_of (Functional n) r e t = ⊎_elim
+    (λ (a : (is_at_most_shifted r.modifiers && (is_typed_text r.text || false)) ≡ true).
+    (and_parts (is_at_most_shifted r.modifiers) (is_typed_text r.text || false) a).0)
+    (λ (b : (false && is_bare r.modifiers) ≡ true). absurd (cc (b)))
+    (or_cases (is_at_most_shifted r.modifiers && (is_typed_text r.text || false)) (false && is_bare r.modifiers) t)
 
 pub bare_of : (a t b : Bool) → t ≡ false → ((a && (t || false)) || (true && b)) ≡ true → b ≡ true
 bare_of true true b e h = absurd (cc (e))
@@ -141,15 +144,15 @@ module _ (r : KeyReport) (is : IsPressed r) where
   of_text : types r.key r ≡ true → is_typed_text r.text ≡ true → KeepsPress r (characters_pressed r.text)
   of_text types' typed = go is.text
     where
-      character_too : (key : ReportedKey) → is_character key ≡ true → is_character (typed_key key r) ≡ true
-      character_too (Named (Char c)) e = refl
-      character_too (Named key) e = absurd (cc (e))
-      character_too (Functional n) e = absurd (cc (e))
+      takes_too : (key : ReportedKey) → takes_text key ≡ true → takes_text (typed_key key r) ≡ true
+      takes_too (Named (Char c)) e = refl
+      takes_too (Named key) e = absurd (cc (e))
+      takes_too (Functional n) e = e
 
-      go : ((r.text ≡ []) ⊎ ((is_character r.key ≡ true) × ((c : ℕ) × (chars r.text ≡ c ∷ [])))) → KeepsPress r (characters_pressed r.text)
+      go : ((r.text ≡ []) ⊎ ((takes_text r.key ≡ true) × ((c : ℕ) × (chars r.text ≡ c ∷ [])))) → KeepsPress r (characters_pressed r.text)
       go (inl none) = absurd (let never : is_typed_text [] ≡ true = subst (λ t. is_typed_text t ≡ true) none typed in cc (never))
-      go (inr (character, (c, one))) =
-          let most = at_most_of r.key r character types' in
+      go (inr (takes, (c, one))) =
+          let most = at_most_of r.key r takes types' in
           let counts : is_typed (without_shift r.modifiers) r.text ≡ true =
           same_typed r.modifiers r.text ∙ ap (λ b. b && not (is_shortcut r.modifiers)) (counted_same r.text ∙ typed)
           ∙ ap (λ b. not (not b)) most in
@@ -159,7 +162,7 @@ module _ (r : KeyReport) (is : IsPressed r) where
             ap (λ cs. map (λ d. pressed (Char d)) cs) one,
             bare_press c 0 shown' refl
                 ∙ sym (told_parts
-                ∙ typed_canonical (typed_key r.key r) (without_shift r.modifiers) None r.text c (character_too r.key character) counts one
+                ∙ typed_canonical (typed_key r.key r) (without_shift r.modifiers) None r.text c (takes_too r.key takes) counts one
                 ∙ ap (λ p. Some p) (typed_bare c r.modifiers)),
           )
 

@@ -1,5 +1,5 @@
 -- Before Kitty's protocol a key of the keypad is told as its main key. That has the same press, and is as writable.
-use Rattle.std.proofs.Common.{◌≡◌, ◌∙◌, inl, inr, ℕ, ◌+◌, Bool, true, false, List, [], ◌∷◌, map, Option, Some, None, refl, sym, ap, ap₂, arith, Contains, ◌==◌, ◌&&◌, nat_le, zero, suc}
+use Rattle.std.proofs.Common.{◌≡◌, ◌∙◌, inl, inr, ℕ, ◌+◌, Bool, true, false, List, [], ◌∷◌, map, Option, Some, None, refl, sym, ap, ap₂, subst, arith, Contains, ◌==◌, ◌&&◌, nat_le, zero, suc}
 use Rattle.std.specs.Prelude.{option_map, unwrap_or}
 use Rattle.std.proofs.lemmas.Bool.{and_parts, eqb-true}
 use Rattle.std.proofs.lemmas.Bool.Decides.{nat_tests}
@@ -20,7 +20,7 @@ use Rattle.termwiz_kitty.proofs.lemmas.read_back.SequencesMean.{told_is_key}
 use Rattle.termwiz_bindings.specs.MainKeys as keys
 use Rattle.termwiz_bindings.specs.Presses as rules
 use Rattle.termwiz_bindings.specs.Presses.{canonical}
-use Rattle.termwiz_binding_laws.specs.KittyPresses.{IsPressed, HasOneCharacter}
+use Rattle.termwiz_binding_laws.specs.KittyPresses.{IsPressed, takes_text, HasOneCharacter}
 
 -- what a table has at a number is in it
 pub entry_in : {K : Type 0} (table : List (ℕ × K)) (n : ℕ) (k : K) → entry_at table n ≡ Some k → Contains table (n, k)
@@ -127,6 +127,16 @@ main_of_character : (key : ReportedKey) → is_character key ≡ true → main_k
 unfolding main_key
 main_of_character key e = rw e refl
 
+main_of_none : (n : ℕ) → n ≡ 0 → main_key (Functional n) ≡ Functional n
+unfolding main_key
+main_of_none n zero' = subst (λ m. main_key (Functional m) ≡ Functional m) (sym zero') refl
+
+-- a key that may have a text is its own main key
+main_of_text : (key : ReportedKey) → takes_text key ≡ true → main_key key ≡ key
+main_of_text (Named (Char c)) e = main_of_character (Named (Char c)) refl
+main_of_text (Named key) e = absurd (cc (e))
+main_of_text (Functional n) e = main_of_none n (eqb-true n 0 e)
+
 -- the report with the key that is told
 abbrev pub told : KeyReport → KeyReport
 told r = record r { key = main_key r.key }
@@ -142,12 +152,11 @@ module _ (r : KeyReport) (is : IsPressed r) where
 
   no_text : has_text (form_of (main_key r.key)) ≡ false → HasOneCharacter r → r.text ≡ []
   no_text e (inl none) = none
-  no_text e (inr (character, one)) =
-      is.writable.text (ap (λ k. has_text (form_of k)) (sym (main_of_character r.key character)) ∙ e)
+  no_text e (inr (takes, one)) = is.writable.text (ap (λ k. has_text (form_of k)) (sym (main_of_text r.key takes)) ∙ e)
 
   one_character : HasOneCharacter r → HasOneCharacter (told r)
   one_character (inl none) = inl none
-  one_character (inr (character, one)) = inr (ap is_character (main_of_character r.key character) ∙ character, one)
+  one_character (inr (takes, one)) = inr (ap takes_text (main_of_text r.key takes) ∙ takes, one)
 
   key_is : IsKey (main_key r.key)
   key_is = told_is_key r 0 is.report.key_is

@@ -16,7 +16,6 @@ use Rattle.termwiz_grammar.proofs.lemmas.lists.ListMembers.{same_on}
 use Rattle.termwiz_extended_events.specs.declared.types.KeyReport.{KeyReport}
 use Rattle.termwiz_extended_events.specs.declared.types.ReportedKey.{ReportedKey}
 use Rattle.termwiz_extended_events.specs.declared.types.ReportedKey.TheVariants.{Named, Functional}
-use Rattle.termwiz_kitty.specs.KeyForms.{is_character}
 use Rattle.termwiz_kitty.specs.LegacyTexts.{without_control}
 use Rattle.termwiz_kitty.specs.Telling.{is_shifted, is_at_most_shifted, is_bare, is_typed_text, types, types_character, sends_control}
 use Rattle.termwiz_kitty.specs.KittyTexts.{shown}
@@ -26,7 +25,7 @@ use Rattle.termwiz_bindings.specs.MainKeys as keys
 use Rattle.termwiz_bindings.specs.Letters.{is_shifted as is_shifted_character, letter_of, capital_of, has_near_capital, has_far_capital, is_shifted_sign, shown_with_shift}
 use Rattle.termwiz_bindings.specs.Presses as rules
 use Rattle.termwiz_bindings.specs.Presses.{canonical, counted, is_shortcut, is_typed, without_shift, character_press, typed_character, all_but_locks}
-use Rattle.termwiz_binding_laws.specs.KittyPresses.{IsPressed, typed_key, typed_report, shows_shift, is_unseen, loses_shift, TypedKeysKeepPresses}
+use Rattle.termwiz_binding_laws.specs.KittyPresses.{takes_text, IsPressed, typed_key, typed_report, shows_shift, is_unseen, loses_shift, TypedKeysKeepPresses}
 use Rattle.termwiz_binding_laws.proofs.lemmas.KittyReports.{pressed_with, by_parts, counted_same}
 use Rattle.termwiz_binding_laws.proofs.lemmas.KittyTyped.{bare_bits, no_locks, bare_cased, bare_press, control_press, typed_canonical, typed_bare, same_typed, no_text, at_most_of, bare_of, without_false}
 
@@ -159,10 +158,10 @@ module _ (r : KeyReport) (is : IsPressed r) (keeps : loses_shift r ≡ false) wh
   of_text : types r.key r ≡ true → is_typed_text r.text ≡ true → Keeps r.key r.text
   of_text types' typed = go is.text
     where
-      character_too : (key : ReportedKey) → is_character key ≡ true → is_character (typed_key key r) ≡ true
-      character_too (Named (Char c)) e = refl
-      character_too (Named key) e = absurd (cc (e))
-      character_too (Functional n) e = absurd (cc (e))
+      takes_too : (key : ReportedKey) → takes_text key ≡ true → takes_text (typed_key key r) ≡ true
+      takes_too (Named (Char c)) e = refl
+      takes_too (Named key) e = absurd (cc (e))
+      takes_too (Functional n) e = e
 
       unspaced : (c : ℕ) → chars r.text ≡ c ∷ [] → typed_character c r.modifiers ≡ character_press c 0
       unspaced c one = at (c == 32) refl
@@ -178,16 +177,16 @@ module _ (r : KeyReport) (is : IsPressed r) (keeps : loses_shift r ≡ false) wh
               no_shift true f = cc (f)
           at false e = refl
 
-      go : ((r.text ≡ []) ⊎ ((is_character r.key ≡ true) × ((c : ℕ) × (chars r.text ≡ c ∷ [])))) → Keeps r.key r.text
+      go : ((r.text ≡ []) ⊎ ((takes_text r.key ≡ true) × ((c : ℕ) × (chars r.text ≡ c ∷ [])))) → Keeps r.key r.text
       go (inl none) = absurd (let never : is_typed_text [] ≡ true = subst (λ t. is_typed_text t ≡ true) none typed in cc (never))
-      go (inr (character, (c, one))) =
-          let most = at_most_of r.key r character types' in
+      go (inr (takes, (c, one))) =
+          let most = at_most_of r.key r takes types' in
           let counts : is_typed r.modifiers r.text ≡ true =
           ap (λ b. b && not (is_shortcut r.modifiers)) (counted_same r.text ∙ typed) ∙ ap (λ b. not (not b)) most in
-          typed_canonical (typed_key r.key r) (without_shift r.modifiers) None r.text c (character_too r.key character)
+          typed_canonical (typed_key r.key r) (without_shift r.modifiers) None r.text c (takes_too r.key takes)
           (same_typed r.modifiers r.text ∙ counts) one
           ∙ ap (λ p. Some p) (typed_bare c r.modifiers ∙ sym (unspaced c one))
-          ∙ sym (typed_canonical r.key r.modifiers r.shifted r.text c character counts one)
+          ∙ sym (typed_canonical r.key r.modifiers r.shifted r.text c takes counts one)
 
   -- a character's key by itself
   of_character : (c : ℕ) → r.key ≡ Named (Char c) → is_typed_text r.text ≡ false → is_control c ≡ false
