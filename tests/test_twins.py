@@ -53,23 +53,24 @@ def twin_of_control(key, held, is_csi_u, level):
     return key, held & ALT
 
 
-def twin(key, held, is_csi_u, level):
-    """The key and the modifiers that are read."""
+def twin(key, held, is_csi_u, level, is_kitty):
+    """The key and the modifiers that are read, under Kitty's protocol or before it."""
     is_on = level is not None
     if key == "tab" and held & SUPER and not is_on:
         return key, held & ALT
     held &= ~SUPER
     if key == "enter" and not (is_csi_u or is_on):
         return key, held & ALT
-    if key == "backspace" and is_csi_u and held & CTRL:
+    if key == "backspace" and is_csi_u and held & CTRL and not is_kitty:
         return "h", held
     if key in ("escape", "backspace") and not (is_csi_u or is_on and level != 1):
         return key, held & ALT
     if len(key) > 1:
         return key, held
     if ord(key) >= 128:
-        return key, held if is_on else held & ALT
-    if key in string.punctuation:
+        told = held if is_control(key) else held & ~SHIFT
+        return key, told if is_on else held & ALT
+    if key in string.punctuation or key.isdigit() and is_kitty and not is_csi_u:
         held &= ~SHIFT
     if held & CTRL:
         return twin_of_control(key, held, is_csi_u, level)
@@ -122,12 +123,11 @@ def test_twins(encoding, level):
         modes = KeyCodeEncodeModes(KeyboardEncoding[encoding], on, on, level)
         text = encode(key, Modifiers(2 * held), modes)
         name = plain_name(key)
-        pressed = [canonical(*twin(name, held, is_csi_u, level))]
-        if on and name == "enter" and not held & (SHIFT | CTRL):
-            pressed = [("enter", held & ALT), ("enter", 0)]
         for parser in parsers:
-            if parser is parsers[1] and name == "f3" and held:
-                continue
+            is_kitty = parser is parsers[1]
+            pressed = [canonical(*twin(name, held, is_csi_u, level, is_kitty))]
+            if on and name == "enter" and not held & (SHIFT | CTRL):
+                pressed = [("enter", held & ALT), ("enter", 0)]
             if parser is parsers[2] and is_unknown_to_port(name, held, level):
                 continue
             case = (name, held, on, text)
@@ -241,3 +241,17 @@ def test_before_kitty(flags):
                 if press in WAITING:
                     found += presses(parser.flush())
                 assert (report, sent, found) == (report, sent, [press])
+
+
+@pytest.mark.parametrize("protocol", ["LEGACY", "KITTY"])
+def test_f3_while_a_question_is_open(protocol):
+    """Its text with a modifier is the position that was asked for, and the next one is the key."""
+    from hedrugal import ExtendedParser, Function, Modifiers, Protocol, encode
+    from hedrugal.extended import CursorPosition
+
+    for held in range(1, 8):
+        parser = ExtendedParser(Protocol[protocol])
+        parser.expect_position()
+        text = encode(Function(3), Modifiers(2 * held))
+        assert parser.parse(text) == [CursorPosition(1, held + 1)]
+        assert read(parser, text) == [("f3", held)]
