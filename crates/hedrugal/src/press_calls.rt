@@ -100,7 +100,7 @@ pub extern "C" fn hed_key_of_report(
     write_press(KeyPress::of_report_typing(&told, typed), press)
 }
 
-/// Writes the second press of a key report, and returns whether it has one: that of the key at the same place of a PC-101 keyboard.
+/// Writes the second press of a key report, and returns whether it has one: a press to try where the first one leads nowhere.
 #[unsafe(no_mangle)]
 pub extern "C" fn hed_key_second(alloc: Global, report: &CKeyReport, press: &mut CKeyPress) -> bool
     ensures wrote { result ≡ true → WroteSecondPress report.now press.new }

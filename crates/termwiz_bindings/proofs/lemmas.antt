@@ -1,5 +1,6 @@
 pub mod BindingChords
 pub mod BoundChords
+pub mod CapitalsTold
 pub mod CasedLetters
 pub mod CharacterRules
 pub mod ChordBytes

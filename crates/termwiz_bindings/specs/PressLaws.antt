@@ -9,7 +9,7 @@ use Rattle.termwiz_extended_events.specs.declared.types.KeyEventKind.TheVariants
 use Rattle.termwiz_extended_events.specs.declared.types.ReportedKey.TheVariants.{Named}
 use Rattle.termwiz_extended_events.specs.KeyReports.{report_of}
 use Rattle.termwiz_bindings.specs.declared.press.KeyPress.{KeyPress}
-use Rattle.termwiz_bindings.specs.Letters.{shown_with_shift}
+use Rattle.termwiz_bindings.specs.Letters.{capital_of, shown_with_shift}
 use Rattle.termwiz_bindings.specs.Presses.{canonical, second, typed_text, with_text, all_but_locks, is_shortcut, has_shift, plain_press, reported, event_report}
 
 -- a press as the report of a press that says no more
@@ -27,6 +27,11 @@ PressesHaveNoLocks = (r : KeyReport) (p : KeyPress) → canonical r ≡ Some p �
 -- a rule that changes nothing where it was applied before
 abbrev pub IsSettled : (KeyPress → KeyPress) → Type 0
 IsSettled rule = (p : KeyPress) → rule (rule p) ≡ rule p
+
+-- Where a report tells the capital of a cased letter, its press is that without it: only what a keyboard does otherwise counts.
+abbrev pub CapitalsTellNothing : Type 0
+CapitalsTellNothing = (r : KeyReport) (c capital : ℕ) → r.key ≡ Named (Char c) → capital_of c ≡ Some capital
+    → canonical (record r { shifted = Some capital }) ≡ canonical (record r { shifted = None })
 
 -- A release has no press.
 abbrev pub NoPressOfRelease : Type 0

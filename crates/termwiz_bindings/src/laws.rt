@@ -5,7 +5,7 @@ ghost use Rattle.termwiz_bindings.specs.Chords.{TellsChordsApart};
 ghost use Rattle.termwiz_bindings.specs.CodeLaws.{CodesBeginAsPresses, CodesHaveOneWidth, CodesTellPresses};
 ghost use Rattle.termwiz_bindings.specs.NameLaws.{NamesReadBack, ReadsPresses};
 ghost use Rattle.termwiz_bindings.specs.Presses.{main_press, control_press, told_press, shown_press, lowered_press};
-ghost use Rattle.termwiz_bindings.specs.PressLaws.{IsSettled, LocksChangeNothing, NeverBoth, NoPressOfRelease, PressesHaveNoLocks, PressesSettle, SecondOnlyOf, SecondWithoutText, SidesChangeNothing};
+ghost use Rattle.termwiz_bindings.specs.PressLaws.{CapitalsTellNothing, IsSettled, LocksChangeNothing, NeverBoth, NoPressOfRelease, PressesHaveNoLocks, PressesSettle, SecondOnlyOf, SecondWithoutText, SidesChangeNothing};
 
 use crate::chord::Chord;
 
@@ -24,6 +24,12 @@ pub fn rules_settle()
     ensures told { (shifted : Option ℕ) → IsSettled (told_press shifted) }
     ensures shown { IsSettled shown_press }
     ensures lowered { IsSettled lowered_press }
+{}
+
+/// Where a terminal tells that a letter is its capital with Shift, the press is that without it. So a program gets ctrl+shift+a whether the `A`
+/// is told or not.
+pub fn capitals_tell_nothing()
+    ensures { CapitalsTellNothing }
 {}
 
 /// Caps Lock and Num Lock, as modifiers of a report, change no press (`locks`). Neither do those modifiers of an event that tell which of

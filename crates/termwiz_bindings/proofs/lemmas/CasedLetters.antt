@@ -2,7 +2,7 @@
 use Rattle.std.proofs.Common.{◌≡◌, ◌∙◌, ⊎_elim, ℕ, ◌+◌, ◌-◌, ◌<◌, ◌≤◌, Bool, true, false, not, ◌==◌, ◌&&◌, ◌||◌, nat_le, refl, sym, ap, subst, arith, Option, Some, None}
 use Rattle.std.specs.Prelude.{is_some, IsSome, if◌then◌else◌}
 use Rattle.std.specs.Option.{SomeIff}
-use Rattle.std.specs.Char.{is_ascii_control, is_ascii_uppercase}
+use Rattle.std.specs.Char.{is_control, is_ascii_control, is_ascii_uppercase}
 use Rattle.std.proofs.lemmas.Bool.{and_parts, cases_lt}
 use Rattle.std.proofs.lemmas.Bool.Decides.{nat_tests}
 use Rattle.termwiz_bindings.specs.Letters.{has_near_capital, has_far_capital, capital_of, letter_of, is_shifted, is_shifted_sign, shown_with_shift}
@@ -55,7 +55,7 @@ fits_letter c None = true
 
 -- the capital of a letter is no control character, and its letter is that one
 abbrev fits_capital : ℕ → Option ℕ → Bool
-fits_capital c (Some capital) = not (is_ascii_control capital) && has (letter_of capital) c
+fits_capital c (Some capital) = not (is_control capital) && has (letter_of capital) c
 fits_capital c None = true
 
 -- a capital is a character in any case, with A to Z among them, and no sign is one
@@ -112,6 +112,7 @@ letter_is c letter = by_range (λ c. letter_of c ≡ Some letter → IsLetterOf 
 
 -- the capital of a letter
 pub record IsCapitalOf (c capital : ℕ) : Type 0 where
+  pub counts : is_control capital ≡ false
   pub plain : is_ascii_control capital ≡ false
   pub back : letter_of capital ≡ Some c
 
@@ -119,9 +120,11 @@ pub capital_is : (c capital : ℕ) → capital_of c ≡ Some capital → IsCapit
 capital_is c capital = by_range (λ c. capital_of c ≡ Some capital → IsCapitalOf c capital)
     (λ c low is.
     (let fit : fits_capital c (Some capital) ≡ true = subst (λ o. fits_capital c o ≡ true) is (fitting c low).1.0 in
-    let parts = and_parts (not (is_ascii_control capital)) (has (letter_of capital) c) fit in
+    let parts = and_parts (not (is_control capital)) (has (letter_of capital) c) fit in
+    let counts : is_control capital ≡ false = not_true (is_control capital) parts.0 in
     record {
-      plain = not_true (is_ascii_control capital) parts.0;
+      counts = counts;
+      plain = grind (arith, nat_tests);
       back = has_it (letter_of capital) c parts.1;
     }))
     (λ c past is. (let none : None ≡ Some capital = sym (no_capital c past) ∙ is in cc)) c
