@@ -324,18 +324,19 @@ class KeyPress:
             >>> KeyPress.second(KeyReport("\u0441", KittyModifiers.CTRL, base="c"))
             KeyPress(key='c', held=KittyModifiers.CTRL)
 
-        With ALT, CTRL, SUPER, HYPER or META, a character that isn't of ASCII has that of the key at
-        the same place of a PC-101 keyboard, if the terminal told it as base. A digit or a sign whose
-        character with Shift was told has the press with SHIFT: ctrl+! is tried as ctrl+shift+1.
-        U+0008 is tried as ctrl+backspace, and U+000A as enter.
+        With ALT, CTRL, SUPER, HYPER or META, a character that isn't of ASCII has that of the key
+        at the same place of a PC-101 keyboard, if the terminal told it as base. A digit or a sign
+        whose character with Shift was told has the press with SHIFT: ctrl+! is tried as
+        ctrl+shift+1. U+0008 is tried as ctrl+backspace, and U+000A as enter.
 
         Look at the press first: where the report types its text, this says nothing of it."""
         return _written(functools.partial(_library.hed_key_second, _raw_report(report)))
 
     @property
     def text(self) -> Optional[str]:
-        """The character that the press types, or None. Nothing is then held, or SHIFT with the space
-        alone. A program inserts it if the press does nothing else. Enter and Tab type none."""
+        """The character that the press types, or None. Nothing is then held, or SHIFT with the
+        space alone. A program inserts it if the press does nothing else. Enter and Tab type
+        none."""
         return _character(_library.hed_key_text(_raw_press(self)))
 
     def __str__(self) -> str:
