@@ -37,11 +37,11 @@ WRONG_REPORTS = {"dvtm": rb"\x1b\[M.*", "vim-terminal": rb"\x1b\[\d.*"}
 UNTOLD = {"qterminal": ("Ctrl", "Alt"), "putty": ("Alt",), "vim-terminal": ("Ctrl", "Alt")}
 # Of everyday presses at least so many percent are read exactly: of all, and of those without a
 # reason.
-LEAST_OF_ALL, LEAST_WITHOUT_REASON = 92.5, 97.3
+LEAST_OF_ALL, LEAST_WITHOUT_REASON = 93.6, 98.4
 # At most so many pairs of byte strings of a terminal in a mode share a press.
-MOST_PAIRS = 401
+MOST_PAIRS = 209
 # In at most so many modes of a terminal another parser reads more.
-MOST_FEWER = 8
+MOST_FEWER = 1
 
 
 def plain_key(key):
