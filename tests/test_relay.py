@@ -244,7 +244,8 @@ def relayed(relay, texts):
 
 
 # tmux has other codes for Home and End, and sends Tab without modifiers, and any key without Super.
-OTHERS = r"home|end|(ctrl|alt)\+.*tab|super\+.*"
+# kitty doesn't say that its key é has no capital.
+OTHERS = r"home|end|(ctrl|alt)\+.*tab|super\+.*|(alt\+)?é"
 
 
 @pytest.mark.timed

@@ -56,8 +56,10 @@ fn legacy_text(report: &KeyReport, modes: &ChildModes, protocol: Protocol) -> St
     if let Some(letter) = keypad_letter(report).filter(|_| modes.keys.keypad) {
         return format!("\x1bO{letter}");
     }
+    let is_other = matches!(report.key, ReportedKey::Named(KeyCode::Char(c)) if !c.is_ascii());
     // Ctrl and a letter of another script is Ctrl and the Latin letter at that place.
-    let second = KeyPress::second(report).filter(|it| it.held().contains(KittyModifiers::CTRL));
+    let second =
+        KeyPress::second(report).filter(|it| is_other && it.held().contains(KittyModifiers::CTRL));
     press_text(second.unwrap_or(press), modes.key_encoding(protocol)).unwrap_or_default()
 }
 
