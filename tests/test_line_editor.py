@@ -47,7 +47,7 @@ EMACS = {
         [START + b"on", 0.1, b"e" + END + START + b" t", 0.1, b"wo" + END],
         ["one two"],
     ),
-    "focus and mouse": ([b"a\033[I\033[<0;3;4M\033[<0;3;4mb"], ["ab"]),
+    "focus and mouse": ([b"a\033[I\033[<0;3;4M\033[<0;3;4m\005b"], ["ab"]),
 }
 VI = {
     "insert": ([b"abc"], ["abc"]),
