@@ -67,7 +67,7 @@ static bool ask(hed_terminal *terminal, hed_extended *parser) {
 int main(void) {
   hed_extended parser = HED_EXTENDED_NONE;
   hed_terminal terminal;
-  if (!hed_extended_init(&parser, HED_PROTOCOL_LEGACY)) {
+  if (!hed_extended_init(&parser, HED_DIALECT_EXTENDED)) {
     fputs("ask: out of memory\n", stderr);
     return 1;
   }

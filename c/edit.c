@@ -7,8 +7,8 @@
  * `#`. The screen is a log: the text after each change of it or of its cursor, which is shown as `|`, and the chords that may follow. A
  * second after the last press what is pending counts as it is. Of keys without a command those that type text insert it.
  *
- * The program asks for modifyOtherKeys of xterm and for Kitty's keyboard protocol. It reads by the latter once the terminal has told its
- * flags. */
+ * The program asks for modifyOtherKeys of xterm and for Kitty's keyboard protocol. It reads what the terminal sends, whichever of them that
+ * has. */
 #define _POSIX_C_SOURCE 200809L
 #include "hedrugal_terminal.h"
 #include "name_errors.h"
@@ -300,7 +300,7 @@ static bool handle_text(edit *it, size_t len) {
 /* A report without a press that has one with a text of one character types several characters. */
 static bool handle_key(edit *it, const hed_extended_event *event) {
   uint8_t typed[REPORT_ROOM];
-  size_t len = event->kind == HED_KIND_REPORT ? event->text_len : 0;
+  size_t len = event->text_len;
   hed_key_press press;
   if (len > 0) hed_extended_text(&it->parser, typed, sizeof typed);
   if (hed_key_of_report(&event->report, typed, len, &press)) return handle_press(it, &event->report, &press);
@@ -308,24 +308,11 @@ static bool handle_key(edit *it, const hed_extended_event *event) {
   return true;
 }
 
-/* Asks for the flags of Kitty's protocol. */
-static bool ask_flags(edit *it) {
-  return hed_terminal_ask(&it->terminal, &it->parser, "\033[?u") || fail(it, it->terminal.failure);
-}
-
-/* The terminal has Kitty's protocol. */
-static bool read_by_kitty(edit *it) {
-  hed_reading reading = { .protocol = HED_PROTOCOL_KITTY };
-  return hed_extended_set_reading(&it->parser, &reading);
-}
-
 static bool handle_event(edit *it, const hed_extended_event *event) {
   switch (event->kind) {
-    case HED_KIND_KEY:
-    case HED_KIND_REPORT: return handle_key(it, event);
+    case HED_KIND_KEY: return handle_key(it, event);
     case HED_KIND_PASTE:
     case HED_KIND_PASTE_PART: return handle_text(it, event->text_len);
-    case HED_KIND_KEYBOARD_FLAGS: return read_by_kitty(it);
     default: return true;
   }
 }
@@ -335,18 +322,12 @@ static bool handle_pause(edit *it) {
   return hed_timer_timeout(&it->timer, hed_terminal_now()) != 0 || take_outcomes(it, false, false);
 }
 
-/* Another program had the terminal. The reply would be a part of a paste or a string that is open. */
-static bool handle_resumed(edit *it) {
-  uint32_t waiting = hed_extended_waiting(&it->parser);
-  return waiting == HED_WAITING_PASTE || waiting == HED_WAITING_STRING || ask_flags(it);
-}
-
 static bool step(edit *it) {
   hed_extended_event event;
   switch (hed_terminal_next(&it->terminal, &it->parser, hed_timer_timeout(&it->timer, hed_terminal_now()), &event)) {
     case HED_TERMINAL_EVENT: return handle_event(it, &event);
     case HED_TERMINAL_NOTHING: return handle_pause(it);
-    case HED_TERMINAL_RESUMED: return handle_resumed(it);
+    case HED_TERMINAL_RESUMED:
     case HED_TERMINAL_RESIZED: return true;
     case HED_TERMINAL_ENDED: take_outcomes(it, false, false); return false;
     case HED_TERMINAL_FAILED: return fail(it, it->terminal.failure);
@@ -371,14 +352,13 @@ static void run(edit *it) {
     fail(it, it->terminal.failure);
     return;
   }
-  bool goes_on = ask_flags(it);
   print_end(it);
-  while (goes_on) goes_on = step(it);
+  while (step(it)) continue;
   hed_terminal_close(&it->terminal);
 }
 
 static int run_by_file(edit *it, const char *file) {
-  if (!hed_bindings_init(&it->bindings) || !hed_extended_init(&it->parser, HED_PROTOCOL_LEGACY)) fail(it, "out of memory");
+  if (!hed_bindings_init(&it->bindings) || !hed_extended_init(&it->parser, HED_DIALECT_EXTENDED)) fail(it, "out of memory");
   else if (!read_file(it, file)) return 2;
   else run(it);
   return it->failure ? 1 : 0;

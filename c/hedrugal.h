@@ -83,15 +83,13 @@ typedef struct hed_parser {
 #define HED_PARSER_NONE \
   { false, false, false, false, false, NULL, NULL }
 
-/* The kinds of events: the field kind of a hed_event, which has none but the first four and HED_KIND_PASTE_PART, and of a
- * hed_extended_event. */
+/* The kinds of events: the field kind of a hed_event, which is HED_KIND_KEY, _MOUSE, _PASTE or _PASTE_PART, and of a hed_extended_event. */
 enum hed_kind {
   /* numbers.txt: kind c */
   HED_KIND_OTHER = 0, /* None of these. No event has this kind. */
-  HED_KIND_KEY = 1, /* A key was pressed: an entry of the sequence table, or a character. */
+  HED_KIND_KEY = 1, /* A key: of a hed_parser one that was pressed, and of an extended parser a key report. */
   HED_KIND_MOUSE = 2, /* The mouse was moved, one of its buttons was pressed or released, or a wheel was turned. */
   HED_KIND_PASTE = 3, /* Text was pasted, in bracketed paste mode. */
-  HED_KIND_REPORT = 4, /* A key report: a key was pressed, held down or released. */
   HED_KIND_FOCUS_GAINED = 5, /* The terminal's window gained the focus (mode 1004). */
   HED_KIND_FOCUS_LOST = 6, /* The terminal's window lost the focus. */
   HED_KIND_CURSOR_POSITION = 7, /* The reply to a question for the cursor's position. */
@@ -103,8 +101,7 @@ enum hed_kind {
   HED_KIND_APC = 13, /* An application program command, such as a reply of Kitty's graphics protocol. */
   HED_KIND_PASTE_PART = 14, /* Text of a paste whose end is still to come. */
   HED_KIND_STRING_PART = 15, /* The first bytes of a long string whose end is still to come. */
-  HED_KIND_STRING_CUT = 16, /* A string that was cut off before its end. */
-  HED_KIND_SIDE_BUTTON = 17 /* One of the mouse buttons 8 to 11 was pressed, released or dragged. */
+  HED_KIND_STRING_CUT = 16 /* A string that was cut off before its end. */
   /* numbers.txt: end */
 };
 
@@ -248,7 +245,8 @@ bool hed_parser_skip_paste(hed_parser *parser, size_t *count);
 uint32_t hed_parser_end_paste(hed_parser *parser, hed_event *event);
 
 /* Forgets all that is buffered, an open paste too: the next byte that is fed comes first. The caller calls it where earlier bytes no
- * longer count, as after another program had the terminal, unless a paste is open: its rest would be typed. The text of the last paste or part is kept, and no memory is freed.
+ * longer count, as after another program had the terminal, unless a paste is open: its rest would be typed. The text of the last paste or
+ * part is kept, and no memory is freed.
  *
  * Returns the number of bytes that were buffered, 0 if there is no parser. */
 size_t hed_parser_reset(hed_parser *parser);
@@ -621,8 +619,9 @@ uint32_t hed_keymap_lookup(const hed_keymap *map, const uint8_t *text, size_t le
 size_t hed_keymap_len(const hed_keymap *map);
 
 /* The extended parser, or none. It reads what a hed_parser reads, and what terminals send beyond the sequence table: replies to questions,
- * focus reports, other mouse reports, control sequences and strings, and Kitty's keyboard protocol. docs/EXTENDED.md says what bytes mean
- * to it. A program makes it in place of a hed_parser and calls it in the same way. It may be moved as a hed_parser may. */
+ * focus reports, other mouse reports, control sequences and strings. It reads keys of every protocol, Kitty's and those before it, without
+ * being told which the terminal speaks. docs/EXTENDED.md says what bytes mean to it. A program makes it in place of a hed_parser and calls it
+ * in the same way. It may be moved as a hed_parser may. */
 typedef struct hed_extended {
   bool live;
   bool timed;
@@ -637,21 +636,41 @@ typedef struct hed_extended {
 #define HED_EXTENDED_NONE \
   { false, false, false, false, false, NULL, NULL }
 
-/* The keyboard protocol that the program turned on, which says how the entries of the sequence table are read: what hed_extended_init is
- * given. */
-enum hed_protocol {
-  /* numbers.txt: protocol c */
-  HED_PROTOCOL_LEGACY = 0, /* For programs that leave Kitty's keyboard protocol off: each entry keeps its key. */
-  HED_PROTOCOL_KITTY = 1 /* For programs that turn it on: an entry that reports a key or the cursor's position is read as that report. */
+/* By which grammar an extended parser reads: what hed_extended_init is given. Pass HED_DIALECT_EXTENDED: it reads every protocol and mode, so
+ * a program never has to know which its terminal speaks. HED_DIALECT_TERMWIZ is for programs that must read just what termwiz reads. */
+enum hed_dialect {
+  /* numbers.txt: dialect c */
+  HED_DIALECT_EXTENDED = 0, /* What terminals send in any mode. For every program. */
+  HED_DIALECT_TERMWIZ = 1 /* What termwiz reads, and nothing else: the other fields of a reading say nothing then. */
   /* numbers.txt: end */
 };
 
-/* What happened to a side button: the field flags of a hed_extended_event. */
-enum hed_side_button {
-  /* numbers.txt: side_button c */
-  HED_SIDE_BUTTON_PRESS = 1, /* It was pressed. */
-  HED_SIDE_BUTTON_RELEASE = 2, /* It was released. Only SGR reports (mode 1006) tell which button was. */
-  HED_SIDE_BUTTON_DRAG = 3 /* The mouse was moved while it was down. */
+/* Which byte the Backspace key sends: the field erase of a hed_reading. A program takes it from its terminal's settings: VERASE of termios is 8
+ * or 127. hedrugal_terminal.c does that. */
+enum hed_erase {
+  /* numbers.txt: erase c */
+  HED_ERASE_DELETE = 0, /* 127, as most terminals send it. Byte 8 is Ctrl-H. */
+  HED_ERASE_BACKSPACE = 1 /* 8. Byte 127 is Ctrl-Backspace. */
+  /* numbers.txt: end */
+};
+
+/* What byte 10 is: the field newline of a hed_reading. It is Enter while the terminal's settings turn CR into LF (ICRNL of termios), or if the
+ * input is no terminal. In raw mode, as hedrugal_terminal.c sets it, it is Ctrl-J. */
+enum hed_newline {
+  /* numbers.txt: newline c */
+  HED_NEWLINE_CTRL_J = 0, /* Ctrl-J. The Enter key sends the byte 13. */
+  HED_NEWLINE_ENTER = 1 /* The Enter key: the terminal's settings turn CR into it (ICRNL), or the input is no terminal. */
+  /* numbers.txt: end */
+};
+
+/* What happened to the mouse: the field kind of a hed_mouse_report. */
+enum hed_mouse_kind {
+  /* numbers.txt: mouse_kind c */
+  HED_MOUSE_KIND_PRESS = 1, /* A button was pressed. */
+  HED_MOUSE_KIND_RELEASE = 2, /* A button was released. Only SGR reports (mode 1006) tell which. */
+  HED_MOUSE_KIND_DRAG = 3, /* The mouse was moved while a button was down. */
+  HED_MOUSE_KIND_MOVE = 4, /* The mouse was moved, and no button is down. */
+  HED_MOUSE_KIND_WHEEL = 5 /* A wheel was turned. */
   /* numbers.txt: end */
 };
 
@@ -693,54 +712,64 @@ typedef struct hed_key_report {
   uint32_t base; /* the code point that the key at this place types on the standard layout (PC-101), or HED_NO_CODE */
 } hed_key_report;
 
+/* A mouse report, and what it tells. */
+typedef struct hed_mouse_report {
+  uint8_t kind; /* an enum hed_mouse_kind */
+  uint8_t button; /* the number of the button that the report names, 0 if it names none: 1 to 3 the left, middle and right one, 4 to 7 a
+                   * wheel turned up, down, left and right, 8 to 11 a side button */
+  uint8_t buttons; /* those that are down, a set of HED_BUTTON_..: empty after a release, for a move, and for a side button */
+  uint16_t modifiers; /* a set of HED_TERMWIZ_MOD_.. */
+  uint16_t x; /* the column, as the terminal sent it: the leftmost is 1 */
+  uint16_t y; /* the row, as the terminal sent it: the topmost is 1 */
+} hed_mouse_report;
+
 /* An event of the extended parser. What its kind has no use for is 0. */
 typedef struct hed_extended_event {
   uint8_t kind; /* an enum hed_kind */
-  uint8_t flags; /* HED_KIND_KEYBOARD_FLAGS: a set of HED_KITTY_FLAG_..; HED_KIND_STRING_PART, _CUT: HED_KIND_OSC, _DCS or _APC;
-                  * HED_KIND_SIDE_BUTTON: an enum hed_side_button */
+  uint8_t flags; /* HED_KIND_KEYBOARD_FLAGS: a set of HED_KITTY_FLAG_..; HED_KIND_STRING_PART, _CUT: HED_KIND_OSC, _DCS or _APC */
   uint16_t row; /* HED_KIND_CURSOR_POSITION: the row, as the terminal sent it: the topmost is 1 */
   uint16_t column; /* HED_KIND_CURSOR_POSITION: the column, as the terminal sent it: the leftmost is 1 */
   uint16_t rows; /* HED_KIND_RESIZE: the number of rows */
   uint16_t columns; /* HED_KIND_RESIZE: the number of columns */
   uint16_t height; /* HED_KIND_RESIZE: the height in pixels */
   uint16_t width; /* HED_KIND_RESIZE: the width in pixels */
-  hed_key_report report; /* HED_KIND_REPORT: the report; HED_KIND_KEY: the same key as a press, so that a program needs one case for both */
-  hed_event input; /* HED_KIND_KEY, HED_KIND_MOUSE, HED_KIND_PASTE, HED_KIND_PASTE_PART: the event as the calls of a hed_parser write it;
-                    * HED_KIND_SIDE_BUTTON: x, y and modifiers as of the mouse, and in detail the number of the button, from 8 to 11 */
+  hed_key_report report; /* HED_KIND_KEY: the key, whether it was typed or reported */
+  hed_mouse_report mouse; /* HED_KIND_MOUSE: the report */
   size_t text_len; /* the number of bytes that the event brought, which hed_extended_text copies: see there */
 } hed_extended_event;
 
 /* Makes an extended parser with an empty buffer. If there was one, it is freed. The caller owes a hed_extended_free. Pass
- * HED_PROTOCOL_KITTY if the program turns Kitty's keyboard protocol on, and HED_PROTOCOL_LEGACY otherwise. It costs what a hed_parser
- * costs.
+ * HED_DIALECT_EXTENDED, whatever the terminal is and whatever protocol or mode the program turns on. It costs what a hed_parser costs.
  *
- * Returns false if memory is refused or protocol is no enum hed_protocol: then the parser is unchanged. */
-bool hed_extended_init(hed_extended *parser, uint32_t protocol);
+ * Returns false if memory is refused or dialect is no enum hed_dialect: then the parser is unchanged. */
+bool hed_extended_init(hed_extended *parser, uint32_t dialect);
 
-/* Makes an extended parser with an empty buffer that shares the table of another, as hed_parser_init_sharing does. The two may be for
- * different protocols.
+/* Makes an extended parser with an empty buffer that shares the table of another, as hed_parser_init_sharing does. The two may have
+ * different dialects.
  *
- * Returns false if memory is refused, protocol is no enum hed_protocol, or there is no other parser. Then the parser is unchanged. The
+ * Returns false if memory is refused, dialect is no enum hed_dialect, or there is no other parser. Then the parser is unchanged. The
  * other is unchanged in any case. */
-bool hed_extended_init_sharing(hed_extended *parser, uint32_t protocol, const hed_extended *other);
+bool hed_extended_init_sharing(hed_extended *parser, uint32_t dialect, const hed_extended *other);
 
 /* The same from a parser of the other kind: a program with both kinds needs one table. */
-bool hed_extended_init_sharing_parser(hed_extended *parser, uint32_t protocol, const hed_parser *other);
+bool hed_extended_init_sharing_parser(hed_extended *parser, uint32_t dialect, const hed_parser *other);
 
 /* Makes a parser that shares the table of an extended parser, as hed_parser_init_sharing does from a parser. */
 bool hed_parser_init_sharing_extended(hed_parser *parser, const hed_extended *other);
 
-/* How an extended parser reads. A new one has its protocol, and the rest is 0. */
+/* How an extended parser reads. A new one has its dialect, and the rest is 0: Backspace sends 127, and byte 10 is Ctrl-J. */
 typedef struct hed_reading {
-  uint32_t protocol; /* an enum hed_protocol */
+  uint32_t dialect; /* an enum hed_dialect. With HED_DIALECT_TERMWIZ the other fields say nothing */
+  uint32_t erase; /* an enum hed_erase: which byte the Backspace key sends */
+  uint32_t newline; /* an enum hed_newline: what byte 10 is */
   bool x10_mouse; /* X10 mouse reports are read: ESC [M and three bytes. Without it ESC [M is a control sequence */
   uint8_t questions; /* how many questions for the cursor's position are open */
 } hed_reading;
 
-/* Has the parser read so from now on, also what is buffered. So a program begins with HED_PROTOCOL_LEGACY, asks ESC [?u, and sets
- * HED_PROTOCOL_KITTY once a reply came.
+/* Has the parser read so from now on, also what is buffered. A program that changes one field begins with what hed_extended_reading wrote.
  *
- * Returns false if the protocol is no enum hed_protocol, or there is no parser: then the parser is unchanged. */
+ * Returns false if dialect is no enum hed_dialect, erase no enum hed_erase or newline no enum hed_newline, or if there is no parser. Then
+ * the parser is unchanged. */
 bool hed_extended_set_reading(hed_extended *parser, const hed_reading *reading);
 
 /* Writes how the parser reads. Returns false if there is no parser: then *reading is unchanged. */
@@ -781,7 +810,7 @@ uint32_t hed_extended_next(hed_extended *parser, bool more, hed_extended_event *
  * behind the events and the bytes is unchanged.
  *
  * Afterwards the parser is what it is after these calls. All of the events are read by one reading. A program that changes the reading by an
- * event, as with hed_extended_set_reading after a HED_KIND_KEYBOARD_FLAGS, takes them one by one until then.
+ * event calls hed_extended_next until then.
  *
  * Returns what the last of the calls returned. HED_NEXT_EVENT says that there is no more room, so there may be further events; with room 0 it
  * is this too. HED_NEXT_NONE says that there are none. With HED_NEXT_NO_MEMORY the event after those that were written is still at the front,
@@ -790,7 +819,7 @@ uint32_t hed_extended_next_events(hed_extended *parser, bool more, hed_extended_
                                   size_t *count);
 
 /* Copies the bytes of the last event that brought some to out, at most len of them. A HED_KIND_PASTE or HED_KIND_PASTE_PART brings its
- * text. A HED_KIND_REPORT brings the text that the key types, if the terminal reported it. A HED_KIND_CSI, _OSC, _DCS or _APC brings its
+ * text. A HED_KIND_KEY brings the text that the key types, if the terminal reported it. A HED_KIND_CSI, _OSC, _DCS or _APC brings its
  * bytes after ESC and the byte that introduces it, without the end of a string. So does a HED_KIND_STRING_PART or _STRING_CUT. The texts
  * are UTF-8. The rest of out is unchanged.
  *
@@ -813,7 +842,7 @@ size_t hed_extended_waiting_len(const hed_extended *parser);
  * opening of a string is a HED_WAITING_SEQUENCE. With HED_WAITING_STRING the opening is whole, and the string's end is still to come. */
 uint32_t hed_extended_waiting(const hed_extended *parser);
 
-/* Writes the Escape key to *event if ESC alone is buffered, with HED_TERMWIZ_MOD_ALT if ESC ESC is, and consumes it, as
+/* Writes the Escape key to *event if ESC alone is buffered, with HED_KITTY_MOD_ALT if ESC ESC is, and consumes it, as
  * hed_parser_flush_escape does.
  *
  * Returns HED_NEXT_EVENT, HED_NEXT_NONE if anything else or nothing is buffered, or HED_NEXT_NO_PARSER. *event is written only with
@@ -841,7 +870,8 @@ bool hed_extended_skip_paste(hed_extended *parser, size_t *count);
  * HED_NEXT_EVENT. With HED_NEXT_NO_MEMORY nothing changed, and the call may be made again. */
 uint32_t hed_extended_end_paste(hed_extended *parser, hed_extended_event *event);
 
-/* Forgets all that is buffered, an open paste too. The bytes of the last event are kept, and no memory is freed.
+/* Forgets all that is buffered, an open paste too, and the questions that are open. The bytes of the last event are kept, and no memory is
+ * freed. The rest of the reading stays.
  *
  * Returns the number of bytes that were buffered, 0 if there is no parser. */
 size_t hed_extended_reset(hed_extended *parser);
@@ -857,7 +887,7 @@ int32_t hed_extended_timeout(hed_extended *parser, uint64_t now);
 uint32_t hed_extended_expire(hed_extended *parser, uint64_t now, hed_extended_event *event);
 
 /* Writes what a terminal sends for a key to out, and the number of these bytes to *sent_len, if the program asked for these flags of
- * Kitty's keyboard protocol: the other way from a HED_KIND_REPORT. A terminal or a multiplexer calls it. The bytes are UTF-8 without a
+ * Kitty's keyboard protocol: the other way from a HED_KIND_KEY. A terminal or a multiplexer calls it. The bytes are UTF-8 without a
  * final 0. There are none for a key that isn't sent, such as a release without HED_KITTY_FLAG_REPORT_EVENT_TYPES. The rules are those of
  * Kitty's page "Comprehensive keyboard handling in terminals" (https://sw.kovidgoyal.net/kitty/keyboard-protocol/), as "Keys to bytes" of
  * docs/EXTENDED.md lists them. If flags has neither HED_KITTY_FLAG_DISAMBIGUATE_ESCAPE_CODES nor
@@ -890,7 +920,7 @@ uint32_t hed_encode_kitty(const hed_key_report *report, const uint8_t *text, siz
  * Then *sent_len is 0 and out is unchanged. */
 uint32_t hed_encode_paste(const uint8_t *text, size_t text_len, bool bracketed, uint8_t *out, size_t len, size_t *sent_len);
 
-/* What a mouse report that is sent says: the field button of a hed_mouse_report. */
+/* What a mouse report that is sent says: the field button of a hed_sent_mouse. */
 enum hed_mouse {
   /* numbers.txt: mouse c */
   HED_MOUSE_NONE = 0, /* The mouse was moved while no button was down. */
@@ -934,12 +964,12 @@ enum hed_mouse_encoding {
 };
 
 /* A mouse report that is sent. */
-typedef struct hed_mouse_report {
+typedef struct hed_sent_mouse {
   uint16_t x; /* the column: the leftmost is 1; in mode 1016 the distance from the left in pixels */
   uint16_t y; /* the row: the topmost is 1; in mode 1016 the distance from the top in pixels */
   uint16_t modifiers; /* a set of HED_TERMWIZ_MOD_.. */
   uint8_t button; /* an enum hed_mouse */
-} hed_mouse_report;
+} hed_sent_mouse;
 
 /* Writes what a terminal sends for a mouse report to out, and the number of these bytes to *sent_len: the other way from a HED_KIND_MOUSE.
  * tracking, an enum hed_mouse_tracking, is which reports the program asked for: there are no bytes for one that it doesn't get. encoding is
@@ -950,24 +980,30 @@ typedef struct hed_mouse_report {
  * if *sent_len is above len, call again with more room. The rest of out is unchanged. Otherwise *sent_len is 0 and out is unchanged:
  * HED_ENCODED_TOO_FAR if the program gets the report, and x or y is above 223 with HED_MOUSE_ENCODING_DEFAULT; HED_ENCODED_REFUSED_MEMORY
  * if memory was refused; HED_ENCODED_BAD_NUMBER if button, tracking or encoding names nothing, or a bit of modifiers has no name. */
-uint32_t hed_encode_mouse(const hed_mouse_report *report, uint32_t tracking, uint32_t encoding, uint8_t *out, size_t len, size_t *sent_len);
+uint32_t hed_encode_mouse(const hed_sent_mouse *report, uint32_t tracking, uint32_t encoding, uint8_t *out, size_t len, size_t *sent_len);
 
 /* Writes the bytes that the parser reads as the event to out, and the number of these bytes to *sent_len: the other way from
  * hed_extended_next, whatever the terminal sent. A multiplexer passes replies on by it, and a test or a recorder writes what it feeds
  * to a parser. event and text, text_len bytes, are as hed_extended_next and hed_extended_text give them. Of event only the fields are read that
- * its kind has, and text is read for a paste, a key report, a control sequence and a string. The parser says how the bytes are read, by its
+ * its kind has, and text is read for a paste, a key, a control sequence and a string. The parser says how the bytes are read, by its
  * reading and its sequence table. It is unchanged, and what it has buffered doesn't matter.
  *
- * With no more to come the bytes are that event alone, and nothing stays buffered. That is so with more to come too, but for HED_KIND_KEY, whose
- * text may begin a sequence. A key is written as what hed_encode writes, as its character, or as a row of the sequence table, and a key report
- * in the form of Kitty's protocol, with what happened to the key always told. hed_encode and hed_encode_kitty write keys as a terminal sends them.
+ * With no more to come the bytes are that event alone, and nothing stays buffered. That is so with more to come too, but for seven texts that
+ * may begin a sequence: ESC, ESC ESC, and ESC with [, O, P, ] or _. A key is written as hed_encode does, as its character, as a row of the
+ * sequence table, or in the form of Kitty's protocol: the first of these that is read as this very event. A mouse report is written in SGR's
+ * form. But a release that names no button is written in urxvt's, since SGR's always names one.
  *
  * Returns an enum hed_encoded. With HED_ENCODED_TEXT *sent_len is the number of all these bytes, and out has as many of them as len says:
  * if *sent_len is above len, call again with more room. The rest of out is unchanged. Otherwise *sent_len is 0 and out is unchanged:
- * HED_ENCODED_NO_TEXT if no bytes are read as the event, as for HED_KIND_STRING_PART, HED_KIND_STRING_CUT, a paste that has ESC [201~ in it,
- * and an event that no parser makes, such as a position with a 0; HED_ENCODED_NO_PARSER; HED_ENCODED_TOO_LONG if the sequence would have more than 256 bytes, or the string 65535 before its end;
- * HED_ENCODED_BAD_TEXT if the text of a paste or a key report isn't UTF-8; HED_ENCODED_REFUSED_MEMORY if memory was refused;
- * HED_ENCODED_BAD_NUMBER if a number names nothing, as the kind HED_KIND_PASTE_PART does here, or a bit of the modifiers has no name. */
+ *
+ * - HED_ENCODED_NO_TEXT if no bytes are read as the event. Such are HED_KIND_STRING_PART, HED_KIND_STRING_CUT, and a paste that has ESC [201~
+ *   in it. Such is also an event that no parser makes, as a position with a 0.
+ * - HED_ENCODED_NO_PARSER.
+ * - HED_ENCODED_TOO_LONG if the sequence would have more than 256 bytes, or the string 65535 before its end.
+ * - HED_ENCODED_BAD_TEXT if the text of a paste or a key isn't UTF-8.
+ * - HED_ENCODED_REFUSED_MEMORY if memory was refused.
+ * - HED_ENCODED_BAD_NUMBER if a number names nothing, as the kind HED_KIND_PASTE_PART does here, or a bit of a mouse report's modifiers has no
+ *   name. */
 uint32_t hed_encode_event(const hed_extended_event *event, const uint8_t *text, size_t text_len, const hed_extended *parser, uint8_t *out,
                           size_t len, size_t *sent_len);
 
@@ -996,24 +1032,25 @@ uint32_t hed_encode_device_attributes(const uint16_t *numbers, size_t count, uin
  * field by field, and looks up by them what a key does.
  *
  * Letters, digits and signs are the characters that they type: Shift with a is HED_KEY_CHAR with 'A'. Where CTRL, SUPER, HYPER or META is
- * held too, a letter that has a capital keeps HED_KITTY_MOD_SHIFT. So do digits and signs, where the terminal doesn't tell what they type
- * with Shift. The keypad and the arrows in application mode are the keys of the main block, and a control character is its key, or a
- * character with HED_KITTY_MOD_CTRL. */
+ * held too, a letter that has a capital keeps HED_KITTY_MOD_SHIFT. So does a digit, or any other character, of which the terminal doesn't tell
+ * what it types with Shift. A sign such as ! never has it. The keypad and the arrows in application mode are the keys of the main block. A
+ * control character is its key, or a character with HED_KITTY_MOD_CTRL: U+0008 is ctrl+h, and U+000A ctrl+j. U+007F is ctrl+backspace. */
 typedef struct hed_key_press {
   uint16_t key; /* an enum hed_key, or 0 for a key that has no name there */
   uint8_t held; /* a set of HED_KITTY_MOD_.., without the locks */
   uint32_t detail; /* as in a hed_key_report; 0 for a key that has none */
 } hed_key_press;
 
-/* Writes the press of an event to *press. Which of two keys is held doesn't count, and neither does HED_TERMWIZ_MOD_LEADER.
+/* Writes the press of an event of a hed_parser to *press; of an extended parser's pass the report to hed_key_of_report. Which of two keys is
+ * held doesn't count, and neither does HED_TERMWIZ_MOD_LEADER.
  *
  * Returns false, and *press isn't written, if the event has none: it is no HED_KIND_KEY, or its key is a modifier or a lock by itself or
  * the mark of a paste. So it does if a number names nothing. No memory is needed, here and in the next two calls. */
 bool hed_key_of_event(const hed_event *event, hed_key_press *press);
 
 /* Writes the press of a key report to *press. text is what the key types, text_len bytes of UTF-8, as hed_extended_text copies them, or
- * nothing; a text with control characters counts as none. Pass the report of a hed_extended_event whose kind is HED_KIND_REPORT or
- * HED_KIND_KEY. A repeat counts as a press.
+ * nothing; a text with control characters counts as none. Pass the report of a hed_extended_event whose kind is HED_KIND_KEY. A
+ * repeat counts as a press.
  *
  * A program that turns Kitty's protocol on asks for HED_KITTY_FLAG_DISAMBIGUATE_ESCAPE_CODES and HED_KITTY_FLAG_REPORT_ALTERNATE_KEYS, and
  * with HED_KITTY_FLAG_REPORT_ALL_KEYS_AS_ESCAPE_CODES for HED_KITTY_FLAG_REPORT_ASSOCIATED_TEXT too. Otherwise Ctrl, Shift and 1 is 1 with
@@ -1028,9 +1065,9 @@ bool hed_key_of_report(const hed_key_report *report, const uint8_t *text, size_t
  *
  * - With ALT, CTRL, SUPER, HYPER or META, a character that isn't of ASCII, and base told: the key at the same place of a PC-101 keyboard, with
  *   the same modifiers. So Ctrl with a Cyrillic letter is tried as Ctrl with a Latin one.
- * - With one of these and Shift, a digit or a sign, and another character told as shifted: the press with Shift. So Ctrl with ! is tried as
- *   Ctrl, Shift and 1.
- * - U+0008 and U+000A: Backspace with CTRL, and Enter, which some terminals send so.
+ * - With one of these and Shift, a digit or another character that keeps Shift if nothing is told, and another one told as shifted: the press
+ *   with Shift. So Ctrl with ! is tried as Ctrl, Shift and 1.
+ * - U+0008 and U+000A, which are the bytes 8 and 10: Backspace with CTRL, and Enter, with what else is held. Some terminals send these keys so.
  *
  * Returns false, and *press isn't written, if there is none. Call it for a report that has a press. */
 bool hed_key_second(const hed_key_report *report, hed_key_press *press);
@@ -1365,10 +1402,15 @@ HED_IS(seen, sizeof(hed_seen) == 8 && offsetof(hed_seen, by) == 4 && offsetof(he
 HED_IS(timer, sizeof(hed_timer) == 40 && offsetof(hed_timer, millis) == 24 && offsetof(hed_timer, holds) == 35);
 HED_IS(report, sizeof(hed_key_report) == 16 && offsetof(hed_key_report, key) == 2 && offsetof(hed_key_report, base) == 12);
 HED_IS(press, sizeof(hed_key_press) == 8 && offsetof(hed_key_press, held) == 2 && offsetof(hed_key_press, detail) == 4);
-HED_IS(extended_event, sizeof(hed_extended_event) == 64 && offsetof(hed_extended_event, row) == 2);
+HED_IS(mouse_report, sizeof(hed_mouse_report) == 10 && offsetof(hed_mouse_report, button) == 1);
+HED_IS(mouse_report_end, offsetof(hed_mouse_report, modifiers) == 4 && offsetof(hed_mouse_report, y) == 8);
+HED_IS(reading, sizeof(hed_reading) == 16 && offsetof(hed_reading, erase) == 4 && offsetof(hed_reading, newline) == 8);
+HED_IS(reading_end, offsetof(hed_reading, x10_mouse) == 12 && offsetof(hed_reading, questions) == 13);
+HED_IS(sent_mouse, sizeof(hed_sent_mouse) == 8 && offsetof(hed_sent_mouse, modifiers) == 4 && offsetof(hed_sent_mouse, button) == 6);
+HED_IS(extended_event, sizeof(hed_extended_event) == 56 && offsetof(hed_extended_event, row) == 2);
 HED_IS(extended_width, offsetof(hed_extended_event, width) == 12);
-HED_IS(extended_end, offsetof(hed_extended_event, report) == 16 && offsetof(hed_extended_event, input) == 32);
-HED_IS(extended_text, offsetof(hed_extended_event, text_len) == 56);
+HED_IS(extended_end, offsetof(hed_extended_event, report) == 16 && offsetof(hed_extended_event, mouse) == 32);
+HED_IS(extended_text, offsetof(hed_extended_event, text_len) == 48);
 HED_IS(reply, sizeof(hed_reply) == 32 && offsetof(hed_reply, is_private) == 3 && offsetof(hed_reply, selection) == 6);
 HED_IS(reply_index, offsetof(hed_reply, index) == 8 && offsetof(hed_reply, columns) == 18);
 HED_IS(reply_end, offsetof(hed_reply, mode) == 20 && offsetof(hed_reply, len) == 24);

@@ -477,6 +477,16 @@ bool hed_terminal_read(hed_terminal *terminal, uint8_t *bytes, size_t room, size
 
 /* Reading events. */
 
+/* What raw mode didn't change is as it was: VERASE. */
+bool hed_terminal_tell_settings(hed_terminal *terminal, hed_extended *parser) {
+  hed_reading reading;
+  if (!is_own()) return fail(terminal, "no terminal is open");
+  if (!hed_extended_reading(parser, &reading)) return fail(terminal, "there is no parser");
+  reading.erase = guard.raw.c_cc[VERASE] == '\b' ? HED_ERASE_BACKSPACE : HED_ERASE_DELETE;
+  reading.newline = guard.raw.c_iflag & ICRNL ? HED_NEWLINE_ENTER : HED_NEWLINE_CTRL_J;
+  return hed_extended_set_reading(parser, &reading);
+}
+
 /* Takes an event of what was read. What memory is refused for stays to be fed. */
 static uint32_t take(hed_terminal *it, hed_extended *parser, hed_extended_event *event) {
   if (it->unfed > 0 && !hed_extended_feed(parser, it->bytes, it->unfed)) return parser->live ? HED_NEXT_NO_MEMORY : HED_NEXT_NO_PARSER;
@@ -598,6 +608,7 @@ static int wait_ms(hed_terminal *it, hed_extended *parser, uint64_t start, int m
 enum hed_terminal_event hed_terminal_next(hed_terminal *terminal, hed_extended *parser, int milliseconds, hed_extended_event *event) {
   uint64_t start = hed_terminal_now();
   enum hed_terminal_event came = HED_TERMINAL_INPUT;
+  if (!terminal->has_told) terminal->has_told = hed_terminal_tell_settings(terminal, parser);
   if (terminal->was_away) forget(terminal, parser);
   uint32_t answer = take(terminal, parser, event);
   while (answer == HED_NEXT_NONE && came == HED_TERMINAL_INPUT) {

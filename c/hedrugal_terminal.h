@@ -6,7 +6,7 @@
  *     hed_extended parser = HED_EXTENDED_NONE;
  *     hed_extended_event event;
  *     hed_terminal terminal;
- *     if (!hed_extended_init(&parser, HED_PROTOCOL_LEGACY)) ...
+ *     if (!hed_extended_init(&parser, HED_DIALECT_EXTENDED)) ...
  *     if (!hed_terminal_open(&terminal, 0, 1, HED_TERMINAL_PASTE_ON, HED_TERMINAL_PASTE_OFF)) ...     // terminal.failure says why
  *     for (bool goes_on = true; goes_on;)
  *       switch (hed_terminal_next(&terminal, &parser, -1, &event)) {
@@ -18,6 +18,9 @@
  *     hed_terminal_close(&terminal);
  *     hed_extended_free(&parser);
  *     hed_terminal_end();                                                                             // by the signal, if one came
+ *
+ * The same program reads every terminal: it needn't ask which keyboard protocol one speaks, and may turn Kitty's on or not. Which byte Backspace
+ * sends is taken from the terminal's settings: see hed_terminal_tell_settings.
  *
  * The settings of the terminal and its modes are restored
  *
@@ -71,7 +74,7 @@ typedef struct hed_terminal {
   const char *failure; /* why the last call failed, in words; errno is the system's number for it */
   int wake; /* readable once a signal came: for a loop of the program's own */
   int input, output; /* the rest is for these calls */
-  bool has_ended, was_away, is_cut;
+  bool has_ended, was_away, is_cut, has_told;
   uint64_t cut_since;
   size_t unfed;
   uint8_t bytes[4096];
@@ -104,6 +107,13 @@ void hed_terminal_close(hed_terminal *terminal);
 
 /* Ends the program by the signal that ends it, as a program that handles none, so that its parent sees why. Returns if none came. */
 void hed_terminal_end(void);
+
+/* Has the parser read by the terminal's settings: the byte that Backspace sends is 8 if VERASE was 8, and else 127. Byte 10 is Ctrl-J, since raw
+ * mode switches ICRNL off. The rest of its reading stays. hed_terminal_next does this once, before the first event. A caller that feeds its
+ * parser itself calls it, and so does one that makes another parser.
+ *
+ * Returns false if no terminal is open, or there is no parser: then nothing changed. */
+bool hed_terminal_tell_settings(hed_terminal *terminal, hed_extended *parser);
 
 /* Waits for the next event, and writes it to *event. Reads the terminal, keeps the limits in time of the parser, takes a paste of more than
  * HED_TERMINAL_PASTE_MOST bytes in parts, and flushes the parser at the end of the input. What stdout holds is written first. The parser is one

@@ -29,28 +29,29 @@ static void print_size(void) {
   if (hed_terminal_size(1, &columns, &rows)) printf("size %u x %u\n", columns, rows);
 }
 
-static void print_held(unsigned modifiers) {
-  printf("%s%s%s\n", modifiers & HED_TERMWIZ_MOD_SHIFT ? " shift" : "", modifiers & HED_TERMWIZ_MOD_ALT ? " alt" : "",
-         modifiers & HED_TERMWIZ_MOD_CTRL ? " ctrl" : "");
+static void print_held(bool has_shift, bool has_alt, bool has_ctrl) {
+  printf("%s%s%s\n", has_shift ? " shift" : "", has_alt ? " alt" : "", has_ctrl ? " ctrl" : "");
 }
 
-static void print_key(const hed_event *event) {
+static void print_key(const hed_key_report *report) {
   char name[32];
-  printf("%.*s", (int)hed_key_name(event->key, (uint8_t *)name, sizeof name), name);
-  if (event->key == HED_KEY_CHAR) printf(" U+%04X", (unsigned)event->detail);
-  if (event->key == HED_KEY_FUNCTION) printf(" %u", (unsigned)event->detail);
-  print_held(event->modifiers);
+  unsigned held = report->modifiers;
+  printf("%.*s", (int)hed_key_name(report->key, (uint8_t *)name, sizeof name), name);
+  if (report->key == HED_KEY_CHAR) printf(" U+%04X", (unsigned)report->detail);
+  if (report->key == HED_KEY_FUNCTION) printf(" %u", (unsigned)report->detail);
+  print_held(held & HED_KITTY_MOD_SHIFT, held & HED_KITTY_MOD_ALT, held & HED_KITTY_MOD_CTRL);
 }
 
-static void print_mouse(const hed_event *event) {
-  printf("mouse at %u, %u, buttons %u", event->x, event->y, event->buttons);
-  print_held(event->modifiers);
+static void print_mouse(const hed_mouse_report *report) {
+  unsigned held = report->modifiers;
+  printf("mouse at %u, %u, buttons %u", report->x, report->y, report->buttons);
+  print_held(held & HED_TERMWIZ_MOD_SHIFT, held & HED_TERMWIZ_MOD_ALT, held & HED_TERMWIZ_MOD_CTRL);
 }
 
 static void print_event(const hed_extended_event *event) {
   switch (event->kind) {
-    case HED_KIND_KEY: print_key(&event->input); break;
-    case HED_KIND_MOUSE: print_mouse(&event->input); break;
+    case HED_KIND_KEY: print_key(&event->report); break;
+    case HED_KIND_MOUSE: print_mouse(&event->mouse); break;
     case HED_KIND_PASTE: printf("paste of %zu bytes\n", event->text_len); break;
     case HED_KIND_PASTE_PART: printf("part of a paste, %zu bytes\n", event->text_len); break;
     default: printf("an event of kind %u\n", event->kind); /* such as a reply to a question that another program asked */
@@ -61,7 +62,7 @@ static void print_event(const hed_extended_event *event) {
 static bool handle_event(live *it, const hed_extended_event *event) {
   if (event->text_len > 0) hed_extended_drop_text(&it->parser); /* hed_extended_text would copy the text before */
   print_event(event);
-  return event->input.key != HED_KEY_CHAR || event->input.detail != 'q' || event->input.modifiers != HED_TERMWIZ_MOD_NONE;
+  return event->report.key != HED_KEY_CHAR || event->report.detail != 'q' || event->report.modifiers != HED_KITTY_MOD_NONE;
 }
 
 static bool step(live *it) {
@@ -95,7 +96,7 @@ int main(int argc, char **argv) {
     fputs("usage: live [--mouse]\n", stderr);
     return 2;
   }
-  if (hed_extended_init(&it.parser, HED_PROTOCOL_LEGACY)) run_on_terminal(&it, mouse);
+  if (hed_extended_init(&it.parser, HED_DIALECT_EXTENDED)) run_on_terminal(&it, mouse);
   else fail(&it, "out of memory");
   hed_extended_free(&it.parser);
   hed_terminal_end();

@@ -1556,7 +1556,7 @@ static void reads_from_a_page_that_is_read_only(void) {
   EXPECT(hed_parser_paste(&it->parser, text, sizeof text) == 2 && memcmp(text, "ab..", 4) == 0);
   EXPECT(entry_at(&it->parser, 0) == 1 && entry_at(&it->parser, HED_ENTRY_COUNT - 1) > 0 && entry_at(&it->parser, HED_ENTRY_COUNT) == 0);
   EXPECT(hed_parser_completions(&it->parser, &entries) && entries.count == 0 && !entries.with_alt);
-  EXPECT(hed_parser_init_sharing(&sharing, &it->parser) && hed_extended_init_sharing_parser(&extended, HED_PROTOCOL_LEGACY, &it->parser));
+  EXPECT(hed_parser_init_sharing(&sharing, &it->parser) && hed_extended_init_sharing_parser(&extended, HED_DIALECT_EXTENDED, &it->parser));
   hed_parser_free(&sharing);
   hed_extended_free(&extended);
   EXPECT(hed_timer_timeout(&it->timer, 20) == 40);

@@ -34,11 +34,12 @@ static void see_fields(const hed_extended_event *event) {
                         event->report.detail,
                         event->report.shifted,
                         event->report.base,
-                        event->input.kind,
-                        event->input.key,
-                        event->input.detail,
-                        event->input.modifiers,
-                        event->input.x,
+                        event->mouse.kind,
+                        event->mouse.button,
+                        event->mouse.buttons,
+                        event->mouse.modifiers,
+                        event->mouse.x,
+                        event->mouse.y,
                         (uint32_t)event->text_len };
   see(fields, sizeof fields);
 }
@@ -107,7 +108,7 @@ static void take_arrays(hed_extended *parser, bool more) {
 }
 
 static void set_x10_mouse(hed_extended *parser) {
-  hed_reading reading = { HED_PROTOCOL_KITTY, true, 0 };
+  hed_reading reading = { .x10_mouse = true };
   EXPECT(hed_extended_set_reading(parser, &reading));
 }
 
@@ -124,7 +125,7 @@ static void read_stream(take_all take_them, size_t piece, long number) {
   size_t len = sizeof stream - 1;
   hed_extended parser = HED_EXTENDED_NONE;
   refuse(0);
-  EXPECT(hed_extended_init(&parser, HED_PROTOCOL_KITTY));
+  EXPECT(hed_extended_init(&parser, HED_DIALECT_EXTENDED));
   set_x10_mouse(&parser);
   hed_extended_expect_position(&parser);
   seen_len = told = 0;
@@ -171,7 +172,7 @@ static void refuse_while_ending(bool is_part) {
   do {
     hed_extended parser = HED_EXTENDED_NONE;
     hed_extended_event event;
-    EXPECT(hed_extended_init(&parser, HED_PROTOCOL_LEGACY) && hed_extended_feed(&parser, (const uint8_t *)text, sizeof text - 1));
+    EXPECT(hed_extended_init(&parser, HED_DIALECT_EXTENDED) && hed_extended_feed(&parser, (const uint8_t *)text, sizeof text - 1));
     EXPECT(hed_extended_next(&parser, true, &event) == HED_NEXT_EVENT && hed_extended_next(&parser, true, &event) == HED_NEXT_NONE);
     refuse(++number);
     uint32_t answer = text_of(&parser, is_part, &event);
@@ -212,7 +213,7 @@ static void refuse_parts(void) {
   do {
     hed_extended parser = HED_EXTENDED_NONE;
     hed_extended_event event;
-    EXPECT(hed_extended_init(&parser, HED_PROTOCOL_LEGACY));
+    EXPECT(hed_extended_init(&parser, HED_DIALECT_EXTENDED));
     EXPECT(hed_extended_feed(&parser, text, sizeof text));
     refuse(++number);
     met = take_refused(&parser, &event);
@@ -237,7 +238,7 @@ static void refuse_time(void) {
   static const hed_policy policy = { .paste = 1 };
   hed_extended parser = HED_EXTENDED_NONE, before;
   hed_extended_event event;
-  EXPECT(hed_extended_init(&parser, HED_PROTOCOL_LEGACY) && hed_extended_feed(&parser, (const uint8_t *)text, sizeof text - 1));
+  EXPECT(hed_extended_init(&parser, HED_DIALECT_EXTENDED) && hed_extended_feed(&parser, (const uint8_t *)text, sizeof text - 1));
   memcpy(&before, &parser, sizeof before);
   refuse(1);
   EXPECT(!hed_extended_set_policy(&parser, &policy) && refused == 1);
@@ -254,7 +255,7 @@ static void refuse_time(void) {
   EXPECT(hed_extended_waiting_len(&parser) == sizeof text - 1);
   EXPECT(hed_extended_expire(&parser, 5, &event) == HED_NEXT_EVENT && event.kind == HED_KIND_PASTE && event.text_len == 4);
   EXPECT(hed_extended_expire(&parser, 5, &event) == HED_NEXT_NONE && hed_extended_timeout(&parser, 5) == -1);
-  EXPECT(hed_extended_init(&parser, HED_PROTOCOL_LEGACY) && hed_extended_timeout(&parser, 5) == -1);
+  EXPECT(hed_extended_init(&parser, HED_DIALECT_EXTENDED) && hed_extended_timeout(&parser, 5) == -1);
   hed_extended_free(&parser);
   EXPECT(in_use == 0);
 }
@@ -285,7 +286,7 @@ static void refuse_while_encoding(void) {
 }
 
 static uint32_t encode_sent(bool is_paste, uint8_t *room, size_t len, size_t *sent_len) {
-  static const hed_mouse_report report = { 1, 1, HED_TERMWIZ_MOD_NONE, HED_MOUSE_BUTTON1_PRESS };
+  static const hed_sent_mouse report = { 1, 1, HED_TERMWIZ_MOD_NONE, HED_MOUSE_BUTTON1_PRESS };
   static const uint8_t text[] = "\033 and some more text";
   return is_paste ? hed_encode_paste(text, sizeof text - 1, true, room, len, sent_len)
                   : hed_encode_mouse(&report, HED_MOUSE_TRACKING_ANY, HED_MOUSE_ENCODING_SGR, room, len, sent_len);
@@ -317,7 +318,7 @@ static void refuse_while_writing(void) {
   static const hed_extended_event event = { .kind = HED_KIND_OSC };
   static const uint8_t text[] = "11;and some more text";
   hed_extended parser = HED_EXTENDED_NONE;
-  EXPECT(hed_extended_init(&parser, HED_PROTOCOL_KITTY));
+  EXPECT(hed_extended_init(&parser, HED_DIALECT_EXTENDED));
   unsigned met;
   long number = 0;
   do {
@@ -500,11 +501,11 @@ static void refuse_bindings(void) {
 static void refuse_init(long step) {
   hed_extended parser = HED_EXTENDED_NONE, none = HED_EXTENDED_NONE;
   long number = 1;
-  EXPECT(hed_extended_init(&parser, HED_PROTOCOL_KITTY) && hed_extended_feed(&parser, (const uint8_t *)"\033[", 2));
-  for (; refuse(number), !hed_extended_init(&parser, HED_PROTOCOL_LEGACY); number += step) {
+  EXPECT(hed_extended_init(&parser, HED_DIALECT_EXTENDED) && hed_extended_feed(&parser, (const uint8_t *)"\033[", 2));
+  for (; refuse(number), !hed_extended_init(&parser, HED_DIALECT_EXTENDED); number += step) {
     EXPECT(refused == 1 && hed_extended_waiting_len(&parser) == 2);
     refuse(number);
-    EXPECT(!hed_extended_init(&none, HED_PROTOCOL_LEGACY) && !none.live);
+    EXPECT(!hed_extended_init(&none, HED_DIALECT_EXTENDED) && !none.live);
   }
   refuse(0);
   EXPECT(number > 1 && hed_extended_waiting_len(&parser) == 0);
@@ -517,9 +518,9 @@ static void refuse_sharing(void) {
   hed_extended parser = HED_EXTENDED_NONE, other = HED_EXTENDED_NONE;
   hed_parser input = HED_PARSER_NONE;
   long number;
-  EXPECT(hed_extended_init(&other, HED_PROTOCOL_LEGACY) && hed_extended_feed(&other, (const uint8_t *)"\033", 1));
-  EXPECT(hed_extended_init(&parser, HED_PROTOCOL_KITTY) && hed_extended_feed(&parser, (const uint8_t *)"\033[", 2));
-  for (number = 1; refuse(number), !hed_extended_init_sharing(&parser, HED_PROTOCOL_LEGACY, &other); number++)
+  EXPECT(hed_extended_init(&other, HED_DIALECT_EXTENDED) && hed_extended_feed(&other, (const uint8_t *)"\033", 1));
+  EXPECT(hed_extended_init(&parser, HED_DIALECT_EXTENDED) && hed_extended_feed(&parser, (const uint8_t *)"\033[", 2));
+  for (number = 1; refuse(number), !hed_extended_init_sharing(&parser, HED_DIALECT_EXTENDED, &other); number++)
     EXPECT(refused == 1 && hed_extended_waiting_len(&parser) == 2 && hed_extended_waiting_len(&other) == 1);
   EXPECT(number > 1 && hed_extended_waiting_len(&parser) == 0 && hed_extended_waiting_len(&other) == 1);
   for (number = 1; refuse(number), !hed_parser_init_sharing_extended(&input, &other); number++)
@@ -528,7 +529,7 @@ static void refuse_sharing(void) {
   hed_extended_free(&other);
   refuse(0);
   EXPECT(hed_extended_feed(&parser, (const uint8_t *)"\033[", 2));
-  for (number = 1; refuse(number), !hed_extended_init_sharing_parser(&parser, HED_PROTOCOL_KITTY, &input); number++)
+  for (number = 1; refuse(number), !hed_extended_init_sharing_parser(&parser, HED_DIALECT_EXTENDED, &input); number++)
     EXPECT(refused == 1 && hed_extended_waiting_len(&parser) == 2);
   refuse(0);
   EXPECT(number > 1 && hed_extended_waiting_len(&parser) == 0);
@@ -542,7 +543,7 @@ static void need_no_memory(void) {
   hed_extended parser = HED_EXTENDED_NONE;
   hed_extended_event event;
   unsigned count = 0;
-  EXPECT(hed_extended_init(&parser, HED_PROTOCOL_KITTY) && hed_extended_feed(&parser, (const uint8_t *)text, sizeof text - 1));
+  EXPECT(hed_extended_init(&parser, HED_DIALECT_EXTENDED) && hed_extended_feed(&parser, (const uint8_t *)text, sizeof text - 1));
   refuse(1);
   set_x10_mouse(&parser);
   hed_extended_expect_position(&parser);
@@ -564,14 +565,14 @@ static void frees_memory(void) {
   hed_extended_event event;
   memset(text, 'x', sizeof text);
   EXPECT(in_use == 0);
-  EXPECT(hed_extended_init(&parser, HED_PROTOCOL_LEGACY) && in_use > 0);
+  EXPECT(hed_extended_init(&parser, HED_DIALECT_EXTENDED) && in_use > 0);
   EXPECT(hed_extended_feed(&parser, (const uint8_t *)"\033]0;", 4) && hed_extended_feed(&parser, text, LONG));
   EXPECT(hed_extended_feed(&parser, (const uint8_t *)"\a", 1) && hed_extended_next(&parser, true, &event) == HED_NEXT_EVENT);
   EXPECT(hed_extended_text(&parser, text, 0) == LONG + 2);
   size_t before = in_use;
   hed_extended_drop_text(&parser);
   EXPECT(in_use + LONG <= before);
-  EXPECT(hed_extended_init(&parser, HED_PROTOCOL_KITTY));
+  EXPECT(hed_extended_init(&parser, HED_DIALECT_EXTENDED));
   hed_extended_free(&parser);
   hed_extended_free(&parser);
   EXPECT(in_use == 0);
@@ -583,12 +584,12 @@ static void shares_memory(void) {
   static hed_extended parsers[COUNT];
   static hed_parser inputs[COUNT];
   EXPECT(in_use == 0);
-  EXPECT(hed_extended_init(&parsers[0], HED_PROTOCOL_LEGACY));
+  EXPECT(hed_extended_init(&parsers[0], HED_DIALECT_EXTENDED));
   size_t alone = in_use;
   EXPECT(hed_parser_init_sharing_extended(&inputs[0], &parsers[0]));
   for (size_t i = 1; i < COUNT; i++) {
-    EXPECT(hed_extended_init_sharing(&parsers[i], HED_PROTOCOL_KITTY, &parsers[i - 1]));
-    EXPECT(hed_extended_init_sharing_parser(&parsers[i], HED_PROTOCOL_KITTY, &inputs[i - 1]));
+    EXPECT(hed_extended_init_sharing(&parsers[i], HED_DIALECT_EXTENDED, &parsers[i - 1]));
+    EXPECT(hed_extended_init_sharing_parser(&parsers[i], HED_DIALECT_EXTENDED, &inputs[i - 1]));
     EXPECT(hed_parser_init_sharing_extended(&inputs[i], &parsers[i]));
   }
   EXPECT(in_use <= alone + 2 * COUNT * 256);
@@ -603,7 +604,7 @@ static void shrinks(void) {
   static uint8_t body[LONG];
   hed_extended parser = HED_EXTENDED_NONE;
   hed_extended_event event;
-  EXPECT(hed_extended_init(&parser, HED_PROTOCOL_LEGACY));
+  EXPECT(hed_extended_init(&parser, HED_DIALECT_EXTENDED));
   size_t empty = in_use;
   EXPECT(hed_extended_feed(&parser, (const uint8_t *)"\033[200~", 6) && hed_extended_feed(&parser, body, LONG));
   EXPECT(hed_extended_feed(&parser, (const uint8_t *)"\033[201~\033[1;", 10) && hed_extended_next(&parser, true, &event) == HED_NEXT_EVENT);
@@ -613,7 +614,7 @@ static void shrinks(void) {
   hed_extended_drop_text(&parser);
   EXPECT(in_use < empty + 4096 && hed_extended_waiting_len(&parser) == 4);
   EXPECT(hed_extended_feed(&parser, (const uint8_t *)"5A", 2) && hed_extended_next(&parser, true, &event) == HED_NEXT_EVENT);
-  EXPECT(event.kind == HED_KIND_KEY && event.input.key == HED_KEY_UP_ARROW && event.input.modifiers == HED_TERMWIZ_MOD_CTRL);
+  EXPECT(event.kind == HED_KIND_KEY && event.report.key == HED_KEY_UP_ARROW && event.report.modifiers == HED_KITTY_MOD_CTRL);
   hed_extended_free(&parser);
   EXPECT(in_use == 0);
 }

@@ -20,12 +20,12 @@ static session session_of(bool is_extended) {
 }
 
 static bool init(session *it) {
-  return it->is_extended ? hed_extended_init(&it->extended, HED_PROTOCOL_LEGACY) : hed_parser_init(&it->parser);
+  return it->is_extended ? hed_extended_init(&it->extended, HED_DIALECT_EXTENDED) : hed_parser_init(&it->parser);
 }
 
 static bool init_sharing(session *it, const session *other) {
-  if (it->is_extended && other->is_extended) return hed_extended_init_sharing(&it->extended, HED_PROTOCOL_LEGACY, &other->extended);
-  if (it->is_extended) return hed_extended_init_sharing_parser(&it->extended, HED_PROTOCOL_LEGACY, &other->parser);
+  if (it->is_extended && other->is_extended) return hed_extended_init_sharing(&it->extended, HED_DIALECT_EXTENDED, &other->extended);
+  if (it->is_extended) return hed_extended_init_sharing_parser(&it->extended, HED_DIALECT_EXTENDED, &other->parser);
   if (other->is_extended) return hed_parser_init_sharing_extended(&it->parser, &other->extended);
   return hed_parser_init_sharing(&it->parser, &other->parser);
 }
@@ -50,21 +50,23 @@ static bool feed(session *it, const char *text, size_t len) {
 
 #define FEED(it, text) feed(it, text, sizeof text - 1)
 
-/* Whether the next event is this key. */
-static bool next_is(session *it, uint16_t key, uint32_t detail, uint16_t modifiers) {
-  hed_extended_event event;
-  memset(&event, 0, sizeof event);
-  if (it->is_extended && hed_extended_next(&it->extended, true, &event) != HED_NEXT_EVENT) return false;
-  if (!it->is_extended && hed_parser_next(&it->parser, true, &event.input) != HED_NEXT_EVENT) return false;
-  return event.input.kind == HED_KIND_KEY && event.input.key == key && event.input.detail == detail && event.input.modifiers == modifiers;
+/* Whether the next event is this key, with Ctrl or without modifiers. */
+static bool next_is(session *it, uint16_t key, uint32_t detail, bool has_ctrl) {
+  hed_extended_event extended;
+  hed_event event;
+  if (!it->is_extended)
+    return hed_parser_next(&it->parser, true, &event) == HED_NEXT_EVENT && event.kind == HED_KIND_KEY && event.key == key
+           && event.detail == detail && event.modifiers == (has_ctrl ? HED_TERMWIZ_MOD_CTRL : HED_TERMWIZ_MOD_NONE);
+  return hed_extended_next(&it->extended, true, &extended) == HED_NEXT_EVENT && extended.kind == HED_KIND_KEY && extended.report.key == key
+         && extended.report.detail == detail && extended.report.modifiers == (has_ctrl ? HED_KITTY_MOD_CTRL : HED_KITTY_MOD_NONE);
 }
 
 /* Whether the parser reads keys of the table, short and long, and a character. */
 static bool reads(session *it) {
-  return FEED(it, "\033[A\033[1;5D\033[27;5;13~q\033[97;5u\033") && next_is(it, HED_KEY_UP_ARROW, 0, HED_TERMWIZ_MOD_NONE)
-         && next_is(it, HED_KEY_LEFT_ARROW, 0, HED_TERMWIZ_MOD_CTRL) && next_is(it, HED_KEY_ENTER, 0, HED_TERMWIZ_MOD_CTRL)
-         && next_is(it, HED_KEY_CHAR, 'q', HED_TERMWIZ_MOD_NONE) && next_is(it, HED_KEY_CHAR, 'a', HED_TERMWIZ_MOD_CTRL) && waiting(it) == 1
-         && FEED(it, "[B") && next_is(it, HED_KEY_DOWN_ARROW, 0, HED_TERMWIZ_MOD_NONE) && waiting(it) == 0;
+  return FEED(it, "\033[A\033[1;5D\033[27;5;13~q\033[97;5u\033") && next_is(it, HED_KEY_UP_ARROW, 0, false)
+         && next_is(it, HED_KEY_LEFT_ARROW, 0, true) && next_is(it, HED_KEY_ENTER, 0, true) && next_is(it, HED_KEY_CHAR, 'q', false)
+         && next_is(it, HED_KEY_CHAR, 'a', true) && waiting(it) == 1 && FEED(it, "[B") && next_is(it, HED_KEY_DOWN_ARROW, 0, false)
+         && waiting(it) == 0;
 }
 
 /* Three parsers of these kinds, of which the second is made from the first and the third from the second. After each that is freed, the
@@ -94,16 +96,16 @@ static void shares_the_table_alone(bool is_extended) {
   EXPECT(init(&second) && FEED(&second, "\033[1;5"));
   for (int again = 0; again < 2; again++) {
     EXPECT(init_sharing(&second, &first) && waiting(&second) == 0 && waiting(&first) == 2);
-    EXPECT(FEED(&second, "\033[") && FEED(&second, "C") && next_is(&second, HED_KEY_RIGHT_ARROW, 0, HED_TERMWIZ_MOD_NONE));
+    EXPECT(FEED(&second, "\033[") && FEED(&second, "C") && next_is(&second, HED_KEY_RIGHT_ARROW, 0, false));
     EXPECT(waiting(&second) == 0 && waiting(&first) == 2);
   }
-  EXPECT(FEED(&first, "D") && next_is(&first, HED_KEY_LEFT_ARROW, 0, HED_TERMWIZ_MOD_NONE));
+  EXPECT(FEED(&first, "D") && next_is(&first, HED_KEY_LEFT_ARROW, 0, false));
   end(&first);
   EXPECT(reads(&second));
   end(&second);
 }
 
-/* Without another parser, or with a number that names no protocol, nothing changes. */
+/* Without another parser, or with a number that names no dialect, nothing changes. */
 static void refuses(bool is_extended) {
   static const uint32_t no_rows[] = { 2, 256, 65536, UINT32_MAX };
   session none = session_of(is_extended), first = session_of(is_extended), of_other = session_of(!is_extended), second = session_of(true);
@@ -119,21 +121,25 @@ static void refuses(bool is_extended) {
   }
   EXPECT(waiting(&first) == 2 && waiting(&of_other) == 1);
   end(&of_other);
-  EXPECT(FEED(&first, "A") && next_is(&first, HED_KEY_UP_ARROW, 0, HED_TERMWIZ_MOD_NONE));
+  EXPECT(FEED(&first, "A") && next_is(&first, HED_KEY_UP_ARROW, 0, false));
   end(&first);
 }
 
-/* Two parsers of one table read its entries each by its own protocol. */
-static void reads_rows_in_each_way(void) {
-  hed_extended port = HED_EXTENDED_NONE, kitty = HED_EXTENDED_NONE;
+static uint8_t modifiers_of_next(hed_extended *parser, const char *text) {
   hed_extended_event event;
-  EXPECT(hed_extended_init(&port, HED_PROTOCOL_LEGACY) && hed_extended_init_sharing(&kitty, HED_PROTOCOL_KITTY, &port));
-  EXPECT(hed_extended_feed(&port, (const uint8_t *)"\033[97;5u", 7) && hed_extended_feed(&kitty, (const uint8_t *)"\033[97;5u", 7));
-  EXPECT(hed_extended_next(&port, true, &event) == HED_NEXT_EVENT && event.kind == HED_KIND_KEY);
-  EXPECT(hed_extended_next(&kitty, true, &event) == HED_NEXT_EVENT && event.kind == HED_KIND_REPORT
-         && event.report.modifiers == HED_KITTY_MOD_CTRL);
-  hed_extended_free(&port);
-  hed_extended_free(&kitty);
+  EXPECT(hed_extended_feed(parser, (const uint8_t *)text, strlen(text)));
+  EXPECT(hed_extended_next(parser, true, &event) == HED_NEXT_EVENT && event.kind == HED_KIND_KEY);
+  return event.report.modifiers;
+}
+
+/* Two parsers of one table read its entries each in its own dialect. */
+static void reads_rows_in_each_way(void) {
+  hed_extended termwiz = HED_EXTENDED_NONE, extended = HED_EXTENDED_NONE;
+  EXPECT(hed_extended_init(&termwiz, HED_DIALECT_TERMWIZ) && hed_extended_init_sharing(&extended, HED_DIALECT_EXTENDED, &termwiz));
+  EXPECT(modifiers_of_next(&termwiz, "\033[1;9A") == HED_KITTY_MOD_ALT);
+  EXPECT(modifiers_of_next(&extended, "\033[1;9A") == HED_KITTY_MOD_SUPER);
+  hed_extended_free(&termwiz);
+  hed_extended_free(&extended);
 }
 
 enum { THREADS = 4, ROUNDS = 20 };

@@ -194,10 +194,10 @@ static void print_reply(const hed_extended_event *event) {
 static bool handle_event(const hed_extended_event *event) {
   bool is_paste = event->kind == HED_KIND_PASTE || event->kind == HED_KIND_PASTE_PART;
   bool is_reply = event->kind == HED_KIND_CURSOR_POSITION || event->kind == HED_KIND_CSI || event->kind == HED_KIND_OSC;
-  if (event->kind == HED_KIND_KEY) printf("key %u, %u\n", event->input.key, (unsigned)event->input.detail);
+  if (event->kind == HED_KIND_KEY) printf("key %u, %u\n", event->report.key, (unsigned)event->report.detail);
   if (is_paste) printf("%s of %zu bytes\n", event->kind == HED_KIND_PASTE ? "paste" : "part", event->text_len);
   if (is_reply || event->kind == HED_KIND_STRING_CUT) print_reply(event);
-  return event->kind != HED_KIND_KEY || event->input.key != HED_KEY_CHAR || obey(event->input.detail);
+  return event->kind != HED_KIND_KEY || event->report.key != HED_KEY_CHAR || obey(event->report.detail);
 }
 
 /* Returns false once the program has to end. */
@@ -241,13 +241,14 @@ int main(int argc, char **argv) {
   if (strcmp(word, "--ignore") == 0) signal(SIGTERM, SIG_IGN), signal(SIGHUP, SIG_IGN);
   if (strcmp(word, "--handle") == 0) handle(SIGUSR1), handle(SIGUSR2);
   if (strcmp(word, "--long") == 0) memset(text, ' ', sizeof text - 1);
-  if (!hed_extended_init(&parser, HED_PROTOCOL_LEGACY)) return 1;
+  if (!hed_extended_init(&parser, HED_DIALECT_EXTENDED)) return 1;
   bool has_mouse = strcmp(word, "--mouse") == 0;
   if (has_mouse) strcat(text, HED_TERMINAL_MOUSE_ON);
   if (!hed_terminal_open(&terminal, input, input == 0 ? 1 : input, text, has_mouse ? mouse_off : off)) {
     fprintf(stderr, "test_terminal: %s\n", terminal.failure);
     if (!hed_terminal_open(&terminal, 0, 1, "", "")) return 1;
   }
+  if (strcmp(word, "--poll") == 0) hed_terminal_tell_settings(&terminal, &parser);
   puts("begun");
   while (strcmp(word, "--poll") == 0 ? poll_once() : next_once()) continue;
   hed_terminal_close(&terminal);

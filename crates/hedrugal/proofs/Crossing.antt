@@ -115,7 +115,7 @@ parser_send : IsSend InputParser.the_row
 parser_send = search (sendable, crosses, table_send, table_sync, buffer_send) depth 12
 
 extended_send : IsSend ExtendedParser.the_row
-extended_send = search (sendable, crosses, parser_send) depth 12
+extended_send = search (sendable, crosses, parser_send) depth 20
 
 -- the limits in time, and the ages
 policy_send : IsSend (Policy.the_field).row

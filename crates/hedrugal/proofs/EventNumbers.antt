@@ -1,12 +1,11 @@
 -- What numbers of an event stand for.
-use Rattle.std.proofs.Common.{◌≡◌, ◌↔◌, ℕ, List, [], Option, Some, None}
+use Rattle.std.proofs.Common.{◌≡◌, ◌↔◌, ℕ, List, Option, Some, None}
 use Rattle.std.specs.Prelude.{IfNone}
-use Rattle.termwiz_keys.specs.declared.types.InputEvent.TheVariants as input
-use Rattle.termwiz_keys.specs.declared.types.MouseEvent.{MouseEvent}
-use Rattle.termwiz_extended_events.specs.declared.types.ExtendedEvent.{ExtendedEvent}
-use Rattle.termwiz_extended_events.specs.declared.types.ExtendedEvent.TheVariants.{Input, Key, FocusGained, FocusLost, CursorPosition, Resize, KeyboardFlags, SideButton, Csi, Osc, Dcs, Apc, StringPart, StringCut}
+use Rattle.termwiz_extended_events.specs.declared.types.Event.{Event}
+use Rattle.termwiz_extended_events.specs.declared.types.Event.TheVariants.{Key, Mouse, Paste, FocusGained, FocusLost, CursorPosition, Resize, KeyboardFlags, Csi, Osc, Dcs, Apc, StringPart, StringCut}
+use Rattle.termwiz_extended_events.specs.declared.types.MouseReport.{MouseReport}
 use Rattle.hedrugal.specs.declared.extended_events.CExtendedEvent.{CExtendedEvent}
-use Rattle.hedrugal.specs.EventCalls.{StandForEvent, Tells}
+use Rattle.hedrugal.specs.EventCalls.{StandForEvent, TellsMouse}
 use Rattle.hedrugal.specs.ExtendedEvents.{kind_number}
 
 pub none_by : {A : Type 0} {P : A → Type 0} (o : Option A) → ((x : A) → (o ≡ Some x) ↔ P x) → o ≡ None → (x : A) → ¬ P x
@@ -16,22 +15,17 @@ pub told_none : {A P : Type 0} (o : Option A) → o ≡ None → IfNone o P → 
 told_none o e h = rw e at h
 
 -- numbers of the kind of a mouse event stand for that kind alone
-pub mouse_only : (n : CExtendedEvent) (bytes : List ℕ) → n.kind ≡ 2 → ((m : MouseEvent) → ¬ Tells n [] (Input (input.Mouse m)))
-    → (event : ExtendedEvent) → ¬ StandForEvent n bytes event
+pub mouse_only : (n : CExtendedEvent) (bytes : List ℕ) → n.kind ≡ 2 → ((report : MouseReport) → ¬ TellsMouse n.mouse report)
+    → (event : Event) → ¬ StandForEvent n bytes event
 unfolding kind_number
-mouse_only n bytes is none (Input (input.Mouse m)) stands = none m stands.1
-mouse_only n bytes is none (Input (input.Key k)) stands = cc (is, stands.0)
-mouse_only n bytes is none (Input (input.PixelMouse m)) stands = cc (is, stands.0)
-mouse_only n bytes is none (Input (input.Resized cols rows)) stands = cc (is, stands.0)
-mouse_only n bytes is none (Input (input.Paste text)) stands = cc (is, stands.0)
-mouse_only n bytes is none (Input input.Wake) stands = cc (is, stands.0)
+mouse_only n bytes is none (Mouse report) stands = none report stands.1
+mouse_only n bytes is none (Paste text) stands = cc (is, stands.0)
 mouse_only n bytes is none (Key report) stands = cc (is, stands.0)
 mouse_only n bytes is none FocusGained stands = cc (is, stands.0)
 mouse_only n bytes is none FocusLost stands = cc (is, stands.0)
 mouse_only n bytes is none (CursorPosition row column) stands = cc (is, stands.0)
 mouse_only n bytes is none (Resize r c h w) stands = cc (is, stands.0)
 mouse_only n bytes is none (KeyboardFlags flags) stands = cc (is, stands.0)
-mouse_only n bytes is none (SideButton event) stands = cc (is, stands.0)
 mouse_only n bytes is none (Csi t) stands = cc (is, stands.0)
 mouse_only n bytes is none (Osc t) stands = cc (is, stands.0)
 mouse_only n bytes is none (Dcs t) stands = cc (is, stands.0)

@@ -9,8 +9,8 @@ use Rattle.termwiz_extended_grammar.proofs.lemmas.cuts.ExtendedCuts.{after_both,
 use Rattle.hedrugal.specs.declared.extended_and_text.ExtendedAndText.{ExtendedAndText}
 use Rattle.hedrugal.specs.declared.extended_events.CExtendedEvent.{CExtendedEvent}
 use Rattle.hedrugal.specs.EventArrays.{AreWritten, TookAll, TookWithBytes, WroteEvents, joined_bytes, text_after_all}
-use Rattle.termwiz_extended_events.specs.declared.types.ExtendedEvent.{ExtendedEvent}
-use Rattle.termwiz_extended_events.specs.declared.types.ExtendedEvent.TheVariants.{Input, Key, FocusGained, FocusLost, CursorPosition, Resize, KeyboardFlags, SideButton, Csi, Osc, Dcs, Apc, StringPart, StringCut}
+use Rattle.termwiz_extended_events.specs.declared.types.Event.{Event}
+use Rattle.termwiz_extended_events.specs.declared.types.Event.TheVariants.{Key, Mouse, Paste, FocusGained, FocusLost, CursorPosition, Resize, KeyboardFlags, Csi, Osc, Dcs, Apc, StringPart, StringCut}
 use Rattle.termwiz_extended_events.specs.declared.types.Reading.{Reading}
 use Rattle.hedrugal.specs.Calls.{copied}
 use Rattle.hedrugal.specs.ExtendedCalls.{text_after}
@@ -28,21 +28,21 @@ bytes_are_kept (Some bytes) before now is some = is
 bytes_are_kept None before now is some = let no : ⊥ = omega arith in absurd no
 
 -- what is kept after an event that brings bytes are these
-own_bytes_kept : (event : ExtendedEvent) (before now : List ℕ) → now ≡ text_after event before → 0 < length (bytes_of event)
+own_bytes_kept : (event : Event) (before now : List ℕ) → now ≡ text_after event before → 0 < length (bytes_of event)
     → now ≡ bytes_of event
 own_bytes_kept event before now is some = bytes_are_kept (own_bytes event) before now is some
 
 -- an event in numbers tells how many bytes it brings
-told_len : (event : ExtendedEvent) → (c_extended_event event).text_len ≡ length (bytes_of event)
+told_len : (event : Event) → (c_extended_event event).text_len ≡ length (bytes_of event)
 unfolding c_extended_event
-told_len (Input event) = refl
+told_len (Mouse report) = refl
+told_len (Paste text) = refl
 told_len (Key report) = refl
 told_len FocusGained = refl
 told_len FocusLost = refl
 told_len (CursorPosition row column) = refl
 told_len (Resize rows columns height width) = refl
 told_len (KeyboardFlags flags) = refl
-told_len (SideButton report) = refl
 told_len (Csi bytes) = refl
 told_len (Osc bytes) = refl
 told_len (Dcs bytes) = refl
@@ -51,12 +51,12 @@ told_len (StringPart kind bytes) = refl
 told_len (StringCut kind bytes) = refl
 
 -- the same of numbers that are the event's
-shown_len : (event : ExtendedEvent) (shown : CExtendedEvent) → shown ≡ c_extended_event event → shown.text_len ≡ length (bytes_of event)
+shown_len : (event : Event) (shown : CExtendedEvent) → shown ≡ c_extended_event event → shown.text_len ≡ length (bytes_of event)
 shown_len event shown is = ap (λ (e : CExtendedEvent). e.text_len) is ∙ told_len event
 
 -- an event is taken, and its bytes, which are kept, are copied
 pub own_bytes_copied : (before after : ExtendedAndText) (more : Bool) (shown : CExtendedEvent) (bytes room room' : List ℕ)
-    → ((event : ExtendedEvent) × Steps before.parser.reading before.parser.text more (event ∷ []) after.parser.text
+    → ((event : Event) × Steps before.parser.reading before.parser.text more (event ∷ []) after.parser.text
     × (shown ≡ c_extended_event event) × (after.text.items ≡ text_after event before.text.items)
     × (after.parser.reading ≡ after_event before.parser.reading event))
     → 0 < shown.text_len → bytes ≡ after.text.items → room' ≡ copied bytes room → TookWithBytes before more shown room room' after
@@ -66,7 +66,7 @@ own_bytes_copied before after more shown bytes room room' (event, step, is, text
 
 -- an event without bytes is taken
 pub no_bytes_copied : (before after : ExtendedAndText) (more : Bool) (shown : CExtendedEvent) (room : List ℕ)
-    → ((event : ExtendedEvent) × Steps before.parser.reading before.parser.text more (event ∷ []) after.parser.text
+    → ((event : Event) × Steps before.parser.reading before.parser.text more (event ∷ []) after.parser.text
     × (shown ≡ c_extended_event event) × (after.text.items ≡ text_after event before.text.items)
     × (after.parser.reading ≡ after_event before.parser.reading event))
     → shown.text_len ≤ 0 → TookWithBytes before more shown room room after
@@ -74,7 +74,7 @@ no_bytes_copied before after more shown room (event, step, is, text, reading) no
     (event, step, is, text, reading, nothing_copied (bytes_of event) room (omega (arith, shown_len event shown is)))
 
 -- Events are written, all of their bytes too: there are so many events, and so many bytes.
-pub record AreWhole (events : List ExtendedEvent) (count used : ℕ) (array array' : List CExtendedEvent) (room room' : List ℕ) : Type 0 where
+pub record AreWhole (events : List Event) (count used : ℕ) (array array' : List CExtendedEvent) (room room' : List ℕ) : Type 0 where
   pub counted : count ≡ length events
   pub measured : used ≡ length (joined_bytes events)
   pub inside : length events ≤ length array
@@ -103,7 +103,7 @@ copied_whole : (bytes room : List ℕ) → length bytes ≤ length room → byte
 copied_whole bytes room fits = ap (λ (front : List ℕ). front ++ drop (length bytes) room) (sym (take_all (length room) bytes fits))
 
 -- one more event is written to the array
-one_more_shown : (events : List ExtendedEvent) (event : ExtendedEvent) (array : List CExtendedEvent) → length events < length array
+one_more_shown : (events : List Event) (event : Event) (array : List CExtendedEvent) → length events < length array
     → slice_set (map c_extended_event events ++ drop (length events) array) (length events) (c_extended_event event)
     ≡ map c_extended_event (events ++ event ∷ []) ++ drop (length (events ++ event ∷ [])) array
 one_more_shown events event [] inside = let no : ⊥ = omega arith in absurd no
@@ -112,19 +112,19 @@ one_more_shown (e ∷ events) event (first ∷ array) inside =
     ap (λ (more : List CExtendedEvent). c_extended_event e ∷ more) (one_more_shown events event array (omega arith))
 
 -- the bytes of two lists of events
-joined_both : (events more : List ExtendedEvent) → joined_bytes (events ++ more) ≡ joined_bytes events ++ joined_bytes more
+joined_both : (events more : List Event) → joined_bytes (events ++ more) ≡ joined_bytes events ++ joined_bytes more
 joined_both [] more = refl
 joined_both (event ∷ events) more =
     ap (λ (rest : List ℕ). bytes_of event ++ rest) (joined_both events more) ∙ sym (append_assoc (bytes_of event) _ _)
 
 -- what is kept after two lists of events
-text_after_both : (events more : List ExtendedEvent) (before : List ℕ)
+text_after_both : (events more : List Event) (before : List ℕ)
     → text_after_all (events ++ more) before ≡ text_after_all more (text_after_all events before)
 text_after_both [] more before = refl
 text_after_both (event ∷ events) more before = text_after_both events more (text_after event before)
 
 -- one more event is taken
-one_more_taken : (before here next : ExtendedAndText) (more : Bool) (events : List ExtendedEvent) (event : ExtendedEvent)
+one_more_taken : (before here next : ExtendedAndText) (more : Bool) (events : List Event) (event : Event)
     → TookAll before more events here → Steps here.parser.reading here.parser.text more (event ∷ []) next.parser.text
     → next.text.items ≡ text_after event here.text.items → next.parser.reading ≡ after_event here.parser.reading event
     → TookAll before more (events ++ event ∷ []) next
@@ -136,14 +136,14 @@ one_more_taken before here next more events event taken step text reading = reco
 }
 
 -- the bytes of the first events are no more than those of all
-few_bytes : (events : List ExtendedEvent) (count : ℕ) → length (joined_bytes (take count events)) ≤ length (joined_bytes events)
+few_bytes : (events : List Event) (count : ℕ) → length (joined_bytes (take count events)) ≤ length (joined_bytes events)
 few_bytes events count =
     let all : joined_bytes events ≡ joined_bytes (take count events) ++ joined_bytes (drop count events) =
-    ap (λ (es : List ExtendedEvent). joined_bytes es) (sym (take-append-drop count events)) ∙ joined_both (take count events) (drop count events) in
+    ap (λ (es : List Event). joined_bytes es) (sym (take-append-drop count events)) ∙ joined_both (take count events) (drop count events) in
     omega (arith, ap length all, length-append {A = ℕ})
 
 -- what is written whole is written
-whole_are_written : (events : List ExtendedEvent) (count used : ℕ) (array array' : List CExtendedEvent) (room room' : List ℕ)
+whole_are_written : (events : List Event) (count used : ℕ) (array array' : List CExtendedEvent) (room room' : List ℕ)
     → AreWhole events count used array array' room room' → AreWritten events array array' room room'
 whole_are_written events count used array array' room room' whole = record {
   inside = whole.inside;
@@ -153,7 +153,7 @@ whole_are_written events count used array array' room room' whole = record {
 }
 
 -- the bytes of one event more
-joined_more : (events : List ExtendedEvent) (event : ExtendedEvent) → joined_bytes (events ++ event ∷ []) ≡ joined_bytes events ++ bytes_of event
+joined_more : (events : List Event) (event : Event) → joined_bytes (events ++ event ∷ []) ≡ joined_bytes events ++ bytes_of event
 joined_more events event =
     joined_both events (event ∷ []) ∙ ap (λ (bytes : List ℕ). joined_bytes events ++ bytes) (append-nil {A = ℕ} (bytes_of event))
 
@@ -168,8 +168,8 @@ bytes_behind front bytes room now used k measured fits is many =
     (copied_behind front bytes room fits)
 
 -- one more event is written, and as many of its bytes as there is room for
-one_more_written : (events : List ExtendedEvent) (count used : ℕ) (array array' : List CExtendedEvent) (room room' : List ℕ)
-    (event : ExtendedEvent) (shown : CExtendedEvent) (part : List ℕ) → AreWhole events count used array array' room room'
+one_more_written : (events : List Event) (count used : ℕ) (array array' : List CExtendedEvent) (room room' : List ℕ)
+    (event : Event) (shown : CExtendedEvent) (part : List ℕ) → AreWhole events count used array array' room room'
     → count < length array → shown ≡ c_extended_event event → part ≡ copied (bytes_of event) (mid_of used (length room' - used) room')
     → AreWritten (events ++ event ∷ []) array (slice_set array' count shown) room (put_mid used (length room' - used) room' part)
 one_more_written events count used array array' room room' event shown part whole more is copy = record {
@@ -183,25 +183,25 @@ one_more_written events count used array array' room room' event shown part whol
 }
 
 -- there is one event more
-one_more_counted : (events : List ExtendedEvent) (event : ExtendedEvent) (count : ℕ) → count ≡ length events → count + 1 ≡ length (events ++ event ∷ [])
+one_more_counted : (events : List Event) (event : Event) (count : ℕ) → count ≡ length events → count + 1 ≡ length (events ++ event ∷ [])
 one_more_counted events event count is = omega (arith, is, length-append events (event ∷ []))
 
 -- so many bytes there was room for
-room_len : (events : List ExtendedEvent) (count used : ℕ) (array array' : List CExtendedEvent) (room room' : List ℕ)
+room_len : (events : List Event) (count used : ℕ) (array array' : List CExtendedEvent) (room room' : List ℕ)
     → AreWhole events count used array array' room room' → length room' ≡ length room
 room_len events count used array array' room room' whole =
     omega (arith, ap length whole.bytes, whole.fits, length-append (joined_bytes events) (drop (length (joined_bytes events)) room), length-drop (length (joined_bytes events)) room)
 
 -- the bytes of one event more are so many
-more_bytes : (events : List ExtendedEvent) (event : ExtendedEvent) (used : ℕ) (shown : CExtendedEvent) → used ≡ length (joined_bytes events)
+more_bytes : (events : List Event) (event : Event) (used : ℕ) (shown : CExtendedEvent) → used ≡ length (joined_bytes events)
     → shown ≡ c_extended_event event → length (joined_bytes (events ++ event ∷ [])) ≡ used + shown.text_len
 more_bytes events event used shown measured is =
     let len : shown.text_len ≡ length (bytes_of event) = ap (λ (e : CExtendedEvent). e.text_len) is ∙ told_len event in
     omega (arith, ap length (joined_more events event), length-append (joined_bytes events) (bytes_of event), len, measured)
 
 -- the bytes that have no room are more than there is room for
-many_bytes : (events : List ExtendedEvent) (count used : ℕ) (array array' : List CExtendedEvent) (room room' : List ℕ)
-    (event : ExtendedEvent) (shown : CExtendedEvent) → AreWhole events count used array array' room room' → shown ≡ c_extended_event event
+many_bytes : (events : List Event) (count used : ℕ) (array array' : List CExtendedEvent) (room room' : List ℕ)
+    (event : Event) (shown : CExtendedEvent) → AreWhole events count used array array' room room' → shown ≡ c_extended_event event
     → length room' - used < shown.text_len → length room < length (joined_bytes (events ++ event ∷ []))
 many_bytes events count used array array' room room' event shown whole is many =
     omega (arith, more_bytes events event used shown whole.measured is, room_len events count used array array' room room' whole, many)
@@ -212,8 +212,8 @@ put_back used room =
     ap (λ (l : List ℕ). take used room ++ l) (take-append-drop (length room - used) (drop used room)) ∙ take-append-drop used room
 
 -- if there is room for all of them, all are written
-one_more_whole : (events : List ExtendedEvent) (count used : ℕ) (array array' : List CExtendedEvent) (room room' : List ℕ)
-    (event : ExtendedEvent) (shown : CExtendedEvent) (array'' : List CExtendedEvent) (room'' : List ℕ)
+one_more_whole : (events : List Event) (count used : ℕ) (array array' : List CExtendedEvent) (room room' : List ℕ)
+    (event : Event) (shown : CExtendedEvent) (array'' : List CExtendedEvent) (room'' : List ℕ)
     → AreWhole events count used array array' room room' → AreWritten (events ++ event ∷ []) array array'' room room''
     → shown ≡ c_extended_event event → shown.text_len ≤ length room' - used
     → AreWhole (events ++ event ∷ []) (count + 1) (used + shown.text_len) array array'' room room''
@@ -234,7 +234,7 @@ module _ (before : ExtendedAndText) (more : Bool) (array : List CExtendedEvent) 
   -- events were taken, and all of them are written with all of their bytes
   abbrev pub WroteWhole : ℕ → ℕ → List CExtendedEvent → List ℕ → ExtendedAndText → Type 0
   WroteWhole count used array' room' here =
-      (events : List ExtendedEvent) × TookAll before more events here × AreWhole events count used array array' room room'
+      (events : List Event) × TookAll before more events here × AreWhole events count used array array' room room'
 
   module _ (count used : ℕ) (array' : List CExtendedEvent) (room' : List ℕ) (here : ExtendedAndText) (wrote : WroteWhole count used array' room' here) where
     -- it stops there

@@ -1,35 +1,35 @@
 -- Which event the numbers and the bytes of one stand for, and what it is written as; and what a terminal replies.
-use Rattle.std.specs.Prelude.{◌≡◌, ◌<◌, ℕ, List, length, Option}
-use Rattle.termwiz_keys.specs.declared.types.InputEvent.TheVariants as input
-use Rattle.termwiz_extended_events.specs.declared.types.ExtendedEvent.{ExtendedEvent}
-use Rattle.termwiz_extended_events.specs.declared.types.ExtendedEvent.TheVariants.{Input, Key, FocusGained, FocusLost, CursorPosition, Resize, KeyboardFlags, SideButton, Csi, Osc, Dcs, Apc, StringPart, StringCut}
+use Rattle.std.specs.Prelude.{◌≡◌, ℕ, List, length, Option, unwrap_or}
+use Rattle.termwiz_extended_events.specs.declared.types.Event.{Event}
+use Rattle.termwiz_extended_events.specs.declared.types.Event.TheVariants.{Key, Mouse, Paste, FocusGained, FocusLost, CursorPosition, Resize, KeyboardFlags, Csi, Osc, Dcs, Apc, StringPart, StringCut}
 use Rattle.termwiz_extended_events.specs.declared.types.Reading.{Reading}
-use Rattle.termwiz_bindings.specs.Numbers.{StandFor}
 use Rattle.termwiz_senders.specs.EventTexts.{IsEventText, IsRefused, IsTooLong}
+use Rattle.termwiz_extended_events.specs.declared.types.MouseReport.{MouseReport}
 use Rattle.hedrugal.specs.declared.extended_events.CExtendedEvent.{CExtendedEvent}
+use Rattle.hedrugal.specs.declared.extended_events.CMouseReport.{CMouseReport}
 use Rattle.hedrugal.specs.declared.extended_and_text.ExtendedAndText.{ExtendedAndText}
 use Rattle.hedrugal.specs.Calls.{copied}
-use Rattle.hedrugal.specs.ExtendedEvents.{kind_number, side_button_number, string_kind_number}
+use Rattle.hedrugal.specs.ExtendedEvents.{kind_number, mouse_kind_number, string_kind_number}
 use Rattle.hedrugal.specs.KittyCalls.{StandForReport}
 use Rattle.hedrugal.specs.Presses.{AreModifiers}
 use Rattle.hedrugal.specs.ReadingCalls.{HasReading}
 
+-- the numbers are those of this mouse report
+abbrev pub TellsMouse : CMouseReport → MouseReport → Type 0
+TellsMouse n m = (mouse_kind_number m.kind ≡ n.kind) × (unwrap_or m.button 0 ≡ n.button) × (m.buttons.0 ≡ n.buttons)
+    × AreModifiers m.modifiers n.modifiers × (m.x ≡ n.x) × (m.y ≡ n.y)
+
 -- the numbers and the bytes are those of this event, as far as its kind has a use for them
-abbrev pub Tells : CExtendedEvent → List ℕ → ExtendedEvent → Type 0
-Tells n bytes (Input (input.Key k)) = StandFor n.input.key n.input.detail k.key × AreModifiers k.modifiers n.input.modifiers
-Tells n bytes (Input (input.Mouse m)) = (m.x ≡ n.input.x) × (m.y ≡ n.input.y) × (m.mouse_buttons.0 ≡ n.input.buttons)
-    × AreModifiers m.modifiers n.input.modifiers
-Tells n bytes (Input (input.Paste text)) = text ≡ bytes
-Tells n bytes (Input event) = ⊥
+abbrev pub Tells : CExtendedEvent → List ℕ → Event → Type 0
 Tells n bytes (Key report) = StandForReport n.report report × (report.text ≡ bytes)
+Tells n bytes (Mouse report) = TellsMouse n.mouse report
+Tells n bytes (Paste text) = text ≡ bytes
 Tells n bytes FocusGained = Unit {0}
 Tells n bytes FocusLost = Unit {0}
 Tells n bytes (CursorPosition row column) = (row ≡ n.row) × (column ≡ n.column)
 Tells n bytes (Resize rows columns height width) =
     (rows ≡ n.rows) × (columns ≡ n.columns) × (height ≡ n.height) × (width ≡ n.width)
 Tells n bytes (KeyboardFlags flags) = flags ≡ n.flags
-Tells n bytes (SideButton e) = (side_button_number e.kind ≡ n.flags) × (e.number ≡ n.input.detail) × (e.number < 256)
-    × (e.x ≡ n.input.x) × (e.y ≡ n.input.y) × AreModifiers e.modifiers n.input.modifiers
 Tells n bytes (Csi t) = t ≡ bytes
 Tells n bytes (Osc t) = t ≡ bytes
 Tells n bytes (Dcs t) = t ≡ bytes
@@ -38,11 +38,11 @@ Tells n bytes (StringPart kind t) = (string_kind_number kind ≡ n.flags) × (t 
 Tells n bytes (StringCut kind t) = (string_kind_number kind ≡ n.flags) × (t ≡ bytes)
 
 -- the numbers and the bytes stand for this event
-abbrev pub StandForEvent : CExtendedEvent → List ℕ → ExtendedEvent → Type 0
+abbrev pub StandForEvent : CExtendedEvent → List ℕ → Event → Type 0
 StandForEvent n bytes event = (n.kind ≡ kind_number event) × Tells n bytes event
 
 -- what is asked for: an event, and the reading of a parser
-pub record IsAskedFor (n : CExtendedEvent) (bytes : List ℕ) (held : Option ExtendedAndText) (event : ExtendedEvent) (reading : Reading)
+pub record IsAskedFor (n : CExtendedEvent) (bytes : List ℕ) (held : Option ExtendedAndText) (event : Event) (reading : Reading)
     : Type 0 where
   pub event_is : StandForEvent n bytes event
   pub reading_is : HasReading held reading
@@ -50,22 +50,22 @@ pub record IsAskedFor (n : CExtendedEvent) (bytes : List ℕ) (held : Option Ext
 -- the event is written so: `out` has as much of the bytes as it has room for, and `len` is how many they are
 abbrev pub WroteEvent : CExtendedEvent → List ℕ → Option ExtendedAndText → List ℕ → List ℕ → ℕ → Type 0
 WroteEvent n bytes held before after len =
-    (event : ExtendedEvent) × (reading : Reading) × (sent : List ℕ) × IsAskedFor n bytes held event reading
+    (event : Event) × (reading : Reading) × (sent : List ℕ) × IsAskedFor n bytes held event reading
     × IsEventText reading event sent × (len ≡ length sent) × (after ≡ copied sent before)
 
 -- no bytes are read as the event
 abbrev pub HasNoText : CExtendedEvent → List ℕ → Option ExtendedAndText → Type 0
-HasNoText n bytes held = (event : ExtendedEvent) × (reading : Reading) × IsAskedFor n bytes held event reading
+HasNoText n bytes held = (event : Event) × (reading : Reading) × IsAskedFor n bytes held event reading
     × IsRefused reading event
 
 -- the event would be longer than a sequence or a string may be
 abbrev pub HasLongText : CExtendedEvent → List ℕ → Option ExtendedAndText → Type 0
-HasLongText n bytes held = (event : ExtendedEvent) × (reading : Reading) × IsAskedFor n bytes held event reading × IsTooLong event
+HasLongText n bytes held = (event : Event) × (reading : Reading) × IsAskedFor n bytes held event reading × IsTooLong event
     × IsRefused reading event
 
 -- a number stands for nothing
 abbrev pub IsBadEvent : CExtendedEvent → List ℕ → Type 0
-IsBadEvent n bytes = (event : ExtendedEvent) → ¬ StandForEvent n bytes event
+IsBadEvent n bytes = (event : Event) → ¬ StandForEvent n bytes event
 
 -- `out` has as much of these bytes as it has room for, and `len` is how many they are
 abbrev pub Wrote : List ℕ → List ℕ → List ℕ → ℕ → Type 0

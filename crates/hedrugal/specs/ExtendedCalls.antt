@@ -3,8 +3,8 @@ use Rattle.std.specs.Prelude.{◌≡◌, ℕ, Bool, false, List, [], ◌∷◌, 
 use Rattle.termwiz_input.specs.Bytes.{Begins, START}
 use Rattle.termwiz_input.specs.PasteParts.{HasPart, IsSkipped, IsTaken}
 use Rattle.termwiz_input.specs.WaitingKinds.{IsOneOrTwoEscapes, IsOpenPaste}
-use Rattle.termwiz_extended_events.specs.declared.types.ExtendedEvent.{ExtendedEvent}
-use Rattle.termwiz_extended_events.specs.declared.types.Protocol.{Protocol}
+use Rattle.termwiz_extended_events.specs.declared.types.Event.{Event}
+use Rattle.termwiz_extended_events.specs.declared.types.Dialect.{Dialect}
 use Rattle.termwiz_extended_grammar.specs.ExtendedGrammar.{IsRest, Means, Steps}
 use Rattle.termwiz_extended_grammar.specs.Readings.{after_event, asking, first_reading}
 use Rattle.termwiz_input_extended.specs.NextItems.{HasItemThatNeedsMemory, IsPasteEvent}
@@ -12,17 +12,17 @@ use Rattle.termwiz_extended_grammar.specs.ExtendedKinds.{IsKind}
 use Rattle.termwiz_extended_grammar.specs.declared.waiting.ExtendedWaiting.{ExtendedWaiting}
 use Rattle.hedrugal.specs.declared.extended_and_text.ExtendedAndText.{ExtendedAndText}
 use Rattle.hedrugal.specs.declared.extended_events.CExtendedEvent.{CExtendedEvent}
-use Rattle.hedrugal.specs.ExtendedEvents.{c_extended_event, c_extended_part, extended_waiting_number, own_bytes, protocol_number}
+use Rattle.hedrugal.specs.ExtendedEvents.{c_extended_event, c_extended_part, extended_waiting_number, own_bytes, dialect_number}
 
--- there is a parser for the protocol with this number, nothing is buffered in it, and no event brought bytes
+-- there is a parser of the dialect with this number, nothing is buffered in it, and no event brought bytes
 abbrev pub IsFresh : Option ExtendedAndText → ℕ → Type 0
-IsFresh (Some held) protocol = (protocol_number held.parser.reading.protocol ≡ protocol)
-    × (held.parser.reading ≡ first_reading held.parser.reading.protocol) × (held.parser.text ≡ []) × (held.text.items ≡ [])
-IsFresh None protocol = ⊥
+IsFresh (Some held) dialect = (dialect_number held.parser.reading.dialect ≡ dialect)
+    × (held.parser.reading ≡ first_reading held.parser.reading.dialect) × (held.parser.text ≡ []) × (held.text.items ≡ [])
+IsFresh None dialect = ⊥
 
--- no protocol has this number
-abbrev pub IsNoProtocol : ℕ → Type 0
-IsNoProtocol number = (protocol : Protocol) → ¬ (protocol_number protocol ≡ number)
+-- no dialect has this number
+abbrev pub IsNoDialect : ℕ → Type 0
+IsNoDialect number = (dialect : Dialect) → ¬ (dialect_number dialect ≡ number)
 
 -- how many bytes are buffered; 0 without a parser
 abbrev pub waiting_len : Option ExtendedAndText → ℕ
@@ -47,11 +47,11 @@ Took (Some before) bytes (Some after) =
 Took _ bytes _ = ⊥
 
 -- the bytes of the last event that brought bytes, after this event
-abbrev pub text_after : ExtendedEvent → List ℕ → List ℕ
+abbrev pub text_after : Event → List ℕ → List ℕ
 text_after event before = unwrap_or (own_bytes event) before
 
 -- this is the event in numbers, its bytes are kept, and the reading is that after it
-abbrev pub Shows : ExtendedAndText → ExtendedEvent → CExtendedEvent → ExtendedAndText → Type 0
+abbrev pub Shows : ExtendedAndText → Event → CExtendedEvent → ExtendedAndText → Type 0
 Shows before event shown after =
     (shown ≡ c_extended_event event) × (after.text.items ≡ text_after event before.text.items)
     × (after.parser.reading ≡ after_event before.parser.reading event)
@@ -59,7 +59,7 @@ Shows before event shown after =
 -- the item at the front was taken, and this is its event
 abbrev pub Gave : Option ExtendedAndText → Bool → CExtendedEvent → Option ExtendedAndText → Type 0
 Gave (Some before) more shown (Some after) =
-    (event : ExtendedEvent) × Steps before.parser.reading before.parser.text more (event ∷ []) after.parser.text
+    (event : Event) × Steps before.parser.reading before.parser.text more (event ∷ []) after.parser.text
     × Shows before event shown after
 Gave _ more shown _ = ⊥
 
@@ -87,7 +87,7 @@ HasEscape None = ⊥
 -- what was buffered is this event, with no more to come
 abbrev pub Flushed : Option ExtendedAndText → CExtendedEvent → Option ExtendedAndText → Type 0
 Flushed (Some before) shown (Some after) =
-    (event : ExtendedEvent) × Means before.parser.reading before.parser.text false (event ∷ []) after.parser.text
+    (event : Event) × Means before.parser.reading before.parser.text false (event ∷ []) after.parser.text
     × (shown ≡ c_extended_event event) × (after.text.items ≡ before.text.items) × (after.parser.reading ≡ before.parser.reading)
 Flushed _ shown _ = ⊥
 
@@ -99,7 +99,7 @@ HasEndlessPaste None = ⊥
 -- the open paste was ended, and this is its event
 abbrev pub Ended : Option ExtendedAndText → CExtendedEvent → Option ExtendedAndText → Type 0
 Ended (Some before) shown (Some after) =
-    (event : ExtendedEvent) × IsPasteEvent before.parser.text event × (after.parser.text ≡ []) × Shows before event shown after
+    (event : Event) × IsPasteEvent before.parser.text event × (after.parser.text ≡ []) × Shows before event shown after
 Ended _ shown _ = ⊥
 
 -- an open paste is buffered, of which a part can be taken under this limit

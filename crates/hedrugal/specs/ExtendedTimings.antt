@@ -3,7 +3,7 @@ use Rattle.std.specs.Prelude.{◌≡◌, ◌⊎◌, ℕ, ℤ, pos, negsuc, true,
 use Rattle.termwiz_input.specs.declared.time.Seen.{Seen}
 use Rattle.termwiz_input.specs.Time.{IsDue, noted, time_left}
 use Rattle.termwiz_input.specs.WaitingKinds.{IsOpenPaste}
-use Rattle.termwiz_extended_events.specs.declared.types.ExtendedEvent.{ExtendedEvent}
+use Rattle.termwiz_extended_events.specs.declared.types.Event.{Event}
 use Rattle.termwiz_input_extended.specs.ExtendedExpiry.{FlushStep, IsSeen}
 use Rattle.termwiz_input_extended.specs.NextItems.{HasItemThatNeedsMemory}
 use Rattle.hedrugal.specs.declared.extended_and_text.ExtendedAndText.{ExtendedAndText}
@@ -52,7 +52,7 @@ IsNothing None = ⊥
 
 -- one event of a flush was taken, and this is it
 abbrev pub TookFlushed : Option ExtendedAndText → CExtendedEvent → Option ExtendedAndText → Type 0
-TookFlushed (Some before) shown (Some after) = (event : ExtendedEvent)
+TookFlushed (Some before) shown (Some after) = (event : Event)
     × FlushStep before.parser.reading before.parser.text event after.parser.text × Shows before event shown after
 TookFlushed _ shown _ = ⊥
 

@@ -4,12 +4,14 @@ use Rattle.termwiz_extended_events.specs.declared.types.Reading.{Reading}
 use Rattle.termwiz_extended_grammar.specs.Readings.{asking}
 use Rattle.hedrugal.specs.declared.extended_and_text.ExtendedAndText.{ExtendedAndText}
 use Rattle.hedrugal.specs.declared.reading_calls.CReading.{CReading}
-use Rattle.hedrugal.specs.ExtendedEvents.{protocol_number}
+use Rattle.hedrugal.specs.ExtendedEvents.{dialect_number, erase_number, newline_number}
 
 -- a reading in numbers
 abbrev pub c_reading : Reading → CReading
 c_reading reading = record {
-  protocol = protocol_number reading.protocol;
+  dialect = dialect_number reading.dialect;
+  erase = erase_number reading.erase;
+  newline = newline_number reading.newline;
   x10_mouse = reading.x10_mouse;
   questions = reading.questions;
 }
@@ -29,8 +31,12 @@ HasReading None reading = ⊥
 
 -- the numbers stand for this reading
 abbrev pub StandFor : CReading → Reading → Type 0
-StandFor numbers reading = (protocol_number reading.protocol ≡ numbers.protocol) × (reading.x10_mouse ≡ numbers.x10_mouse)
-    × (reading.questions ≡ numbers.questions)
+StandFor numbers reading = (dialect_number reading.dialect ≡ numbers.dialect) × (erase_number reading.erase ≡ numbers.erase)
+    × (newline_number reading.newline ≡ numbers.newline) × (reading.x10_mouse ≡ numbers.x10_mouse) × (reading.questions ≡ numbers.questions)
+
+-- they stand for none
+abbrev pub IsBadReading : CReading → Type 0
+IsBadReading numbers = (reading : Reading) → ¬ StandFor numbers reading
 
 -- it reads as these numbers say from now on, and nothing else changed
 abbrev pub ReadsBy : Option ExtendedAndText → CReading → Option ExtendedAndText → Type 0

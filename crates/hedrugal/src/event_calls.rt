@@ -1,26 +1,23 @@
 //! The calls that write events, and what a terminal replies.
-ghost use Rattle.std.specs.Prelude.{◌≡◌, ◌≢◌, ◌≤◌, ◌<◌, ◌⊎◌, List, [], IfOk, IfSome, IfNone, Some, None, Err, length, string_bytes};
+ghost use Rattle.std.specs.Prelude.{◌≡◌, ◌≢◌, ◌≤◌, ◌<◌, ◌⊎◌, IfOk, IfSome, IfNone, None, Err, length, string_bytes, unwrap_or};
 ghost use Rattle.std.specs.Str.{IsUtf8};
-ghost use Rattle.termwiz_keys.specs.declared.types.InputEvent.TheVariants as input;
-ghost use Rattle.termwiz_keys.specs.declared.types.KeyEvent.{KeyEvent as Key};
-ghost use Rattle.termwiz_keys.specs.declared.types.MouseEvent.{MouseEvent as Mouse};
-ghost use Rattle.termwiz_extended_events.specs.declared.types.ExtendedEvent.{ExtendedEvent as Event};
-ghost use Rattle.termwiz_extended_events.specs.declared.types.ExtendedEvent.TheVariants.{Input, SideButton};
-ghost use Rattle.termwiz_extended_events.specs.declared.types.SideButtonEvent.{SideButtonEvent as Side};
-ghost use Rattle.termwiz_extended_events.specs.declared.types.SideButtonKind.{SideButtonKind as SideKind};
+ghost use Rattle.termwiz_extended_events.specs.declared.types.Event.{Event};
+ghost use Rattle.termwiz_extended_events.specs.declared.types.MouseKind.{MouseKind as WhatHappened};
+ghost use Rattle.termwiz_extended_events.specs.declared.types.MouseReport.{MouseReport as Report};
 ghost use Rattle.termwiz_extended_events.specs.declared.types.StringKind.{StringKind as Kind};
 ghost use Rattle.termwiz_senders.specs.EventTexts.{attributes_text, position_text, scheme_text};
-ghost use Rattle.hedrugal.specs.EventCalls.{HasLongText, HasNoText, IsBadEvent, StandForEvent, Tells, Wrote, WroteEvent};
-ghost use Rattle.hedrugal.specs.ExtendedEvents.{side_button_number, string_kind_number};
+ghost use Rattle.hedrugal.specs.EventCalls.{HasLongText, HasNoText, IsBadEvent, StandForEvent, TellsMouse, Wrote, WroteEvent};
+ghost use Rattle.hedrugal.specs.ExtendedEvents.{mouse_kind_number, string_kind_number};
 ghost use Rattle.hedrugal.specs.ExtendedTimings.{KeepsTime};
 ghost use Rattle.hedrugal.specs.declared.event_calls.BadEvent.TheVariants as bad;
 
 use crate::copying::copy_prefix;
 use crate::events::{KIND_KEY, KIND_MOUSE, KIND_PASTE};
 use crate::extended_events::{
-    CExtendedEvent, KIND_APC, KIND_CSI, KIND_CURSOR_POSITION, KIND_DCS, KIND_FOCUS_GAINED,
-    KIND_FOCUS_LOST, KIND_KEYBOARD_FLAGS, KIND_OSC, KIND_REPORT, KIND_RESIZE, KIND_SIDE_BUTTON,
-    KIND_STRING_CUT, KIND_STRING_PART, SIDE_BUTTON_DRAG, SIDE_BUTTON_PRESS, SIDE_BUTTON_RELEASE,
+    CExtendedEvent, CMouseReport, KIND_APC, KIND_CSI, KIND_CURSOR_POSITION, KIND_DCS,
+    KIND_FOCUS_GAINED, KIND_FOCUS_LOST, KIND_KEYBOARD_FLAGS, KIND_OSC, KIND_RESIZE,
+    KIND_STRING_CUT, KIND_STRING_PART, MOUSE_KIND_DRAG, MOUSE_KIND_MOVE, MOUSE_KIND_PRESS,
+    MOUSE_KIND_RELEASE, MOUSE_KIND_WHEEL,
 };
 use crate::handles::ExtendedHandle;
 use crate::key_reports::report_of;
@@ -32,10 +29,9 @@ use crate::{
 use bitflags::Flags;
 use std::alloc::{AllocError, Global};
 use std::str;
-use termwiz_bindings::numbers::key_of;
-use termwiz_input::types::{InputEvent, KeyEvent, MouseButtons, MouseEvent, PastedText};
+use termwiz_input::types::{MouseButtons, PastedText};
 use termwiz_input_extended::types::{
-    ExtendedEvent, KeyText, SequenceBytes, SideButtonEvent, SideButtonKind, StringKind,
+    Event, KeyText, MouseKind, MouseReport, SequenceBytes, StringKind,
 };
 use termwiz_senders::event::{
     EncodeEventError, encode_colour_scheme, encode_cursor_position, encode_device_attributes,
@@ -75,68 +71,50 @@ fn string_kind_of(number: u8) -> Option<StringKind>
     }
 }
 
-// What happened to a side button, by its number.
-#[tactic(auto, unfolding(crate::specs::ExtendedEvents::side_button_number))]
-fn side_button_kind_of(number: u8) -> Option<SideButtonKind>
-    ensures some { IfSome result (λ kind. side_button_number kind ≡ number) }
-    ensures none { IfNone result ((kind : SideKind) → ¬ (side_button_number kind ≡ number)) }
+// What happened to the mouse, by its number.
+#[tactic(auto, unfolding(crate::specs::ExtendedEvents::mouse_kind_number))]
+fn mouse_kind_of(number: u8) -> Option<MouseKind>
+    ensures some { IfSome result (λ kind. mouse_kind_number kind ≡ number) }
+    ensures none { IfNone result ((kind : WhatHappened) → ¬ (mouse_kind_number kind ≡ number)) }
 {
     match number {
-        SIDE_BUTTON_PRESS => Some(SideButtonKind::Press),
-        SIDE_BUTTON_RELEASE => Some(SideButtonKind::Release),
-        SIDE_BUTTON_DRAG => Some(SideButtonKind::Drag),
+        MOUSE_KIND_PRESS => Some(MouseKind::Press),
+        MOUSE_KIND_RELEASE => Some(MouseKind::Release),
+        MOUSE_KIND_DRAG => Some(MouseKind::Drag),
+        MOUSE_KIND_MOVE => Some(MouseKind::Move),
+        MOUSE_KIND_WHEEL => Some(MouseKind::Wheel),
         _ => None,
     }
 }
 
-// A key of the port.
-fn key_in(numbers: &CExtendedEvent) -> Option<KeyEvent>
-    ensures some { IfSome result (λ key. Tells numbers.now [] (Input (input.Key key))) }
-    ensures none { IfNone result ((key : Key) → ¬ Tells numbers.now [] (Input (input.Key key))) }
+// The button that a report names, by its number. 0 is none.
+fn named_button(number: u8) -> Option<u8>
+    ensures { unwrap_or result 0 ≡ number }
 {
-    let key = key_of(numbers.input.key, numbers.input.detail)?;
-    let Some(modifiers) = modifiers_of(numbers.input.modifiers) else {
-        return None;
-    };
-    Some(KeyEvent { key, modifiers })
+    match number {
+        0 => None,
+        _ => Some(number),
+    }
 }
 
-// A mouse event of the port.
-fn mouse_in(numbers: &CExtendedEvent) -> Option<MouseEvent>
-    ensures some { IfSome result (λ event. Tells numbers.now [] (Input (input.Mouse event))) }
-    ensures none { IfNone result ((event : Mouse) → ¬ Tells numbers.now [] (Input (input.Mouse event))) }
+// A mouse report.
+fn mouse_in(numbers: &CMouseReport) -> Option<MouseReport>
+    ensures some { IfSome result (λ report. TellsMouse numbers.now report) }
+    ensures none { IfNone result ((report : Report) → ¬ TellsMouse numbers.now report) }
 {
-    let Some(modifiers) = modifiers_of(numbers.input.modifiers) else {
+    let Some(kind) = mouse_kind_of(numbers.kind) else {
         return None;
     };
-    Some(MouseEvent {
-        x: numbers.input.x,
-        y: numbers.input.y,
-        mouse_buttons: MouseButtons::from_bits_retain(numbers.input.buttons),
+    let Some(modifiers) = modifiers_of(numbers.modifiers) else {
+        return None;
+    };
+    Some(MouseReport {
+        x: numbers.x,
+        y: numbers.y,
         modifiers,
-    })
-}
-
-// A side button.
-fn side_button_in(numbers: &CExtendedEvent) -> Option<SideButtonEvent>
-    ensures some { IfSome result (λ event. Tells numbers.now [] (SideButton event)) }
-    ensures none { IfNone result ((event : Side) → ¬ Tells numbers.now [] (SideButton event)) }
-{
-    let Ok(number) = u8::try_from(numbers.input.detail) else {
-        return None;
-    };
-    let Some(kind) = side_button_kind_of(numbers.flags) else {
-        return None;
-    };
-    let Some(modifiers) = modifiers_of(numbers.input.modifiers) else {
-        return None;
-    };
-    Some(SideButtonEvent {
-        number,
+        buttons: MouseButtons::from_bits_retain(numbers.buttons),
         kind,
-        x: numbers.input.x,
-        y: numbers.input.y,
-        modifiers,
+        button: named_button(numbers.button),
     })
 }
 
@@ -161,55 +139,41 @@ fn bytes_in(alloc: Global, bytes: &[u8]) -> Result<SequenceBytes, AllocError>
 
 // The event that numbers and bytes stand for.
 #[tactic(auto, unfolding(crate::specs::ExtendedEvents::kind_number))]
-fn event_in(
-    alloc: Global,
-    numbers: &CExtendedEvent,
-    bytes: &[u8],
-) -> Result<ExtendedEvent, BadEvent>
+fn event_in(alloc: Global, numbers: &CExtendedEvent, bytes: &[u8]) -> Result<Event, BadEvent>
     ensures event { IfOk result (λ event. StandForEvent numbers.now bytes.now event) }
     ensures bad_number { result ≡ Err bad.Number → (event : Event) → ¬ StandForEvent numbers.now bytes.now event }
     ensures bad_text { result ≡ Err bad.Text → ¬ IsUtf8 bytes.now }
 {
     Ok(match numbers.kind {
+        KIND_MOUSE => Event::Mouse(mouse_in(&numbers.mouse).ok_or(BadEvent::Number)?),
+        KIND_PASTE => Event::Paste(PastedText::new(text_in(alloc, bytes)?)),
         KIND_KEY => {
-            ExtendedEvent::Input(InputEvent::Key(key_in(numbers).ok_or(BadEvent::Number)?))
-        }
-        KIND_MOUSE => {
-            ExtendedEvent::Input(InputEvent::Mouse(mouse_in(numbers).ok_or(BadEvent::Number)?))
-        }
-        KIND_PASTE => {
-            ExtendedEvent::Input(InputEvent::Paste(PastedText::new(text_in(alloc, bytes)?)))
-        }
-        KIND_REPORT => {
             let mut report = report_of(alloc, &numbers.report).ok_or(BadEvent::Number)?;
             report.text = KeyText::new(text_in(alloc, bytes)?);
-            ExtendedEvent::Key(report)
+            Event::Key(report)
         }
-        KIND_FOCUS_GAINED => ExtendedEvent::FocusGained,
-        KIND_FOCUS_LOST => ExtendedEvent::FocusLost,
-        KIND_CURSOR_POSITION => ExtendedEvent::CursorPosition {
+        KIND_FOCUS_GAINED => Event::FocusGained,
+        KIND_FOCUS_LOST => Event::FocusLost,
+        KIND_CURSOR_POSITION => Event::CursorPosition {
             row: numbers.row,
             column: numbers.column,
         },
-        KIND_RESIZE => ExtendedEvent::Resize {
+        KIND_RESIZE => Event::Resize {
             rows: numbers.rows,
             columns: numbers.columns,
             height: numbers.height,
             width: numbers.width,
         },
-        KIND_KEYBOARD_FLAGS => ExtendedEvent::KeyboardFlags(numbers.flags),
-        KIND_SIDE_BUTTON => {
-            ExtendedEvent::SideButton(side_button_in(numbers).ok_or(BadEvent::Number)?)
-        }
-        KIND_CSI => ExtendedEvent::Csi(bytes_in(alloc, bytes)?),
-        KIND_OSC => ExtendedEvent::Osc(bytes_in(alloc, bytes)?),
-        KIND_DCS => ExtendedEvent::Dcs(bytes_in(alloc, bytes)?),
-        KIND_APC => ExtendedEvent::Apc(bytes_in(alloc, bytes)?),
-        KIND_STRING_PART => ExtendedEvent::StringPart {
+        KIND_KEYBOARD_FLAGS => Event::KeyboardFlags(numbers.flags),
+        KIND_CSI => Event::Csi(bytes_in(alloc, bytes)?),
+        KIND_OSC => Event::Osc(bytes_in(alloc, bytes)?),
+        KIND_DCS => Event::Dcs(bytes_in(alloc, bytes)?),
+        KIND_APC => Event::Apc(bytes_in(alloc, bytes)?),
+        KIND_STRING_PART => Event::StringPart {
             kind: string_kind_of(numbers.flags).ok_or(BadEvent::Number)?,
             bytes: bytes_in(alloc, bytes)?,
         },
-        KIND_STRING_CUT => ExtendedEvent::StringCut {
+        KIND_STRING_CUT => Event::StringCut {
             kind: string_kind_of(numbers.flags).ok_or(BadEvent::Number)?,
             bytes: bytes_in(alloc, bytes)?,
         },

@@ -2,7 +2,7 @@
 ghost use Rattle.std.specs.Prelude.{◌≡◌, ◌↔◌, ◌⊎◌, ◌+◌, ◌≤◌, ℕ, List, [], ◌∷◌, false, length, max, IfOk, IfSome, IfNone, IsSome, OnErr, OnOk};
 ghost use Rattle.termwiz_input.specs.PasteParts.{HasPart, IsTaken};
 ghost use Rattle.termwiz_input.specs.WaitingKinds.{IsOneOrTwoEscapes, IsOpenPaste};
-ghost use Rattle.termwiz_extended_events.specs.declared.types.ExtendedEvent.{ExtendedEvent as Event};
+ghost use Rattle.termwiz_extended_events.specs.declared.types.Event.{Event};
 ghost use Rattle.termwiz_extended_grammar.specs.ExtendedGrammar.{IsRest, Means, Steps};
 ghost use Rattle.termwiz_extended_grammar.specs.Readings.{after_event};
 ghost use Rattle.termwiz_input_extended.specs.ExtendedExpiry.{FlushStep, IsSeen};
@@ -17,7 +17,7 @@ use std::alloc::{AllocError, Global};
 use termwiz_input::types::InputEvent;
 use termwiz_input_extended::input::ExtendedParser;
 use termwiz_input_extended::time::{self, Policy, Seen};
-use termwiz_input_extended::types::ExtendedEvent;
+use termwiz_input_extended::types::Event;
 
 /// An extended parser, and the bytes of the last event that brought bytes.
 #[derive(Drop)]
@@ -38,8 +38,9 @@ impl ExtendedAndText {
         }
     }
 
-    // Keeps the bytes that an event brings, and returns the event as C has it.
-    fn keep_text(&mut self, event: ExtendedEvent) -> CExtendedEvent
+    // Keeps the bytes that an event brings, and returns the event as C has it. Inlined, as `next` is.
+    #[inline(always)]
+    fn keep_text(&mut self, event: Event) -> CExtendedEvent
         ensures event { result ≡ c_extended_event event }
         ensures text { self.new.text.items ≡ text_after event self.old.text.items }
         ensures parser { self.new.parser ≡ self.old.parser }
@@ -51,7 +52,8 @@ impl ExtendedAndText {
         shown
     }
 
-    // The next event, as C has it.
+    // The next event, as C has it. Inlined, so that it is written where it is wanted.
+    #[inline(always)]
     pub(crate) fn next(&mut self, maybe_more: bool) -> Result<Option<CExtendedEvent>, AllocError>
         ensures event { IfOk result (λ found. IfSome found (λ shown. (event : Event)
             × Steps self.old.parser.reading self.old.parser.text maybe_more (event ∷ []) self.new.parser.text
@@ -145,13 +147,9 @@ impl ExtendedAndText {
     {
         match self.parser.take_paste(limit)? {
             Some(text) => {
-                let shown = self.keep_text(ExtendedEvent::Input(InputEvent::Paste(text)));
+                let shown = self.keep_text(Event::Paste(text));
                 Ok(Some(CExtendedEvent {
                     kind: KIND_PASTE_PART,
-                    input: CEvent {
-                        kind: KIND_PASTE_PART,
-                        ..shown.input
-                    },
                     ..shown
                 }))
             }

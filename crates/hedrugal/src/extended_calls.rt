@@ -1,8 +1,8 @@
 // The calls of the extended parser.
 ghost use Rattle.std.specs.Prelude.{◌≡◌, ◌≢◌, ◌≤◌, ◌↔◌, ◌+◌, [], length, max, true, false, None, IfSome, IfNone, IsTrue};
 ghost use Rattle.hedrugal.specs.Calls.{copied};
-ghost use Rattle.hedrugal.specs.ExtendedCalls.{IsNoProtocol, Ended, Flushed, Gave, HasDroppedText, HasEndlessPaste, HasEscape, HasKind, HasOpenPaste, HasPartOfPaste, IsFresh, IsReset, IsUnchanged, NeedsMemoryNext, Rests, Skipped, Took, TookPart, kept, waiting_len};
-ghost use Rattle.hedrugal.specs.ExtendedEvents.{protocol_number};
+ghost use Rattle.hedrugal.specs.ExtendedCalls.{IsNoDialect, Ended, Flushed, Gave, HasDroppedText, HasEndlessPaste, HasEscape, HasKind, HasOpenPaste, HasPartOfPaste, IsFresh, IsReset, IsUnchanged, NeedsMemoryNext, Rests, Skipped, Took, TookPart, kept, waiting_len};
+ghost use Rattle.hedrugal.specs.ExtendedEvents.{dialect_number};
 ghost use Rattle.hedrugal.specs.ExtendedTimings.{BeginsTime, KeepsTime, TakesBytes, TakesEvent};
 
 use crate::copying::copy_prefix;
@@ -12,55 +12,55 @@ use crate::handles::ExtendedHandle;
 use crate::{NEXT_EVENT, NEXT_NO_MEMORY, NEXT_NO_PARSER, NEXT_NONE, WAITING_NOTHING};
 use std::alloc::Global;
 use termwiz_input_extended::input::ExtendedParser;
-use termwiz_input_extended::types::Protocol;
+use termwiz_input_extended::types::Dialect;
 
-// The protocols that a program may have turned on.
-const PROTOCOL_LEGACY: u32 = 0;
+// The dialects.
+const DIALECT_EXTENDED: u32 = 0;
 
-const PROTOCOL_KITTY: u32 = 1;
+const DIALECT_TERMWIZ: u32 = 1;
 
-// The protocol that has this number.
-#[tactic(auto, unfolding(crate::specs::ExtendedEvents::protocol_number))]
-pub(crate) fn protocol_at(number: u32) -> Option<Protocol>
-    ensures some { IfSome result (λ protocol. protocol_number protocol ≡ number) }
-    ensures none { IfNone result (IsNoProtocol number) }
+// The dialect that has this number.
+#[tactic(auto, unfolding(crate::specs::ExtendedEvents::dialect_number))]
+pub(crate) fn dialect_at(number: u32) -> Option<Dialect>
+    ensures some { IfSome result (λ dialect. dialect_number dialect ≡ number) }
+    ensures none { IfNone result (IsNoDialect number) }
 {
     match number {
-        PROTOCOL_LEGACY => Some(Protocol::Legacy),
-        PROTOCOL_KITTY => Some(Protocol::Kitty),
+        DIALECT_EXTENDED => Some(Dialect::Extended),
+        DIALECT_TERMWIZ => Some(Dialect::Termwiz),
         _ => None,
     }
 }
 
-// The number of a protocol.
-#[tactic(auto, unfolding(crate::specs::ExtendedEvents::protocol_number))]
-pub(crate) fn protocol_number(protocol: Protocol) -> u32
-    ensures { result ≡ protocol_number protocol }
+// The number of a dialect.
+#[tactic(auto, unfolding(crate::specs::ExtendedEvents::dialect_number))]
+pub(crate) fn dialect_number(dialect: Dialect) -> u32
+    ensures { result ≡ dialect_number dialect }
 {
-    match protocol {
-        Protocol::Legacy => PROTOCOL_LEGACY,
-        Protocol::Kitty => PROTOCOL_KITTY,
+    match dialect {
+        Dialect::Extended => DIALECT_EXTENDED,
+        Dialect::Termwiz => DIALECT_TERMWIZ,
     }
 }
 
-/// Makes an extended parser for the protocol with this number, and frees the one that was there. If memory is refused, or no protocol has
+/// Makes an extended parser of the dialect with this number, and frees the one that was there. If memory is refused, or no dialect has
 /// the number, the answer is false and nothing changes.
 #[unsafe(no_mangle)]
 pub extern "C" fn hed_extended_init(
     alloc: Global,
     parser: &mut ExtendedHandle,
-    protocol: u32,
+    dialect: u32,
 ) -> bool
-    ensures made { result ≡ true → IsFresh parser.new.state.held protocol }
+    ensures made { result ≡ true → IsFresh parser.new.state.held dialect }
     ensures refused { result ≡ false → parser.new.state.held ≡ parser.old.state.held }
-    ensures no_protocol { IsNoProtocol protocol → result ≡ false }
+    ensures no_dialect { IsNoDialect dialect → result ≡ false }
     ensures begins { result ≡ true → BeginsTime parser.new }
     ensures refused_time { result ≡ false → KeepsTime parser.old parser.new }
 {
-    let Some(protocol) = protocol_at(protocol) else {
+    let Some(dialect) = dialect_at(dialect) else {
         return false;
     };
-    let Ok(made) = ExtendedParser::new(alloc, protocol) else {
+    let Ok(made) = ExtendedParser::new(alloc, dialect) else {
         return false;
     };
     parser

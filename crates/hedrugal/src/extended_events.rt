@@ -1,24 +1,20 @@
 // Events of the extended parser, and the kinds of what stays buffered, as C has them.
 ghost use Rattle.std.specs.Prelude.{◌≡◌, option_map};
-ghost use Rattle.termwiz_extended_events.specs.EventKeys.{key_of_event, pressed_key};
-ghost use Rattle.hedrugal.specs.ExtendedEvents.{key_event_kind_number, bytes_of, c_extended_event, c_report, c_report_if, extended_waiting_number, kind_number, own_bytes, side_button_number, side_input, string_kind_number};
+ghost use Rattle.hedrugal.specs.ExtendedEvents.{key_event_kind_number, bytes_of, c_extended_event, c_mouse, c_report, extended_waiting_number, kind_number, mouse_kind_number, own_bytes, string_kind_number};
 
-use crate::events::{CEvent, KIND_KEY, KIND_MOUSE, KIND_OTHER, KIND_PASTE, NO_EVENT, c_event};
+use crate::events::{KIND_KEY, KIND_MOUSE, KIND_OTHER, KIND_PASTE};
 use crate::{
     WAITING_CHARACTER, WAITING_ESCAPE, WAITING_NOTHING, WAITING_PASTE, WAITING_SEQUENCE,
     WAITING_STRING,
 };
 use bitflags::Flags;
-use termwiz_bindings::numbers::{key_detail, key_number, reported_detail, reported_number};
-use termwiz_input::types::{InputEvent, KeyEvent};
+use termwiz_bindings::numbers::{reported_detail, reported_number};
 use termwiz_input_extended::input::ExtendedWaiting;
 use termwiz_input_extended::types::{
-    ExtendedEvent, KeyEventKind, KeyReport, SideButtonEvent, SideButtonKind, StringKind,
+    Event, KeyEventKind, KeyReport, MouseKind, MouseReport, StringKind,
 };
 
 // The kinds of events that only this parser has.
-pub(crate) const KIND_REPORT: u8 = 4;
-
 pub(crate) const KIND_FOCUS_GAINED: u8 = 5;
 
 pub(crate) const KIND_FOCUS_LOST: u8 = 6;
@@ -41,14 +37,16 @@ pub(crate) const KIND_STRING_PART: u8 = 15;
 
 pub(crate) const KIND_STRING_CUT: u8 = 16;
 
-pub(crate) const KIND_SIDE_BUTTON: u8 = 17;
+// What happened to the mouse.
+pub(crate) const MOUSE_KIND_PRESS: u8 = 1;
 
-// What happened to a side button.
-pub(crate) const SIDE_BUTTON_PRESS: u8 = 1;
+pub(crate) const MOUSE_KIND_RELEASE: u8 = 2;
 
-pub(crate) const SIDE_BUTTON_RELEASE: u8 = 2;
+pub(crate) const MOUSE_KIND_DRAG: u8 = 3;
 
-pub(crate) const SIDE_BUTTON_DRAG: u8 = 3;
+pub(crate) const MOUSE_KIND_MOVE: u8 = 4;
+
+pub(crate) const MOUSE_KIND_WHEEL: u8 = 5;
 
 // What happened to a key.
 pub(crate) const KEY_EVENT_KIND_PRESS: u8 = 1;
@@ -68,7 +66,7 @@ pub struct CKeyReport {
     pub kind: u8,
     /// The modifiers that were held, as Kitty's bits.
     pub modifiers: u8,
-    /// The number of the key, or 0 for a key without a name.
+    /// The number of the key, or 0 for a key without a name and for text without a key.
     pub key: u16,
     /// The code point of a character, the number of a function key, or the number of a key without a name in Kitty's table.
     pub detail: u32,
@@ -78,17 +76,34 @@ pub struct CKeyReport {
     pub base: u32,
 }
 
+/// `hed_mouse_report`: a mouse report in numbers.
+#[repr(C)]
+#[derive(Clone, Copy)]
+pub struct CMouseReport {
+    /// 1 for a press, 2 for a release, 3 for a drag, 4 for a move without a button, 5 for a wheel.
+    pub kind: u8,
+    /// The number of the button that the report names: 1 to 3 the left, the middle and the right one, 4 to 7 the wheel, 8 to 11 the side
+    /// buttons. 0 if it names none.
+    pub button: u8,
+    /// The mouse buttons that are down, by the bits of `MouseButtons`.
+    pub buttons: u8,
+    /// The modifiers that were held, by the bits of `Modifiers`.
+    pub modifiers: u16,
+    /// The mouse's column.
+    pub x: u16,
+    /// The mouse's row.
+    pub y: u16,
+}
+
 /// `hed_extended_event`: an event of the extended parser in numbers. What its kind has no use for is 0.
 #[repr(C)]
 #[derive(Clone, Copy)]
 pub struct CExtendedEvent {
-    /// 1 for a key, 2 for the mouse, 3 for a paste, 4 for a key report, 5 and 6 for a focus gained and lost, 7 for the position of
-    /// the cursor, 8 for a new size, 9 for keyboard flags, 10 to 13 for a control sequence, an operating system command, a device
-    /// control string and an application program command, 14 for a part of a paste, 15 for a part of a string, 16 for a string that
-    /// was cut off, and 17 for a side button of the mouse.
+    /// 1 for a key, 2 for the mouse, 3 for a paste, 5 and 6 for a focus gained and lost, 7 for the position of the cursor, 8 for a new
+    /// size, 9 for keyboard flags, 10 to 13 for a control sequence, an operating system command, a device control string and an
+    /// application program command, 14 for a part of a paste, 15 for a part of a string, and 16 for a string that was cut off.
     pub kind: u8,
-    /// The flags of Kitty's keyboard protocol. With 15 and 16 the kind of the string: 11, 12 or 13. With 17 what happened to the button: 1
-    /// for a press, 2 for a release, 3 for a drag.
+    /// The flags of Kitty's keyboard protocol. With 15 and 16 the kind of the string: 11, 12 or 13.
     pub flags: u8,
     /// The cursor's row.
     pub row: u16,
@@ -102,10 +117,10 @@ pub struct CExtendedEvent {
     pub height: u16,
     /// The terminal's width in pixels.
     pub width: u16,
-    /// The report of a key; also of a key of the port, as a press.
+    /// The report of a key.
     pub report: CKeyReport,
-    /// An event of the port. With 17 where the mouse was, and `detail` is the number of the button.
-    pub input: CEvent,
+    /// The report of the mouse.
+    pub mouse: CMouseReport,
     /// How many bytes the event brings.
     pub text_len: usize,
 }
@@ -120,6 +135,16 @@ const NO_REPORT: CKeyReport = CKeyReport {
     base: 0,
 };
 
+// All zero: what an event of another kind has.
+const NO_MOUSE: CMouseReport = CMouseReport {
+    kind: 0,
+    button: 0,
+    buttons: 0,
+    modifiers: 0,
+    x: 0,
+    y: 0,
+};
+
 // All zero: what an event of no kind has.
 const NO_EXTENDED_EVENT: CExtendedEvent = CExtendedEvent {
     kind: KIND_OTHER,
@@ -131,7 +156,7 @@ const NO_EXTENDED_EVENT: CExtendedEvent = CExtendedEvent {
     height: 0,
     width: 0,
     report: NO_REPORT,
-    input: NO_EVENT,
+    mouse: NO_MOUSE,
     text_len: 0,
 };
 
@@ -161,91 +186,90 @@ fn c_report(report: &KeyReport) -> CKeyReport
     }
 }
 
-// A key of the port, as the report of a press.
-#[tactic(auto, unfolding(crate::specs::ExtendedEvents::key_event_kind_number, termwiz_bindings::specs::Numbers::reported_number, termwiz_bindings::specs::Numbers::reported_detail))]
-fn c_press(event: &KeyEvent) -> CKeyReport
-    ensures { result ≡ c_report (pressed_key event.now) }
+// The number of what happened to the mouse.
+#[tactic(auto, unfolding(crate::specs::ExtendedEvents::mouse_kind_number))]
+fn mouse_kind_number(kind: MouseKind) -> u8
+    ensures { result ≡ mouse_kind_number kind }
 {
-    CKeyReport {
-        kind: KEY_EVENT_KIND_PRESS,
-        modifiers: event.modifiers.encode_xterm(),
-        key: key_number(event.key),
-        detail: key_detail(event.key),
-        shifted: NO_CODE,
-        base: NO_CODE,
+    match kind {
+        MouseKind::Press => MOUSE_KIND_PRESS,
+        MouseKind::Release => MOUSE_KIND_RELEASE,
+        MouseKind::Drag => MOUSE_KIND_DRAG,
+        MouseKind::Move => MOUSE_KIND_MOVE,
+        MouseKind::Wheel => MOUSE_KIND_WHEEL,
     }
 }
 
-// The report of an event's key, all zero if it has none.
-fn c_key_of(event: &ExtendedEvent) -> CKeyReport
-    ensures { result ≡ c_report_if (key_of_event event.now) }
+// A mouse report as C has it.
+fn c_mouse(report: &MouseReport) -> CMouseReport
+    ensures { result ≡ c_mouse report.now }
 {
-    match event {
-        ExtendedEvent::Key(report) => c_report(report),
-        ExtendedEvent::Input(InputEvent::Key(key)) => c_press(key),
-        _ => NO_REPORT,
+    CMouseReport {
+        kind: mouse_kind_number(report.kind),
+        button: report.button.unwrap_or(0),
+        buttons: report.buttons.bits(),
+        modifiers: report.modifiers.bits(),
+        x: report.x,
+        y: report.y,
     }
 }
 
 // The bytes that an event brings.
 #[tactic(auto, unfolding(crate::specs::ExtendedEvents::own_bytes))]
-fn bytes_of(event: &ExtendedEvent) -> &[u8]
+fn bytes_of(event: &Event) -> &[u8]
     ensures { result.now ≡ bytes_of event.now }
 {
     match event {
-        ExtendedEvent::Input(InputEvent::Paste(text)) => text.as_str().as_bytes(),
-        ExtendedEvent::Key(report) => report.text.as_str().as_bytes(),
-        ExtendedEvent::Csi(bytes)
-        | ExtendedEvent::Osc(bytes)
-        | ExtendedEvent::Dcs(bytes)
-        | ExtendedEvent::Apc(bytes)
-        | ExtendedEvent::StringPart { bytes, .. }
-        | ExtendedEvent::StringCut { bytes, .. } => bytes.as_slice(),
+        Event::Paste(text) => text.as_str().as_bytes(),
+        Event::Key(report) => report.text.as_str().as_bytes(),
+        Event::Csi(bytes)
+        | Event::Osc(bytes)
+        | Event::Dcs(bytes)
+        | Event::Apc(bytes)
+        | Event::StringPart { bytes, .. }
+        | Event::StringCut { bytes, .. } => bytes.as_slice(),
         _ => &[],
     }
 }
 
 // The same, taken out of the event. `None` if its kind has no bytes.
 #[tactic(auto, unfolding(crate::specs::ExtendedEvents::own_bytes))]
-pub(crate) fn own_bytes(event: ExtendedEvent) -> Option<Vec<u8>>
+pub(crate) fn own_bytes(event: Event) -> Option<Vec<u8>>
     ensures { option_map (λ bytes. bytes.items) result ≡ own_bytes event }
 {
     match event {
-        ExtendedEvent::Input(InputEvent::Paste(text)) => Some(text.into_string().into_bytes()),
-        ExtendedEvent::Key(report) => Some(report.text.into_string().into_bytes()),
-        ExtendedEvent::Csi(bytes)
-        | ExtendedEvent::Osc(bytes)
-        | ExtendedEvent::Dcs(bytes)
-        | ExtendedEvent::Apc(bytes)
-        | ExtendedEvent::StringPart { bytes, .. }
-        | ExtendedEvent::StringCut { bytes, .. } => Some(bytes.into_vec()),
+        Event::Paste(text) => Some(text.into_string().into_bytes()),
+        Event::Key(report) => Some(report.text.into_string().into_bytes()),
+        Event::Csi(bytes)
+        | Event::Osc(bytes)
+        | Event::Dcs(bytes)
+        | Event::Apc(bytes)
+        | Event::StringPart { bytes, .. }
+        | Event::StringCut { bytes, .. } => Some(bytes.into_vec()),
         _ => None,
     }
 }
 
 // The number of an event's kind.
 #[tactic(auto, unfolding(crate::specs::ExtendedEvents::kind_number))]
-fn kind_number(event: &ExtendedEvent) -> u8
+fn kind_number(event: &Event) -> u8
     ensures { result ≡ kind_number event.now }
 {
     match event {
-        ExtendedEvent::Input(InputEvent::Key(_)) => KIND_KEY,
-        ExtendedEvent::Input(InputEvent::Mouse(_)) => KIND_MOUSE,
-        ExtendedEvent::Input(InputEvent::Paste(_)) => KIND_PASTE,
-        ExtendedEvent::Input(_) => KIND_OTHER,
-        ExtendedEvent::Key(_) => KIND_REPORT,
-        ExtendedEvent::FocusGained => KIND_FOCUS_GAINED,
-        ExtendedEvent::FocusLost => KIND_FOCUS_LOST,
-        ExtendedEvent::CursorPosition { .. } => KIND_CURSOR_POSITION,
-        ExtendedEvent::Resize { .. } => KIND_RESIZE,
-        ExtendedEvent::KeyboardFlags(_) => KIND_KEYBOARD_FLAGS,
-        ExtendedEvent::Csi(_) => KIND_CSI,
-        ExtendedEvent::Osc(_) => KIND_OSC,
-        ExtendedEvent::Dcs(_) => KIND_DCS,
-        ExtendedEvent::Apc(_) => KIND_APC,
-        ExtendedEvent::StringPart { .. } => KIND_STRING_PART,
-        ExtendedEvent::StringCut { .. } => KIND_STRING_CUT,
-        ExtendedEvent::SideButton(_) => KIND_SIDE_BUTTON,
+        Event::Key(_) => KIND_KEY,
+        Event::Mouse(_) => KIND_MOUSE,
+        Event::Paste(_) => KIND_PASTE,
+        Event::FocusGained => KIND_FOCUS_GAINED,
+        Event::FocusLost => KIND_FOCUS_LOST,
+        Event::CursorPosition { .. } => KIND_CURSOR_POSITION,
+        Event::Resize { .. } => KIND_RESIZE,
+        Event::KeyboardFlags(_) => KIND_KEYBOARD_FLAGS,
+        Event::Csi(_) => KIND_CSI,
+        Event::Osc(_) => KIND_OSC,
+        Event::Dcs(_) => KIND_DCS,
+        Event::Apc(_) => KIND_APC,
+        Event::StringPart { .. } => KIND_STRING_PART,
+        Event::StringCut { .. } => KIND_STRING_CUT,
     }
 }
 
@@ -261,53 +285,31 @@ fn string_kind_number(kind: StringKind) -> u8
     }
 }
 
-// The number of what happened to a side button.
-#[tactic(auto, unfolding(crate::specs::ExtendedEvents::side_button_number))]
-fn side_button_number(kind: SideButtonKind) -> u8
-    ensures { result ≡ side_button_number kind }
-{
-    match kind {
-        SideButtonKind::Press => SIDE_BUTTON_PRESS,
-        SideButtonKind::Release => SIDE_BUTTON_RELEASE,
-        SideButtonKind::Drag => SIDE_BUTTON_DRAG,
-    }
-}
-
-// Where the mouse was, and the number of a side button.
-fn side_input(report: &SideButtonEvent) -> CEvent
-    ensures { result ≡ side_input report.now }
-{
-    CEvent {
-        modifiers: report.modifiers.bits(),
-        x: report.x,
-        y: report.y,
-        detail: report.number.into(),
-        ..NO_EVENT
-    }
-}
-
 // An event as C has it.
 #[tactic(auto, unfolding(crate::specs::ExtendedEvents::c_extended_event))]
-pub(crate) fn c_extended_event(event: &ExtendedEvent) -> CExtendedEvent
+pub(crate) fn c_extended_event(event: &Event) -> CExtendedEvent
     ensures { result ≡ c_extended_event event.now }
 {
     let shown = CExtendedEvent {
         kind: kind_number(event),
-        report: c_key_of(event),
         text_len: bytes_of(event).len(),
         ..NO_EXTENDED_EVENT
     };
     match event {
-        ExtendedEvent::Input(input) => CExtendedEvent {
-            input: c_event(input),
+        Event::Key(report) => CExtendedEvent {
+            report: c_report(report),
             ..shown
         },
-        ExtendedEvent::CursorPosition { row, column } => CExtendedEvent {
+        Event::Mouse(report) => CExtendedEvent {
+            mouse: c_mouse(report),
+            ..shown
+        },
+        Event::CursorPosition { row, column } => CExtendedEvent {
             row: *row,
             column: *column,
             ..shown
         },
-        ExtendedEvent::Resize {
+        Event::Resize {
             rows,
             columns,
             height,
@@ -319,16 +321,11 @@ pub(crate) fn c_extended_event(event: &ExtendedEvent) -> CExtendedEvent
             width: *width,
             ..shown
         },
-        ExtendedEvent::KeyboardFlags(flags) => CExtendedEvent {
+        Event::KeyboardFlags(flags) => CExtendedEvent {
             flags: *flags,
             ..shown
         },
-        ExtendedEvent::SideButton(report) => CExtendedEvent {
-            flags: side_button_number(report.kind),
-            input: side_input(report),
-            ..shown
-        },
-        ExtendedEvent::StringPart { kind, .. } | ExtendedEvent::StringCut { kind, .. } => {
+        Event::StringPart { kind, .. } | Event::StringCut { kind, .. } => {
             CExtendedEvent {
                 flags: string_kind_number(*kind),
                 ..shown

@@ -1,48 +1,130 @@
 //! The calls that say how an extended parser reads.
-ghost use Rattle.std.specs.Prelude.{◌≡◌, ◌⊎◌, true, false, None};
+ghost use Rattle.std.specs.Prelude.{◌≡◌, ◌⊎◌, true, false, None, IfSome, IfNone};
 ghost use Rattle.termwiz_extended_events.specs.declared.types.Reading.{Reading as AReading};
-ghost use Rattle.hedrugal.specs.ExtendedCalls.{IsNoProtocol};
-ghost use Rattle.hedrugal.specs.ExtendedEvents.{protocol_number};
+ghost use Rattle.termwiz_extended_events.specs.declared.types.EraseByte.{EraseByte as AnErase};
+ghost use Rattle.termwiz_extended_events.specs.declared.types.NewlineByte.{NewlineByte as ANewline};
+ghost use Rattle.hedrugal.specs.ExtendedEvents.{erase_number, newline_number};
 ghost use Rattle.hedrugal.specs.ExtendedTimings.{KeepsTime};
-ghost use Rattle.hedrugal.specs.ReadingCalls.{HasReading, ReadsAfter, ReadsBy, c_reading, forgotten, one_more};
+ghost use Rattle.hedrugal.specs.ReadingCalls.{HasReading, IsBadReading, ReadsAfter, ReadsBy, StandFor, c_reading, forgotten, one_more};
 
-use crate::extended_calls::{protocol_at, protocol_number};
+use crate::extended_calls::{dialect_at, dialect_number};
 use crate::handles::ExtendedHandle;
-use termwiz_input_extended::types::Reading;
+use termwiz_input_extended::types::{EraseByte, NewlineByte, Reading};
 
 /// `hed_reading`: how an extended parser reads, in numbers.
 #[repr(C)]
 #[derive(Clone, Copy)]
 pub struct CReading {
-    /// The number of the protocol that the program turned on.
-    pub protocol: u32,
+    /// The number of the dialect.
+    pub dialect: u32,
+    /// The number of the byte that the Backspace key sends.
+    pub erase: u32,
+    /// The number of what byte 10 is.
+    pub newline: u32,
     /// Whether X10 mouse reports are read.
     pub x10_mouse: bool,
     /// How many questions for the cursor's position are open.
     pub questions: u8,
 }
 
-/// Has a parser read so from now on, also what is buffered. The answer is false, and nothing changes, if no protocol has the number or there
+// What the Backspace key may send.
+const ERASE_DELETE: u32 = 0;
+
+const ERASE_BACKSPACE: u32 = 1;
+
+// What byte 10 may be.
+const NEWLINE_CTRL_J: u32 = 0;
+
+const NEWLINE_ENTER: u32 = 1;
+
+// The byte of the Backspace key that has this number.
+#[tactic(auto, unfolding(crate::specs::ExtendedEvents::erase_number))]
+fn erase_at(number: u32) -> Option<EraseByte>
+    ensures some { IfSome result (λ erase. erase_number erase ≡ number) }
+    ensures none { IfNone result ((erase : AnErase) → ¬ (erase_number erase ≡ number)) }
+{
+    match number {
+        ERASE_DELETE => Some(EraseByte::Delete),
+        ERASE_BACKSPACE => Some(EraseByte::Backspace),
+        _ => None,
+    }
+}
+
+// The number of the byte of the Backspace key.
+#[tactic(auto, unfolding(crate::specs::ExtendedEvents::erase_number))]
+fn erase_number(erase: EraseByte) -> u32
+    ensures { result ≡ erase_number erase }
+{
+    match erase {
+        EraseByte::Delete => ERASE_DELETE,
+        EraseByte::Backspace => ERASE_BACKSPACE,
+    }
+}
+
+// What byte 10 is, by its number.
+#[tactic(auto, unfolding(crate::specs::ExtendedEvents::newline_number))]
+fn newline_at(number: u32) -> Option<NewlineByte>
+    ensures some { IfSome result (λ newline. newline_number newline ≡ number) }
+    ensures none { IfNone result ((newline : ANewline) → ¬ (newline_number newline ≡ number)) }
+{
+    match number {
+        NEWLINE_CTRL_J => Some(NewlineByte::CtrlJ),
+        NEWLINE_ENTER => Some(NewlineByte::Enter),
+        _ => None,
+    }
+}
+
+// The number of what byte 10 is.
+#[tactic(auto, unfolding(crate::specs::ExtendedEvents::newline_number))]
+fn newline_number(newline: NewlineByte) -> u32
+    ensures { result ≡ newline_number newline }
+{
+    match newline {
+        NewlineByte::CtrlJ => NEWLINE_CTRL_J,
+        NewlineByte::Enter => NEWLINE_ENTER,
+    }
+}
+
+// The reading that the numbers stand for.
+fn reading_of(numbers: &CReading) -> Option<Reading>
+    ensures some { IfSome result (λ reading. StandFor numbers.now reading) }
+    ensures none { IfNone result (IsBadReading numbers.now) }
+{
+    let Some(dialect) = dialect_at(numbers.dialect) else {
+        return None;
+    };
+    let Some(erase) = erase_at(numbers.erase) else {
+        return None;
+    };
+    let Some(newline) = newline_at(numbers.newline) else {
+        return None;
+    };
+    Some(Reading {
+        dialect,
+        x10_mouse: numbers.x10_mouse,
+        questions: numbers.questions,
+        erase,
+        newline,
+    })
+}
+
+/// Has a parser read so from now on, also what is buffered. The answer is false, and nothing changes, if a number stands for nothing or there
 /// is no parser.
 #[unsafe(no_mangle)]
 pub extern "C" fn hed_extended_set_reading(parser: &mut ExtendedHandle, reading: &CReading) -> bool
     ensures set { result ≡ true → ReadsBy parser.old.state.held reading.now parser.new.state.held }
     ensures refused { result ≡ false → parser.new.state.held ≡ parser.old.state.held }
-    ensures only { result ≡ false → IsNoProtocol reading.now.protocol ⊎ (parser.old.state.held ≡ None) }
-    ensures no_protocol { IsNoProtocol reading.now.protocol → result ≡ false }
+    ensures only { result ≡ false → IsBadReading reading.now ⊎ (parser.old.state.held ≡ None) }
+    ensures bad_reading { IsBadReading reading.now → result ≡ false }
     ensures time { KeepsTime parser.old parser.new }
 {
-    let Some(protocol) = protocol_at(reading.protocol) else {
+    let Some(reading) = reading_of(reading) else {
         return false;
     };
     let Some(held) = parser.get_mut() else {
         return false;
     };
-    held.parser.set_reading(Reading {
-        protocol,
-        x10_mouse: reading.x10_mouse,
-        questions: reading.questions,
-    });
+    held.parser.set_reading(reading);
     true
 }
 
@@ -60,7 +142,9 @@ pub extern "C" fn hed_extended_reading(parser: &mut ExtendedHandle, reading: &mu
     };
     let now = held.parser.reading();
     *reading = CReading {
-        protocol: protocol_number(now.protocol),
+        dialect: dialect_number(now.dialect),
+        erase: erase_number(now.erase),
+        newline: newline_number(now.newline),
         x10_mouse: now.x10_mouse,
         questions: now.questions,
     };

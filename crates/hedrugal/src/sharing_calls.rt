@@ -1,12 +1,12 @@
 // The calls that make a parser with the sequence table of another.
 ghost use Rattle.std.specs.Prelude.{◌≡◌, true, false, None};
 ghost use Rattle.hedrugal.specs.Calls.{IsFresh};
-ghost use Rattle.hedrugal.specs.ExtendedCalls.{IsNoProtocol, IsFresh as IsFreshExtended};
+ghost use Rattle.hedrugal.specs.ExtendedCalls.{IsNoDialect, IsFresh as IsFreshExtended};
 ghost use Rattle.hedrugal.specs.ExtendedTimings.{BeginsTime as BeginsExtendedTime, KeepsTime as KeepsExtendedTime};
 ghost use Rattle.hedrugal.specs.Timings.{BeginsTime, KeepsTime};
 
 use crate::extended_and_text::ExtendedAndText;
-use crate::extended_calls::protocol_at;
+use crate::extended_calls::dialect_at;
 use crate::handles::{ExtendedHandle, ParserHandle};
 use crate::parser_and_paste::ParserAndPaste;
 use std::alloc::Global;
@@ -65,31 +65,31 @@ pub extern "C" fn hed_parser_init_sharing_extended(
         .replace(alloc, ParserAndPaste::of(alloc, made))
 }
 
-/// Makes an extended parser for the protocol with this number, with the sequence table of another, and frees the one that was there. If
-/// memory is refused, no protocol has the number, or there is no other, the answer is false and nothing changes.
+/// Makes an extended parser of the dialect with this number, with the sequence table of another, and frees the one that was there. If
+/// memory is refused, no dialect has the number, or there is no other, the answer is false and nothing changes.
 #[unsafe(no_mangle)]
 pub extern "C" fn hed_extended_init_sharing(
     alloc: Global,
     parser: &mut ExtendedHandle,
-    protocol: u32,
+    dialect: u32,
     other: &mut ExtendedHandle,
 ) -> bool
-    ensures made { result ≡ true → IsFreshExtended parser.new.state.held protocol }
+    ensures made { result ≡ true → IsFreshExtended parser.new.state.held dialect }
     ensures refused { result ≡ false → parser.new.state.held ≡ parser.old.state.held }
-    ensures no_protocol { IsNoProtocol protocol → result ≡ false }
+    ensures no_dialect { IsNoDialect dialect → result ≡ false }
     ensures no_other { other.old.state.held ≡ None → result ≡ false }
     ensures same { other.new.state ≡ other.old.state }
     ensures begins { result ≡ true → BeginsExtendedTime parser.new }
     ensures refused_time { result ≡ false → KeepsExtendedTime parser.old parser.new }
     ensures same_time { KeepsExtendedTime other.old other.new }
 {
-    let Some(protocol) = protocol_at(protocol) else {
+    let Some(dialect) = dialect_at(dialect) else {
         return false;
     };
     let Some(held) = other.get_mut() else {
         return false;
     };
-    let Ok(made) = held.parser.sharing(protocol) else {
+    let Ok(made) = held.parser.sharing(dialect) else {
         return false;
     };
     parser
@@ -102,25 +102,25 @@ pub extern "C" fn hed_extended_init_sharing(
 pub extern "C" fn hed_extended_init_sharing_parser(
     alloc: Global,
     parser: &mut ExtendedHandle,
-    protocol: u32,
+    dialect: u32,
     other: &mut ParserHandle,
 ) -> bool
-    ensures made { result ≡ true → IsFreshExtended parser.new.state.held protocol }
+    ensures made { result ≡ true → IsFreshExtended parser.new.state.held dialect }
     ensures refused { result ≡ false → parser.new.state.held ≡ parser.old.state.held }
-    ensures no_protocol { IsNoProtocol protocol → result ≡ false }
+    ensures no_dialect { IsNoDialect dialect → result ≡ false }
     ensures no_other { other.old.state.held ≡ None → result ≡ false }
     ensures same { other.new.state ≡ other.old.state }
     ensures same_time { KeepsTime other.old other.new }
     ensures begins { result ≡ true → BeginsExtendedTime parser.new }
     ensures refused_time { result ≡ false → KeepsExtendedTime parser.old parser.new }
 {
-    let Some(protocol) = protocol_at(protocol) else {
+    let Some(dialect) = dialect_at(dialect) else {
         return false;
     };
     let Some(held) = other.get_mut() else {
         return false;
     };
-    let Ok(made) = ExtendedParser::sharing_table_of(alloc, &held.parser, protocol) else {
+    let Ok(made) = ExtendedParser::sharing_table_of(alloc, &held.parser, dialect) else {
         return false;
     };
     parser

@@ -6,7 +6,7 @@ use Rattle.std.specs.Char.{encode_utf8}
 use Rattle.std.specs.Str.{chars}
 use Rattle.std.proofs.lemmas.Str.{IsUtf8-nil}
 use Rattle.termwiz_keys.specs.declared.types.KeyCode.{KeyCode}
-use Rattle.termwiz_keys.specs.declared.types.KeyCode.TheVariants.{Char, Function, Tab, Numpad5, Applications}
+use Rattle.termwiz_keys.specs.declared.types.KeyCode.TheVariants.{Char, Function, Tab, Backspace, Numpad5, Applications}
 use Rattle.termwiz_grammar.proofs.lemmas.lists.ListMembers.{same_on}
 use Rattle.termwiz_extended_events.specs.declared.types.KeyReport.{KeyReport}
 use Rattle.termwiz_extended_events.specs.declared.types.Reading.{Reading}
@@ -18,11 +18,14 @@ use Rattle.termwiz_kitty.specs.Telling.{sends_control, telling, reported, is_leg
 use Rattle.termwiz_kitty.specs.KittyTexts.{manner_text, codes_text, fields_behind, coded_text, numbered_text, sequence_text, typed_text, legacy_bytes, kitty_text}
 use Rattle.termwiz_kitty.specs.KittyLaws.{IsKey, press_of}
 use Rattle.termwiz_bindings.specs.declared.press.KeyPress.{KeyPress}
-use Rattle.termwiz_bindings.specs.Presses.{SHIFT, CTRL, SUPER}
-use Rattle.termwiz_binding_laws.specs.KittyPresses.{IsPressed, IsReadWith, is_in_tables, press_before, needs_kitty, presses_that_wait}
+use Rattle.termwiz_bindings.specs.Presses.{SHIFT, CTRL, SUPER, canonical}
+use Rattle.termwiz_binding_laws.specs.EncodedPresses.{HasFirstSettings}
+use Rattle.termwiz_binding_laws.specs.KittyPresses.{IsPressed, is_in_tables, kitty_twin, presses_that_wait}
+use Rattle.termwiz_binding_laws.specs.SentPresses.{IsReadLike}
+use Rattle.termwiz_binding_laws.specs.SentPresses.Sent.{by_kitty}
 use Rattle.termwiz_binding_laws.specs.LegacyTwins.{legacy_twin}
 use Rattle.termwiz_binding_laws.proofs.lemmas.ComputedPresses.{canonical_written_out}
-use Rattle.termwiz_binding_laws.proofs.lemmas.PressesBefore.{presses_before_kitty}
+use Rattle.termwiz_binding_laws.proofs.lemmas.SentPresses.{presses_of_what_is_sent}
 
 -- what is written without any flag: to unfold this is to unfold every rule, of writing and of presses
 unfoldable written_out : KeyReport → Option (List ℕ)
@@ -50,7 +53,7 @@ can_be_pressed key held is fits normal = record {
 record Comes (r : KeyReport) (text : List ℕ) (p : KeyPress) : Type 0 where
   pressed : IsPressed r
   written : kitty_text r 0 ≡ Some text
-  read : press_before r 0 ≡ Some p
+  read : canonical (kitty_twin r 0) ≡ Some p
 
 abbrev press : KeyCode → ℕ → KeyPress
 press key held = record { key = Named key; held = held }
@@ -83,37 +86,39 @@ tab_comes_at_once here =
     same_on (option_map (λ (p : KeyPress). sends_control p.key)) (λ p. Some false) presses_that_wait (Some (press Tab 0)) refl here in
     cc (never)
 
-ctrl_i_needs : needs_kitty (press_of (Char 105) CTRL) 0 ≡ false
-unfolding written_out
-ctrl_i_needs = refl
-
--- so the law says that this is Tab under every reading, with more to come too
-ctrl_i_is_tab : (reading : Reading) → IsReadWith reading (9 ∷ []) true (Some (press Tab 0))
-ctrl_i_is_tab reading =
-    subst (IsReadWith reading (9 ∷ []) true) ctrl_i.read
-    (presses_before_kitty reading (press_of (Char 105) CTRL) 0 (9 ∷ []) true ctrl_i.pressed no_flag (λ needs. cc (needs, ctrl_i_needs))
-    (λ comes longer. tab_comes_at_once (subst (Contains presses_that_wait) ctrl_i.read longer.1)) ctrl_i.written (λ e. cc (e))
-    (λ e. omega arith))
+-- so the law says that this is Tab to a parser with its first settings, with more to come too
+ctrl_i_is_tab : (reading : Reading) → HasFirstSettings reading → IsReadLike reading (9 ∷ []) true (kitty_twin (press_of (Char 105) CTRL) 0 ∷ [])
+ctrl_i_is_tab reading first =
+    presses_of_what_is_sent reading (by_kitty (press_of (Char 105) CTRL) 0) (9 ∷ []) true first ctrl_i.written (λ e. cc (e)) (record {
+      pressed = ctrl_i.pressed;
+      within = λ e. omega arith;
+      alone = λ comes longer. tab_comes_at_once (subst (Contains presses_that_wait) ctrl_i.read longer.1);
+    })
 
 -- the keypad's 5 with Ctrl sends what Ctrl makes of 5
 ctrl_keypad : Comes (press_of Numpad5 CTRL) (29 ∷ []) (press (Char 93) CTRL)
 unfolding written_out
 ctrl_keypad = record { pressed = can_be_pressed Numpad5 CTRL tt (lit< tt) refl; written = refl; read = refl }
 
--- Ctrl, Shift and a letter are sent as a report, which Kitty's protocol reads
+-- Ctrl, Shift and a letter are sent as a report
 ctrl_shift_a : Comes (press_of (Char 97) (SHIFT + CTRL)) (27 ∷ 91 ∷ codes "97;6u") (press (Char 97) (SHIFT + CTRL))
 unfolding written_out
 ctrl_shift_a = record { pressed = can_be_pressed (Char 97) (SHIFT + CTRL) refl (lit< tt) refl; written = refl; read = refl }
-
-ctrl_shift_a_needs : needs_kitty (press_of (Char 97) (SHIFT + CTRL)) 0 ≡ true
-unfolding written_out
-ctrl_shift_a_needs = refl
 
 -- Applications sends SUPER behind a number, in the tables too
 super_menu : Comes (press_of Applications SUPER) (27 ∷ 91 ∷ codes "29;9~") (press (Function 16) SUPER)
 unfolding written_out
 super_menu = record { pressed = can_be_pressed Applications SUPER tt (lit< tt) refl; written = refl; read = refl }
 
-super_menu_needs : needs_kitty (press_of Applications SUPER) 0 ≡ true
+-- Ctrl and h, and Ctrl and Backspace, send the byte 8, and Ctrl and j sends 10: they are read as ctrl+h and ctrl+j
+ctrl_h : Comes (press_of (Char 104) CTRL) (8 ∷ []) (press (Char 104) CTRL)
 unfolding written_out
-super_menu_needs = refl
+ctrl_h = record { pressed = can_be_pressed (Char 104) CTRL refl (lit< tt) refl; written = refl; read = refl }
+
+ctrl_backspace : Comes (press_of Backspace CTRL) (8 ∷ []) (press (Char 104) CTRL)
+unfolding written_out
+ctrl_backspace = record { pressed = can_be_pressed Backspace CTRL tt (lit< tt) refl; written = refl; read = refl }
+
+ctrl_j : Comes (press_of (Char 106) CTRL) (10 ∷ []) (press (Char 106) CTRL)
+unfolding written_out
+ctrl_j = record { pressed = can_be_pressed (Char 106) CTRL refl (lit< tt) refl; written = refl; read = refl }

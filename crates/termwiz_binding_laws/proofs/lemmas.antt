@@ -5,10 +5,10 @@ pub mod ComputedPresses
 pub mod EncodedKeys
 pub mod EscapedCharacters
 pub mod EveryReading
+pub mod KeysRead
 pub mod KittyPresses
 pub mod KittyReports
 pub mod KittyTyped
-pub mod LegacyReading
 pub mod MenuReports
 pub mod ModeClasses
 pub mod NamedPresses
@@ -18,8 +18,10 @@ pub mod OwnTwins
 pub mod PortPresses
 pub mod PressesBefore
 pub mod Readers
+pub mod ReportsRead
 pub mod RowReports
 pub mod SameTexts
+pub mod SentPresses
 pub mod TextPresses
 pub mod ToldKeys
 pub mod TwinSources

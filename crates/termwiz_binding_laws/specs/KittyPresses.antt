@@ -1,27 +1,22 @@
 -- What is read of the texts of Kitty's protocol, as presses.
-use Rattle.std.specs.Prelude.{◌≡◌, ◌≢◌, ◌⊎◌, ◌==◌, ◌&&◌, ◌||◌, ℕ, Bool, true, false, not, List, [], ◌∷◌, map, nat_le, Option, Some, None, is_some, if◌then◌else◌, Contains}
+use Rattle.std.specs.Prelude.{◌≡◌, ◌⊎◌, ◌==◌, ◌&&◌, ◌||◌, ℕ, Bool, true, false, not, List, [], ◌∷◌, map, Option, Some, None, is_some, if◌then◌else◌, Contains}
 use Rattle.std.specs.Char.{is_ascii_lowercase}
 use Rattle.std.specs.List.{list_any}
 use Rattle.std.specs.Str.{chars}
 use Rattle.termwiz_keys.specs.declared.types.KeyCode.{KeyCode}
-use Rattle.termwiz_keys.specs.declared.types.KeyCode.TheVariants.{Char, Applications}
+use Rattle.termwiz_keys.specs.declared.types.KeyCode.TheVariants.{Char}
 use Rattle.termwiz_keys.specs.KeyCodes.{holds}
-use Rattle.termwiz_extended_events.specs.declared.types.ExtendedEvent.{ExtendedEvent}
 use Rattle.termwiz_extended_events.specs.declared.types.KeyReport.{KeyReport}
-use Rattle.termwiz_extended_events.specs.declared.types.Protocol.TheVariants.{Kitty}
-use Rattle.termwiz_extended_events.specs.declared.types.Reading.{Reading}
 use Rattle.termwiz_extended_events.specs.declared.types.ReportedKey.{ReportedKey}
 use Rattle.termwiz_extended_events.specs.declared.types.ReportedKey.TheVariants.{Named}
-use Rattle.termwiz_extended_grammar.specs.ExtendedGrammar.{Means}
 use Rattle.termwiz_kitty.specs.KeyForms.{is_character}
-use Rattle.termwiz_kitty.specs.Telling.{DISAMBIGUATE, ALTERNATE_KEYS, ALL_KEYS, ASSOCIATED_TEXT, is_release, is_shifted, is_typed_text, without_locks, is_legacy, told_key, tells_all_keys, types, legacy_of}
-use Rattle.termwiz_kitty.specs.KittyTexts.{kitty_text, shown, IsWithin}
+use Rattle.termwiz_kitty.specs.Telling.{DISAMBIGUATE, ALTERNATE_KEYS, ALL_KEYS, ASSOCIATED_TEXT, is_release, is_shifted, is_typed_text, without_locks, told_key, tells_all_keys, types, legacy_of}
+use Rattle.termwiz_kitty.specs.KittyTexts.{shown}
 use Rattle.termwiz_kitty.specs.KittyLaws.{IsReport, IsWritable, keys_that_wait}
 use Rattle.termwiz_bindings.specs.declared.press.KeyPress.{KeyPress}
 use Rattle.termwiz_bindings.specs.Letters.{is_shifted as is_shifted_character}
 use Rattle.termwiz_bindings.specs.MainKeys.{is_no_key}
 use Rattle.termwiz_bindings.specs.Presses.{canonical, counted, without_shift}
-use Rattle.termwiz_binding_laws.specs.EncodedPresses.{press_of_event}
 use Rattle.termwiz_binding_laws.specs.LegacyTwins.{legacy_twin}
 
 -- the flags with which presses are told: those of keys and of what they type with Shift, and that of texts with that of all keys
@@ -78,9 +73,9 @@ abbrev pub TypedKeysKeepPresses : Type 0
 TypedKeysKeepPresses = (r : KeyReport) → IsPressed r → types r.key r ≡ true → loses_shift r ≡ false
     → canonical (typed_report r.key r) ≡ canonical r
 
--- The key is sent as the text that it types, and not as its report.
+-- The key is sent as the text that it types.
 abbrev pub is_sent_as_text : KeyReport → ℕ → Bool
-is_sent_as_text r flags = not (tells_all_keys flags) && types r.key r
+is_sent_as_text r flags = not (tells_all_keys flags) && types (told_key r flags) r
 
 -- What a report tells under these flags: with flag 4 what the key types with Shift, and with 8 and 16 its text.
 abbrev pub told_of : KeyReport → ℕ → KeyReport
@@ -89,61 +84,29 @@ told_of r flags = record r {
   text = if tells_all_keys flags && holds flags ASSOCIATED_TEXT then r.text else [];
 }
 
--- The text is one event, of this press or without one, and nothing waits.
-abbrev pub IsReadWith : Reading → List ℕ → Bool → Option KeyPress → Type 0
-IsReadWith reading text more p = (event : ExtendedEvent) × Means reading text more (event ∷ []) [] × (press_of_event event ≡ p)
-
--- What a terminal writes for such a report, if it writes something, is read as one event. Of a report that event has the given press. Of a
--- text it has the press of what the text tells.
-abbrev pub IsReadAsTold : KeyReport → ℕ → Option KeyPress → Type 0
-IsReadAsTold r flags reported = (reading : Reading) (text : List ℕ) (more : Bool) → reading.protocol ≡ Kitty
-    → kitty_text r flags ≡ Some text → text ≢ [] → IsWithin r flags text
-    → IsReadWith reading text more (if is_sent_as_text r flags then canonical (typed_report r.key r) else reported)
-
--- With flag 1 or 8 a report is read as the press of what it tells.
-abbrev pub KittyTellsPresses : Type 0
-KittyTellsPresses = (r : KeyReport) (flags : ℕ) → IsPressed r → is_legacy flags ≡ false
-    → IsReadAsTold r flags (canonical (told_of r flags))
-
--- With flags that tell presses a report is read as the very press of the key.
-abbrev pub KittyKeepsPresses : Type 0
-KittyKeepsPresses = (r : KeyReport) (flags : ℕ) → IsPressed r → TellsPresses flags → IsReadAsTold r flags (canonical r)
-
--- Before the protocol all modifiers count but the locks.
+-- before the protocol all modifiers count but the locks
 abbrev pub held_before : KeyReport → ℕ
 held_before r = without_locks r.modifiers
 
--- The key is sent as the text that it types.
-abbrev pub types_before : KeyReport → ℕ → Bool
-types_before r flags = types (told_key r flags) r
-
--- Or it is sent as a text of the tables from before the protocol.
+-- The key is sent as a text of the tables from before the protocol.
 abbrev pub is_in_tables : KeyReport → ℕ → Bool
-is_in_tables r flags = not (types_before r flags) && is_some (legacy_of r flags)
+is_in_tables r flags = not (is_sent_as_text r flags) && is_some (legacy_of r flags)
 
--- The press that is read of a key that is sent so before the protocol: that of what a typed text tells, that of the key's twin of a text of the
--- tables, and that of what a report tells.
-abbrev pub press_before : KeyReport → ℕ → Option KeyPress
-press_before r flags =
-    if types_before r flags then canonical (typed_report (told_key r flags) r)
-    else (if is_in_tables r flags then canonical (legacy_twin (told_key r flags) (held_before r) r.shifted)
-    else canonical (told_of r flags))
+-- The twin of a press under these flags: what a typed text tells, the key's twin of a text of the tables, or what a report tells.
+abbrev pub kitty_twin : KeyReport → ℕ → KeyReport
+kitty_twin r flags =
+    if is_sent_as_text r flags then typed_report (told_key r flags) r
+    else (if is_in_tables r flags then legacy_twin (told_key r flags) (held_before r) r.shifted
+    else told_of r flags)
+
+-- With flags that tell presses that is the very press of the key, unless it is sent as a text that loses SHIFT.
+abbrev pub KittyKeepsPresses : Type 0
+KittyKeepsPresses = (r : KeyReport) (flags : ℕ) → IsPressed r → TellsPresses flags → (is_sent_as_text r flags ≡ true → loses_shift r ≡ false)
+    → canonical (kitty_twin r flags) ≡ canonical r
 
 -- the press of a key that has its name, with these modifiers
 abbrev pub key_press : KeyCode → ℕ → KeyPress
 key_press key held = record { key = Named key; held = held }
-
--- Applications, which sends its modifiers behind a number
-abbrev pub is_applications : ReportedKey → Bool
-is_applications (Named Applications) = true
-is_applications key = false
-
--- Only Kitty's protocol tells the modifiers: those of a report, and with the text of Applications SUPER, HYPER and META.
-abbrev pub needs_kitty : KeyReport → ℕ → Bool
-needs_kitty r flags =
-    if types_before r flags then false
-    else (if is_in_tables r flags then is_applications (told_key r flags) && nat_le 8 (held_before r)
-    else true)
 
 -- The presses whose texts begin sequences or strings: Escape, and Escape, [ O P ] and _ with ALT.
 abbrev pub presses_that_wait : List (Option KeyPress)
@@ -151,12 +114,4 @@ presses_that_wait = map (λ (k : KeyCode × ℕ). Some (key_press k.0 k.1)) keys
 
 -- The text is one of the tables that begins something longer.
 abbrev pub BeginsLonger : KeyReport → ℕ → Type 0
-BeginsLonger r flags = (is_in_tables r flags ≡ true) × Contains presses_that_wait (press_before r flags)
-
--- Without flags 1 and 8 what a terminal writes, if it writes something, is read as one event of that press. That is so under every reading, or
--- under Kitty's protocol where only it tells the modifiers. With more to come nothing is said of a text that begins something longer.
-abbrev pub PressesBeforeKitty : Type 0
-PressesBeforeKitty = (reading : Reading) (r : KeyReport) (flags : ℕ) (text : List ℕ) (more : Bool) → IsPressed r → is_legacy flags ≡ true
-    → (needs_kitty r flags ≡ true → reading.protocol ≡ Kitty) → (more ≡ true → ¬ BeginsLonger r flags)
-    → kitty_text r flags ≡ Some text → text ≢ [] → IsWithin r flags text
-    → IsReadWith reading text more (press_before r flags)
+BeginsLonger r flags = (is_in_tables r flags ≡ true) × Contains presses_that_wait (canonical (kitty_twin r flags))

@@ -8,11 +8,12 @@ use Rattle.termwiz_extended_events.specs.declared.types.KeyReport.{KeyReport}
 use Rattle.termwiz_extended_events.specs.declared.types.ReportedKey.{ReportedKey}
 use Rattle.termwiz_extended_events.specs.declared.types.ReportedKey.TheVariants.{Named}
 use Rattle.termwiz_extended_events.specs.declared.types.KeyEventKind.TheVariants.{Press}
+use Rattle.termwiz_extended_events.specs.declared.types.Dialect.TheVariants.{Extended}
 use Rattle.termwiz_extended_events.specs.KeyReports.{report_of}
+use Rattle.termwiz_extended_events.specs.PortEvents.{kitty_bits}
 use Rattle.termwiz_kitty.specs.LegacyTexts.{SHIFT, ALT, CTRL}
 use Rattle.termwiz_kitty.specs.KittyTexts.{shown}
 use Rattle.termwiz_kitty.specs.KittyLaws.{press_of}
-use Rattle.termwiz_bindings.specs.Presses.{kitty_bits}
 use Rattle.termwiz_binding_laws.specs.Twins.{dropping, is_among, control_row, has_control}
 
 -- ALT alone of the modifiers
@@ -21,7 +22,7 @@ only_alt held = bit_and held ALT
 
 -- The row of what CTRL makes of a character, as in xterm's encoding. But there CTRL makes nothing of the backtick, {, | and }.
 abbrev pub legacy_row : ℕ → Option (KeyCode × ℕ)
-legacy_row c = if is_among (codes "`{|}") c then None else control_row c
+legacy_row c = if is_among (codes "`{|}") c then None else control_row Extended c
 
 -- the key of a row, with ALT too if that is held
 abbrev pub row_twin : ℕ → KeyCode × ℕ → KeyReport
@@ -42,13 +43,18 @@ character_twin c held shifted =
     else (if holds held CTRL then control_twin c held
     else press_of (Char (shown c held shifted)) (dropping held SHIFT))
 
--- The twin of a key that is pressed while these modifiers are held, with what it types with Shift. Enter, Escape and Backspace lose SHIFT and
--- CTRL, and Tab loses CTRL. Applications sends what F16 sends in xterm.
+-- Backspace with CTRL sends the byte 8, which is ctrl+h.
+abbrev pub backspace_twin : ℕ → KeyReport
+backspace_twin held =
+    if holds held CTRL then press_of (Char 104) (bit_or CTRL (only_alt held)) else press_of Backspace (only_alt held)
+
+-- The twin of a key that is pressed while these modifiers are held, with what it types with Shift. Enter and Escape lose SHIFT and CTRL, Backspace
+-- loses SHIFT, and Tab loses CTRL. Applications sends what F16 sends in xterm.
 unfoldable pub legacy_twin : ReportedKey → ℕ → Option ℕ → KeyReport
 legacy_twin (Named (Char c)) held shifted = character_twin c held shifted
 legacy_twin (Named Enter) held shifted = press_of Enter (only_alt held)
 legacy_twin (Named Escape) held shifted = press_of Escape (only_alt held)
-legacy_twin (Named Backspace) held shifted = press_of Backspace (only_alt held)
+legacy_twin (Named Backspace) held shifted = backspace_twin held
 legacy_twin (Named Tab) held shifted = press_of Tab (dropping held CTRL)
 legacy_twin (Named Applications) held shifted = press_of (Function 16) held
 legacy_twin key held shifted = report_of key (record { modifiers = held; kind = Press })

@@ -1,4 +1,5 @@
 pub mod EncodedPresses
 pub mod KittyPresses
 pub mod LegacyTwins
+pub mod SentPresses
 pub mod Twins

@@ -4,3 +4,4 @@
 
 pub mod encoded_presses;
 pub mod kitty_presses;
+pub mod sent_presses;

@@ -20,7 +20,7 @@ use Rattle.termwiz_bindings.specs.Presses.{SHIFT, ALT, CTRL, canonical, event_re
 -- the press of an event: to unfold this is to unfold every rule
 unfoldable pub event_press : KeyCode → ℕ → Option KeyPress
 unfolding canonical rules.settled rules.plain_press rules.main_press rules.control_press rules.told_press rules.shown_press
-    rules.lowered_press rules.cased_press rules.typed_press rules.kitty_bits letters.has_near_capital
+    rules.lowered_press rules.cased_press rules.typed_press letters.has_near_capital
     letters.has_far_capital letters.capital_of letters.letter_of letters.is_shifted_sign letters.shown_with_shift
     keys.makes_no_press keys.main_code keys.main_of_named functional_key chars
 event_press key bits = canonical (event_report (key_with key bits))
@@ -196,7 +196,7 @@ line_feed : event_press (Char 10) 0 ≡ pressed (Char 106) CTRL
 unfolding event_press
 line_feed = refl
 
-delete_character : event_press (Char 127) port_shift ≡ pressed Backspace SHIFT
+delete_character : event_press (Char 127) port_shift ≡ pressed Backspace (SHIFT + CTRL)
 unfolding event_press
 delete_character = refl
 

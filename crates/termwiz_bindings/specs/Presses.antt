@@ -4,11 +4,9 @@ use Rattle.std.specs.Option.{option_or}
 use Rattle.std.specs.Char.{is_control, is_ascii_control}
 use Rattle.std.specs.List.{list_any}
 use Rattle.std.specs.Str.{chars}
-use Rattle.termwiz_base.specs.Modifiers.{xterm_number}
 use Rattle.termwiz_keys.specs.declared.types.KeyCode.{KeyCode}
 use Rattle.termwiz_keys.specs.declared.types.KeyCode.TheVariants.{Char, Backspace, Tab, Enter, Escape}
 use Rattle.termwiz_keys.specs.declared.types.KeyEvent.{KeyEvent}
-use Rattle.termwiz_keys.specs.KeyCodes.{holds}
 use Rattle.termwiz_extended_events.specs.declared.types.KeyReport.{KeyReport}
 use Rattle.termwiz_extended_events.specs.declared.types.KeyEventKind.{KeyEventKind}
 use Rattle.termwiz_extended_events.specs.declared.types.KeyEventKind.TheVariants.{Press, Release}
@@ -16,6 +14,7 @@ use Rattle.termwiz_extended_events.specs.declared.types.ReportedKey.{ReportedKey
 use Rattle.termwiz_extended_events.specs.declared.types.ReportedKey.TheVariants.{Named}
 use Rattle.termwiz_extended_events.specs.ReportedKeys.{entry_at}
 use Rattle.termwiz_extended_events.specs.KeyReports.{report_of}
+use Rattle.termwiz_extended_events.specs.PortEvents.{pressed_key}
 use Rattle.termwiz_bindings.specs.declared.press.KeyPress.{KeyPress}
 use Rattle.termwiz_bindings.specs.Letters.{standard_shifted, shown_with_shift, letter_of}
 use Rattle.termwiz_bindings.specs.MainKeys.{makes_no_press, is_no_key, main_key}
@@ -129,17 +128,21 @@ by_character rule p None = p
 
 -- 6: the keys of control characters
 abbrev pub control_keys : List (ℕ × KeyCode)
-control_keys = (9, Tab) ∷ (13, Enter) ∷ (27, Escape) ∷ (127, Backspace) ∷ []
+control_keys = (9, Tab) ∷ (13, Enter) ∷ (27, Escape) ∷ []
 
--- the character that CTRL makes one of the other control characters of: the space, a letter, or one of \ ] ^ _
+-- the character that CTRL makes one of the others below the space of: the space, a letter, or one of \ ] ^ _
 abbrev pub uncontrolled : ℕ → ℕ
 uncontrolled c = if c == 0 then 32 else (if nat_le c 26 then 96 + c else 64 + c)
 
+-- the key that one of the others is with CTRL: Backspace for U+007F, and a character for those below the space
+abbrev pub key_with_control : ℕ → KeyCode
+key_with_control c = if c == 127 then Backspace else Char (uncontrolled c)
+
 abbrev pub control_character : ℕ → ℕ → Option KeyCode → KeyPress
 control_character c held (Some key) = record { key = Named key; held = held }
-control_character c held None = character_press (uncontrolled c) (bit_or held CTRL)
+control_character c held None = record { key = Named (key_with_control c); held = bit_or held CTRL }
 
--- 6: a control character is its key, or CTRL with a character
+-- 6: a control character is Tab, Enter or Escape, or another key with CTRL
 unfoldable pub control_press : KeyPress → KeyPress
 control_press p =
     by_character (λ c held. if is_ascii_control c then control_character c held (entry_at control_keys c)
@@ -215,17 +218,13 @@ typed_text r =
     if is_release r.kind then []
     else (if types_text r && not (is_some (typed_press (chars r.text) r.modifiers)) then r.text else [])
 
--- the bits of an event's modifiers as kitty's: the port's bit of SUPER is 16
-unfoldable pub kitty_bits : ℕ → ℕ
-kitty_bits held = xterm_number held + (if holds held 16 then SUPER else 0)
-
 -- the report of the press of a key with these modifiers
 abbrev pub key_report : KeyCode → ℕ → KeyReport
 key_report key modifiers = report_of (Named key) (record { modifiers = modifiers; kind = Press })
 
--- an event counts as the report of a press with its SHIFT, ALT, CTRL and SUPER
+-- a key of the port counts as the report of a press with its SHIFT, ALT, CTRL and SUPER
 abbrev pub event_report : KeyEvent → KeyReport
-event_report k = key_report k.key (kitty_bits k.modifiers.0)
+event_report k = pressed_key k
 
 -- the report of the key of a PC-101 keyboard that types this character
 abbrev pub standard_report : ℕ → ℕ → KeyReport

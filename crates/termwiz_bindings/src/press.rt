@@ -4,6 +4,7 @@ ghost use Rattle.std.specs.Char.{encode_utf8};
 ghost use Rattle.std.specs.Str.{chars};
 ghost use Rattle.termwiz_extended_events.specs.declared.types.KeyEventKind.TheVariants.{Press};
 ghost use Rattle.termwiz_extended_events.specs.KeyReports.{report_of};
+ghost use Rattle.termwiz_extended_events.specs.PortEvents.{kitty_bits};
 ghost use Rattle.termwiz_bindings.specs.Codes.{IsPress, code};
 ghost use Rattle.termwiz_bindings.specs.Presses as rules;
 ghost use Rattle.termwiz_bindings.specs.Presses.{canonical, event_report};
@@ -45,8 +46,8 @@ const ALL_BUT_SHIFT: u8 = 62;
 // The strong ones, with which a letter is told in lower case: CTRL, SUPER, HYPER and META.
 const STRONG: u8 = 60;
 
-/// A key that was pressed, and the modifiers held with it: one name for the key, whatever mode the terminal is in and whichever
-/// protocol it speaks. So a program compares presses, and looks up by them what a key does.
+/// A key that was pressed, and the modifiers held with it: one name for the key in every mode of the terminal. So a program
+/// compares presses, and looks up by them what a key does.
 ///
 /// Letters, digits and signs are the characters that they type: Shift with `a` is `A`, and with `1` on many keyboards `!`. Where
 /// CTRL, SUPER, HYPER or META is held too, a letter that has a capital keeps SHIFT: Ctrl, Shift and `a` are `a` with CTRL and
@@ -61,10 +62,9 @@ pub struct KeyPress {
     held: u8,
 }
 
-// The bits of an event's modifiers as Kitty's.
-#[tactic(auto, unfolding(crate::specs::Presses::kitty_bits))]
+// The bits of the port's modifiers as Kitty's.
 fn kitty_bits(modifiers: Modifiers) -> u8
-    ensures { result ≡ rules.kitty_bits modifiers.0 }
+    ensures { result ≡ kitty_bits modifiers.0 }
 {
     let bits = modifiers.encode_xterm();
     if modifiers.contains(Modifiers::SUPER) {
@@ -277,8 +277,8 @@ impl KeyPress {
         Some(settled(key, held, None))
     }
 
-    /// Returns the press of a key event, or `None` for a modifier or a lock by itself, and for the marks of a paste. Of the
-    /// modifiers SHIFT, ALT, CTRL and SUPER count: not LEADER, nor which of two keys is held.
+    /// Returns the press of a key that the port reads, or `None` for a modifier or a lock by itself, and for the marks of a paste. Of the
+    /// modifiers SHIFT, ALT, CTRL and SUPER count: not LEADER, nor which of two keys is held. The extended parser gives reports.
     pub fn of_event(event: &KeyEvent) -> Option<KeyPress>
         ensures value { result ≡ canonical (event_report event.now) }
         ensures press { IfSome result IsPress }

@@ -1,5 +1,4 @@
 pub mod ControlTexts
-pub mod InputKeys
 pub mod KeyReportsBack
 pub mod KeyReportsCharacters
 pub mod KeyReportsEvents
@@ -18,6 +17,7 @@ pub mod KeyReportsWhole
 pub mod KeyReportsWritten
 pub mod KeysAfterEscape
 pub mod KeysAlone
+pub mod KeysAtOnce
 pub mod MouseEvents
 pub mod Origins
 pub mod OtherReplies
@@ -31,6 +31,7 @@ pub mod SomeOptions
 pub mod StringEvents
 pub mod ToldEvents
 pub mod ToldModifiers
+pub mod TypedKeys
 pub mod UnreadEnds
 pub mod WrittenEvents
 pub mod WrittenWords

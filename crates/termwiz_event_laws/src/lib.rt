@@ -4,8 +4,8 @@
 
 ghost use Rattle.termwiz_event_laws.specs.EventLaws.{AttributesReadBack, PositionsReadBack, ReadBack, SchemesReadBack, Whole};
 
-/// What is written for an event is that event alone, and nothing stays buffered. With more to come that is so too, but for a key of `Input`,
-/// whose text may begin a sequence.
+/// What is written for an event is that event alone, and nothing stays buffered. With more to come that is so too, but for seven texts that
+/// wait: ESC, ESC ESC, and ESC with `[`, `O`, `P`, `]` or `_`.
 pub fn read_back()
     ensures { ReadBack }
 {}
@@ -16,15 +16,15 @@ pub fn whole()
     ensures { Whole }
 {}
 
-/// A reply to a question for the cursor's position, whose rows and columns count from 1, is that position, whether or not more may come. The
-/// private one always is. The other one is so exactly while a question is open, or where its row isn't 1 or its column is above 256. Elsewhere it
+/// By `Dialect::Extended` a reply to a question for the cursor's position, whose rows and columns count from 1, is that position, whether or not
+/// more may come. The private one always is. The other one is so exactly while a question is open, or where its row isn't 1 or its column is above 256. Elsewhere it
 /// is F3 with modifiers.
 pub fn positions_read_back()
     ensures { PositionsReadBack }
 {}
 
-/// What a terminal sends of its colours (`schemes`), and its attributes (`attributes`), are each one control sequence, whether or not more may
-/// come. Nothing stays buffered.
+/// By `Dialect::Extended` what a terminal sends of its colours (`schemes`), and its attributes (`attributes`), are each one control sequence,
+/// whether or not more may come. Nothing stays buffered.
 pub fn replies_read_back()
     ensures schemes { SchemesReadBack }
     ensures attributes { AttributesReadBack }

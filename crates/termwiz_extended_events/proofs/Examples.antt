@@ -3,17 +3,16 @@ use Rattle.std.specs.Prelude.{◌≡◌, ℕ, ◌+◌, Bool, true, false, List, 
 use Rattle.std.specs.Char.{encode_utf8}
 use Rattle.termwiz_base.specs.Mouse.{button_of, modifiers_of, row_of}
 use Rattle.termwiz_keys.specs.Buttons.{LEFT}
-use Rattle.termwiz_keys.specs.declared.types.InputEvent.TheVariants.{Mouse}
 use Rattle.termwiz_keys.specs.declared.types.KeyCode.TheVariants.{Char, Tab, Enter, Escape, Backspace, UpArrow, DownArrow, LeftArrow, Delete, Function, CapsLock, RightAlt, KeyPadBegin, Numpad9}
 use Rattle.termwiz_grammar.specs.MouseReports.{mouse_event}
 use Rattle.termwiz_extended_events.specs.declared.types.KeyEventKind.{KeyEventKind}
 use Rattle.termwiz_extended_events.specs.declared.types.KeyEventKind.TheVariants.{Press, Repeat, Release}
 use Rattle.termwiz_extended_events.specs.declared.types.ReportedKey.{ReportedKey}
 use Rattle.termwiz_extended_events.specs.declared.types.ReportedKey.TheVariants.{Named, Functional}
-use Rattle.termwiz_extended_events.specs.declared.types.SideButtonKind.{SideButtonKind}
-use Rattle.termwiz_extended_events.specs.declared.types.SideButtonKind.TheVariants.{Press as SidePress, Drag as SideDrag, Release as SideRelease}
-use Rattle.termwiz_extended_events.specs.declared.types.ExtendedEvent.{ExtendedEvent}
-use Rattle.termwiz_extended_events.specs.declared.types.ExtendedEvent.TheVariants.{Input, Key, FocusGained, FocusLost, CursorPosition, Resize, KeyboardFlags, SideButton, Csi, Osc, Dcs, Apc}
+use Rattle.termwiz_extended_events.specs.declared.types.MouseKind.{MouseKind}
+use Rattle.termwiz_extended_events.specs.declared.types.MouseKind.TheVariants.{Press as Down, Drag, Release as Up}
+use Rattle.termwiz_extended_events.specs.declared.types.Event.{Event}
+use Rattle.termwiz_extended_events.specs.declared.types.Event.TheVariants.{Key, Mouse, FocusGained, FocusLost, CursorPosition, Resize, KeyboardFlags, Csi, Osc, Dcs, Apc}
 use Rattle.termwiz_extended_events.specs.Numbers.{before_end, after_start, number_within, scalar}
 use Rattle.termwiz_extended_events.specs.ReportedKeys.{functional_key, key_of, tilde_key, rxvt_key_at}
 use Rattle.termwiz_extended_events.specs.KeyReports as reports
@@ -21,7 +20,7 @@ use Rattle.termwiz_extended_events.specs.Replies as replies
 use Rattle.termwiz_extended_events.specs.Meanings.{reported, keypad_reported, string_text, command_text, event_after, event_of}
 
 -- the event of a sequence: to unfold this is to unfold every rule
-unfoldable pub written_out : Bool → List ℕ → ExtendedEvent
+unfoldable pub written_out : Bool → List ℕ → Event
 unfolding event_of event_after command_text string_text reported replies.focus replies.cursor_position replies.keyboard_flags
     replies.resize replies.reply replies.urxvt_mouse replies.x10_mouse replies.mouse_report reports.modifiers_of
     reports.kind_of reports.manner_of reports.optional_scalar reports.codes_of reports.text_of reports.character_key
@@ -52,11 +51,11 @@ abbrev NUM : ℕ
 NUM = 128
 
 -- the report of a key with these modifiers
-abbrev told : ReportedKey → ℕ → KeyEventKind → ExtendedEvent
+abbrev told : ReportedKey → ℕ → KeyEventKind → Event
 told key bits kind = Key (reports.report_of key (record { modifiers = bits; kind = kind }))
 
 -- the press of a character's key, with what it types with Shift, what its place types, and its text
-abbrev typed : ℕ → ℕ → Option ℕ → Option ℕ → List ℕ → ExtendedEvent
+abbrev typed : ℕ → ℕ → Option ℕ → Option ℕ → List ℕ → Event
 typed c bits shifted base text = Key (record {
   key = Named (Char c);
   modifiers = bits;
@@ -67,17 +66,18 @@ typed c bits shifted base text = Key (record {
 })
 
 -- a text that no key typed
-abbrev inserted : List ℕ → ExtendedEvent
+abbrev inserted : List ℕ → Event
 inserted text = Key (record { key = Functional 0; modifiers = 0; kind = Press; shifted = None; base = None; text = text })
 
 -- a press of the left button at a place, with the port's modifiers
-abbrev clicked : ℕ → ℕ → ℕ → ExtendedEvent
+abbrev clicked : ℕ → ℕ → ℕ → Event
 clicked x y bits =
-    Input (Mouse (record { x = x; y = y; mouse_buttons = record { 0 = LEFT }; modifiers = record { 0 = bits } }))
+    Mouse (record { x = x; y = y; buttons = record { 0 = LEFT }; modifiers = record { 0 = bits }; kind = Down; button = Some 1 })
 
 -- a report of a side button at a place, with the port's modifiers
-abbrev side : ℕ → SideButtonKind → ℕ → ℕ → ℕ → ExtendedEvent
-side number kind x y bits = SideButton (record { number = number; kind = kind; x = x; y = y; modifiers = record { 0 = bits } })
+abbrev side : ℕ → MouseKind → ℕ → ℕ → ℕ → Event
+side number kind x y bits =
+    Mouse (record { x = x; y = y; buttons = record { 0 = 0 }; modifiers = record { 0 = bits }; kind = kind; button = Some number })
 
 cursor_24_80 : event_of false (27 ∷ codes "[24;80R") ≡ CursorPosition 24 80
 unfolding written_out
@@ -215,23 +215,23 @@ sgr_wheel_eight : event_of false (27 ∷ codes "[<96;20;10M") ≡ Csi (codes "<9
 unfolding written_out
 sgr_wheel_eight = refl
 
-side_press : event_of false (27 ∷ codes "[<128;20;10M") ≡ side 8 SidePress 20 10 0
+side_press : event_of false (27 ∷ codes "[<128;20;10M") ≡ side 8 Down 20 10 0
 unfolding written_out
 side_press = refl
 
-side_drag : event_of false (27 ∷ codes "[<181;20;10M") ≡ side 9 SideDrag 20 10 10
+side_drag : event_of false (27 ∷ codes "[<181;20;10M") ≡ side 9 Drag 20 10 10
 unfolding written_out
 side_drag = refl
 
-side_release : event_of false (27 ∷ codes "[<131;20;10m") ≡ side 11 SideRelease 20 10 0
+side_release : event_of false (27 ∷ codes "[<131;20;10m") ≡ side 11 Up 20 10 0
 unfolding written_out
 side_release = refl
 
-side_urxvt : event_of false (27 ∷ codes "[161;30;40M") ≡ side 9 SidePress 30 40 0
+side_urxvt : event_of false (27 ∷ codes "[161;30;40M") ≡ side 9 Down 30 40 0
 unfolding written_out
 side_urxvt = refl
 
-side_x10 : event_of false (27 ∷ codes "[M" ++ 0xa4 ∷ 0x60 ∷ 0x70 ∷ []) ≡ side 8 SidePress 64 80 2
+side_x10 : event_of false (27 ∷ codes "[M" ++ 0xa4 ∷ 0x60 ∷ 0x70 ∷ []) ≡ side 8 Down 64 80 2
 unfolding written_out
 side_x10 = refl
 

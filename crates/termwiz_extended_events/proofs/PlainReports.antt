@@ -14,7 +14,7 @@ use Rattle.termwiz_extended_events.specs.KeyReports.{character_of_fields, charac
 use Rattle.termwiz_extended_events.specs.ReportedKeys.{key_of}
 use Rattle.termwiz_extended_events.specs.Replies.{focus}
 use Rattle.termwiz_extended_events.specs.Meanings.{reported}
-use Rattle.termwiz_extended_events.specs.declared.types.ExtendedEvent.TheVariants.{Key}
+use Rattle.termwiz_extended_events.specs.declared.types.Event.TheVariants.{Key}
 
 -- no digit is a colon
 digits_one_part : (xs : List ℕ) → list_all is_ascii_digit xs ≡ true → slice_split (λ b. b == 58) xs ≡ xs ∷ []
@@ -29,13 +29,18 @@ passed : (b : Bool) (v n : ℕ) → (if b then Some v else None) ≡ Some n → 
 passed true v n e = refl
 passed false v n e = cc (e)
 
-number_one_part : (field : List ℕ) (n : ℕ) → number 0 0x10ffff field ≡ Some n → parts field ≡ field ∷ []
+-- a number has digits alone
+pub are_digits : (most least limit : ℕ) (text : List ℕ) (n : ℕ) → number_within most least limit text ≡ Some n
+    → list_all is_ascii_digit text ≡ true
 unfolding number_within
-number_one_part field n e =
-    let digits = passed (is_digits most_digits field && nat_le 0 (value_of field) && nat_le (value_of field) 0x10ffff) (value_of field) n e in
-    digits_one_part field (and_parts (nat_lt 0 (length field) && nat_le (length field) most_digits) (list_all is_ascii_digit field)
-    (and_parts (is_digits most_digits field) (nat_le 0 (value_of field))
-    (and_parts (is_digits most_digits field && nat_le 0 (value_of field)) (nat_le (value_of field) 0x10ffff) digits).0).0).1
+are_digits most least limit text n e =
+    let read = passed (is_digits most text && nat_le least (value_of text) && nat_le (value_of text) limit) (value_of text) n e in
+    (and_parts (nat_lt 0 (length text) && nat_le (length text) most) (list_all is_ascii_digit text)
+    (and_parts (is_digits most text) (nat_le least (value_of text))
+    (and_parts (is_digits most text && nat_le least (value_of text)) (nat_le (value_of text) limit) read).0).0).1
+
+number_one_part : (field : List ℕ) (n : ℕ) → number 0 0x10ffff field ≡ Some n → parts field ≡ field ∷ []
+number_one_part field n e = digits_one_part field (are_digits most_digits 0 0x10ffff field n e)
 
 was_some : (test : ℕ → Option ℕ) (number : Option ℕ) (c : ℕ) → option_and_then test number ≡ Some c → (n : ℕ) × (number ≡ Some n)
 was_some test None c e = cc (e)

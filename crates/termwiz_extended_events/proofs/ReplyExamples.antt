@@ -1,7 +1,7 @@
 -- Replies and what they say, computed from the definitions.
 use Rattle.std.specs.Prelude.{◌≡◌, ℕ, [], ◌∷◌, codes, Option, Some, None, true, false, refl}
-use Rattle.termwiz_extended_events.specs.declared.types.ExtendedEvent.{ExtendedEvent}
-use Rattle.termwiz_extended_events.specs.declared.types.ExtendedEvent.TheVariants.{Csi, Osc, Dcs, Apc, CursorPosition, StringPart, StringCut}
+use Rattle.termwiz_extended_events.specs.declared.types.Event.{Event}
+use Rattle.termwiz_extended_events.specs.declared.types.Event.TheVariants.{Csi, Osc, Dcs, Apc, CursorPosition, StringPart, StringCut}
 use Rattle.termwiz_extended_events.specs.declared.types.StringKind.TheVariants as kinds
 use Rattle.termwiz_extended_events.specs.declared.reply_types.Reply.{Reply}
 use Rattle.termwiz_extended_events.specs.declared.reply_types.Reply.TheVariants.{DeviceAttributes, Mode, Version, WindowSize, Clipboard}
@@ -17,7 +17,7 @@ use Rattle.termwiz_extended_events.specs.ReplyValues as values
 use Rattle.termwiz_extended_events.specs.ReplyValues.{reply_of}
 
 -- the reply that an event is: to unfold this is to unfold every rule
-unfoldable pub replied : ExtendedEvent → Option Reply
+unfoldable pub replied : Event → Option Reply
 unfolding values.csi_reply values.osc_reply values.dcs_reply values.mode_report values.window_size values.colour_scheme
     values.primary_attributes values.secondary_attributes values.tertiary_attributes values.optional_number values.hex_digit
     values.hex_byte values.colour values.colour_named values.colour_part values.rgb values.version values.clipboard

@@ -3,7 +3,9 @@ pub mod EventKeys
 pub mod FieldsLeft
 pub mod KeyReports
 pub mod Meanings
+pub mod MouseReports
 pub mod Numbers
+pub mod PortEvents
 pub mod Replies
 pub mod ReplyValues
 pub mod ReportedKeys

@@ -3,8 +3,8 @@
 use Rattle.std.specs.Prelude.{ℕ, Bool, true, false, ◌+◌, ◌-◌, ◌*◌, ◌/◌, ◌^◌, ◌==◌, ◌&&◌, ◌||◌, List, [], ◌∷◌, length, fold, codes, nat_le, nat_lt, Option, Some, None, if◌then◌else◌, option_map, option_and_then, bytes_eq}
 use Rattle.std.specs.List.{list_all, slice_split}
 use Rattle.std.specs.Char.{is_ascii_hexdigit, digit_value}
-use Rattle.termwiz_extended_events.specs.declared.types.ExtendedEvent.{ExtendedEvent}
-use Rattle.termwiz_extended_events.specs.declared.types.ExtendedEvent.TheVariants.{Csi, Osc, Dcs}
+use Rattle.termwiz_extended_events.specs.declared.types.Event.{Event}
+use Rattle.termwiz_extended_events.specs.declared.types.Event.TheVariants.{Csi, Osc, Dcs}
 use Rattle.termwiz_extended_events.specs.declared.reply_types.Reply.{Reply}
 use Rattle.termwiz_extended_events.specs.declared.reply_types.Reply.TheVariants.{DeviceAttributes, Mode, Version, WindowSize, Clipboard}
 use Rattle.termwiz_extended_events.specs.declared.reply_types.Reply.TheVariants as reply
@@ -234,7 +234,7 @@ unfoldable pub dcs_reply : List ℕ → Option Reply
 dcs_reply t = first_some (version t ∷ tertiary_attributes t ∷ [])
 
 -- the reply that an event is
-abbrev pub reply_of : ExtendedEvent → Option Reply
+abbrev pub reply_of : Event → Option Reply
 reply_of (Csi bytes) = csi_reply bytes
 reply_of (Osc bytes) = osc_reply bytes
 reply_of (Dcs bytes) = dcs_reply bytes

@@ -1,5 +1,4 @@
-//! What a terminal sends beyond the keys, mouse reports and pastes of the port: the types of these events, and what each
-//! sequence means.
+//! What a terminal sends: the types of these events, what each sequence means that the port doesn't know, and what the port's events are.
 #![tactic(auto)]
 
 mod attributes;
@@ -10,7 +9,9 @@ mod fields;
 mod key_fields;
 mod key_reports;
 pub mod meanings;
+pub mod mouse_reports;
 mod numbers;
+pub mod port_events;
 mod replies;
 pub mod reply;
 pub mod reply_types;

@@ -1,7 +1,7 @@
 // What a sequence means that the port doesn't know.
 ghost use Rattle.std.specs.Prelude.{◌≡◌, ◌↔◌, true, false, option_map, IfOk, IfSome, IsSome, IsTrue, OnErr, Some, unwrap_or};
-ghost use Rattle.termwiz_extended_events.specs.declared.types.ExtendedEvent.{ExtendedEvent as Event};
-ghost use Rattle.termwiz_extended_events.specs.declared.types.ExtendedEvent.TheVariants.{Csi, Key};
+ghost use Rattle.termwiz_extended_events.specs.declared.types.Event.{Event};
+ghost use Rattle.termwiz_extended_events.specs.declared.types.Event.TheVariants.{Csi, Key};
 ghost use Rattle.termwiz_extended_events.specs.KeyReports.{plain_report};
 ghost use Rattle.termwiz_extended_events.specs.Meanings as meaning;
 ghost use Rattle.termwiz_extended_events.specs.Meanings.{reported, command_text, string_text, event_after, event_from, IsKey, IsPosition, IsKeyOrPosition, NeedsMemory};
@@ -14,9 +14,8 @@ use crate::key_reports::{
     third_function_key,
 };
 use crate::replies::{focus, mouse_report, reply, side_button};
-use crate::types::{ExtendedEvent, PlainReport, SequenceBytes, SideButtonEvent, StringKind};
+use crate::types::{Event, MouseReport, PlainReport, SequenceBytes, StringKind};
 use std::alloc::{AllocError, Global};
-use termwiz_keys::types::{InputEvent, MouseEvent};
 
 // What ends a string: ESC and a backslash.
 const STRING_END: &[u8] = b"\x1b\\";
@@ -52,9 +51,7 @@ pub enum Meaning<'t> {
     /// The flags of Kitty's keyboard protocol.
     KeyboardFlags(u8),
     /// A mouse report.
-    Mouse(MouseEvent),
-    /// A report of one of the mouse buttons 8 to 11.
-    SideButton(SideButtonEvent),
+    Mouse(MouseReport),
     /// A key report.
     Key(SpelledReport<'t>),
     /// A control sequence that no rule reads: its bytes after ESC `[`.
@@ -121,41 +118,38 @@ impl<'t> Meaning<'t> {
     }
 
     /// Makes the event. Only its text or its bytes need memory.
-    pub fn event(self, alloc: Global) -> Result<ExtendedEvent, AllocError>
+    pub fn event(self, alloc: Global) -> Result<Event, AllocError>
         requires { IsSome (event_from self) }
         ensures ok { IfOk result (λ event. event_from self.entry ≡ Some event) }
         ensures refused { OnErr result (IfSome (event_from self.entry) NeedsMemory) }
     {
         match self {
-            Meaning::FocusGained => Ok(ExtendedEvent::FocusGained),
-            Meaning::FocusLost => Ok(ExtendedEvent::FocusLost),
-            Meaning::CursorPosition { row, column } => {
-                Ok(ExtendedEvent::CursorPosition { row, column })
-            }
+            Meaning::FocusGained => Ok(Event::FocusGained),
+            Meaning::FocusLost => Ok(Event::FocusLost),
+            Meaning::CursorPosition { row, column } => { Ok(Event::CursorPosition { row, column }) }
             Meaning::Resize {
                 rows,
                 columns,
                 height,
                 width,
-            } => Ok(ExtendedEvent::Resize {
+            } => Ok(Event::Resize {
                 rows,
                 columns,
                 height,
                 width,
             }),
-            Meaning::KeyboardFlags(flags) => Ok(ExtendedEvent::KeyboardFlags(flags)),
-            Meaning::Mouse(event) => Ok(ExtendedEvent::Input(InputEvent::Mouse(event))),
-            Meaning::SideButton(event) => Ok(ExtendedEvent::SideButton(event)),
-            Meaning::Key(report) => Ok(ExtendedEvent::Key(report.whole(alloc)?)),
-            Meaning::Csi(text) => Ok(ExtendedEvent::Csi(bytes(alloc, text)?)),
-            Meaning::Osc(text) => Ok(ExtendedEvent::Osc(bytes(alloc, text)?)),
-            Meaning::Dcs(text) => Ok(ExtendedEvent::Dcs(bytes(alloc, text)?)),
-            Meaning::Apc(text) => Ok(ExtendedEvent::Apc(bytes(alloc, text)?)),
-            Meaning::StringPart { kind, bytes: text } => Ok(ExtendedEvent::StringPart {
+            Meaning::KeyboardFlags(flags) => Ok(Event::KeyboardFlags(flags)),
+            Meaning::Mouse(report) => Ok(Event::Mouse(report)),
+            Meaning::Key(report) => Ok(Event::Key(report.whole(alloc)?)),
+            Meaning::Csi(text) => Ok(Event::Csi(bytes(alloc, text)?)),
+            Meaning::Osc(text) => Ok(Event::Osc(bytes(alloc, text)?)),
+            Meaning::Dcs(text) => Ok(Event::Dcs(bytes(alloc, text)?)),
+            Meaning::Apc(text) => Ok(Event::Apc(bytes(alloc, text)?)),
+            Meaning::StringPart { kind, bytes: text } => Ok(Event::StringPart {
                 kind,
                 bytes: bytes(alloc, text)?,
             }),
-            Meaning::StringCut { kind, bytes: text } => Ok(ExtendedEvent::StringCut {
+            Meaning::StringCut { kind, bytes: text } => Ok(Event::StringCut {
                 kind,
                 bytes: bytes(alloc, text)?,
             }),
@@ -193,11 +187,11 @@ fn reported(t: &[u8], asks: bool) -> Meaning<'_>
     if let Some(report) = rxvt_key(t) {
         return Meaning::Key(SpelledReport::plain(report));
     }
-    if let Some(event) = mouse_report(t) {
-        return Meaning::Mouse(event);
+    if let Some(report) = mouse_report(t) {
+        return Meaning::Mouse(report);
     }
-    if let Some(event) = side_button(t) {
-        return Meaning::SideButton(event);
+    if let Some(report) = side_button(t) {
+        return Meaning::Mouse(report);
     }
     match console_key(t).or_else(|| further_key(t)) {
         Some(report) => Meaning::Key(SpelledReport::plain(report)),
@@ -287,7 +281,7 @@ pub fn meaning_of(text: &[u8], asks: bool) -> Meaning<'_>
 }
 
 /// The event of one whole sequence: [`meaning_of`] with its memory.
-pub fn event_of(alloc: Global, text: &[u8], asks: bool) -> Result<ExtendedEvent, AllocError>
+pub fn event_of(alloc: Global, text: &[u8], asks: bool) -> Result<Event, AllocError>
     ensures ok { IfOk result (λ event. event ≡ meaning.event_of asks text.now) }
     ensures refused { OnErr result (NeedsMemory (meaning.event_of asks text.now)) }
 {

@@ -1,8 +1,8 @@
 // The sequences that report something else than a key: the focus, the mouse, and what a terminal replies to questions.
 ghost use Rattle.std.specs.Prelude.{◌≡◌, ◌<◌, ◌≤◌, Some, codes, option_and_then};
-ghost use Rattle.termwiz_base.specs.Mouse.{final_press, largest_code};
-ghost use Rattle.termwiz_grammar.specs.MouseReports.{mouse_event};
-ghost use Rattle.termwiz_extended_events.specs.declared.types.SideButtonKind.TheVariants.{Release};
+ghost use Rattle.termwiz_base.specs.Mouse.{largest_code};
+ghost use Rattle.termwiz_extended_events.specs.declared.types.MouseKind.TheVariants.{Release};
+ghost use Rattle.termwiz_extended_events.specs.MouseReports.{byte_report, side_report};
 ghost use Rattle.termwiz_extended_events.specs.FieldsLeft.{fields_left};
 ghost use Rattle.termwiz_extended_events.specs.Meanings.{IsMeant};
 ghost use Rattle.termwiz_extended_events.specs.Numbers.{before_end, fields};
@@ -11,10 +11,11 @@ ghost use Rattle.termwiz_extended_events.specs.Replies.{position_of_fields, mark
 
 use crate::fields::{Fields, after_start, before_end};
 use crate::meanings::Meaning;
+use crate::mouse_reports::{byte_kind_of, named_button};
 use crate::numbers::{FEW_DIGITS, number_within, place_number, short_number};
-use crate::types::{SideButtonEvent, SideButtonKind};
-use termwiz_base::{MouseReport, sgr_mouse};
-use termwiz_keys::types::{MouseButtons, MouseEvent};
+use crate::types::{MouseKind, MouseReport};
+use termwiz_base::{MouseReport as Decoded, sgr_mouse};
+use termwiz_keys::types::MouseButtons;
 
 // The code of the first side button without modifiers.
 const FIRST_SIDE_CODE: u32 = 128;
@@ -126,22 +127,24 @@ pub(crate) fn reply(t: &[u8]) -> Option<Meaning<'static>>
 
 // The mouse report of a code up to the largest one, at a place.
 #[tactic(auto, unfolding(termwiz_grammar::specs::MouseReports::mouse_event))]
-fn mouse_event(code: u16, x: u16, y: u16) -> Option<MouseEvent>
-    ensures { code ≤ largest_code → result ≡ Some (mouse_event code x y final_press) }
+fn byte_report(code: u16, x: u16, y: u16) -> Option<MouseReport>
+    ensures { code ≤ largest_code → result ≡ Some (byte_report code x y) }
 {
     match sgr_mouse(code, x, y, b'M') {
         Some(
-            MouseReport::SGR1006 {
+            Decoded::SGR1006 {
                 x,
                 y,
                 button,
                 modifiers,
             },
-        ) => Some(MouseEvent {
+        ) => Some(MouseReport {
             x,
             y,
-            mouse_buttons: MouseButtons::from(button),
             modifiers,
+            buttons: MouseButtons::from(button),
+            kind: byte_kind_of(code, named_button(code)),
+            button: named_button(code),
         }),
         _ => None,
     }
@@ -149,7 +152,7 @@ fn mouse_event(code: u16, x: u16, y: u16) -> Option<MouseEvent>
 
 // b ; x ; y M: a mouse report as urxvt writes it.
 #[tactic(auto, unfolding(crate::specs::Replies::urxvt_mouse))]
-fn urxvt_mouse(t: &[u8]) -> Option<MouseEvent>
+fn urxvt_mouse(t: &[u8]) -> Option<MouseReport>
     ensures { result ≡ rules.urxvt_mouse t.now }
 {
     let mut fields = Fields::new(before_end(t, b"M")?, b';');
@@ -159,16 +162,16 @@ fn urxvt_mouse(t: &[u8]) -> Option<MouseEvent>
     if fields.next().is_some() {
         return None;
     }
-    mouse_event((b - 32) as u16, x, y)
+    byte_report((b - 32) as u16, x, y)
 }
 
 // M and three bytes: a mouse report as X10 writes it, where 32 is added to each number.
 #[tactic(auto, unfolding(crate::specs::Replies::x10_mouse))]
-fn x10_mouse(t: &[u8]) -> Option<MouseEvent>
+fn x10_mouse(t: &[u8]) -> Option<MouseReport>
     ensures { result ≡ rules.x10_mouse t.now }
 {
     match t {
-        [b'M', b @ 32..=127, x @ 32..=255, y @ 32..=255] => mouse_event(
+        [b'M', b @ 32..=127, x @ 32..=255, y @ 32..=255] => byte_report(
             u16::from(*b - 32),
             u16::from(*x - 32),
             u16::from(*y - 32),
@@ -179,7 +182,7 @@ fn x10_mouse(t: &[u8]) -> Option<MouseEvent>
 
 // A mouse report by the first of these rules that fits.
 #[tactic(auto, unfolding(crate::specs::Replies::mouse_report))]
-pub(crate) fn mouse_report(t: &[u8]) -> Option<MouseEvent>
+pub(crate) fn mouse_report(t: &[u8]) -> Option<MouseReport>
     ensures { result ≡ rules.mouse_report t.now }
 {
     urxvt_mouse(t).or_else(|| x10_mouse(t))
@@ -187,35 +190,36 @@ pub(crate) fn mouse_report(t: &[u8]) -> Option<MouseEvent>
 
 // The report of a side button by its code without the first one.
 #[tactic(auto, unfolding(termwiz_base::specs::Mouse::modifiers_of))]
-fn side_button_at(kind: SideButtonKind, low: u16, x: u16, y: u16) -> Option<SideButtonEvent>
+fn side_report(kind: MouseKind, low: u16, x: u16, y: u16) -> Option<MouseReport>
     requires { low < 64 }
-    ensures { result ≡ Some (rules.side_event kind low x y) }
+    ensures { result ≡ Some (side_report kind low x y) }
 {
     match sgr_mouse(low, x, y, b'M') {
-        Some(MouseReport::SGR1006 { modifiers, .. }) => Some(SideButtonEvent {
-            number: 8 + (low % 4) as u8,
-            kind,
+        Some(Decoded::SGR1006 { modifiers, .. }) => Some(MouseReport {
             x,
             y,
             modifiers,
+            buttons: MouseButtons::NONE,
+            kind,
+            button: Some(8 + (low % 4) as u8),
         }),
         _ => None,
     }
 }
 
 // What happened to a side button that isn't released.
-fn side_button_kind(low: u16) -> SideButtonKind
-    ensures { result ≡ rules.side_button_kind low }
+fn side_kind(low: u16) -> MouseKind
+    ensures { result ≡ rules.side_kind low }
 {
     if 32 <= low {
-        SideButtonKind::Drag
+        MouseKind::Drag
     } else {
-        SideButtonKind::Press
+        MouseKind::Press
     }
 }
 
 // code ; x ; y, where the codes begin with this one: a side button that was pressed or dragged.
-fn side_held(body: &[u8], first: u32) -> Option<SideButtonEvent>
+fn side_held(body: &[u8], first: u32) -> Option<MouseReport>
     requires { first ≤ 160 }
     ensures { result ≡ rules.side_of_fields rules.side_held first (fields body.now) }
 {
@@ -226,37 +230,37 @@ fn side_held(body: &[u8], first: u32) -> Option<SideButtonEvent>
     if fields.next().is_some() {
         return None;
     }
-    side_button_at(side_button_kind(low), low, x, y)
+    side_report(side_kind(low), low, x, y)
 }
 
 // code ; x ; y: a side button that was released.
-fn side_released(body: &[u8]) -> Option<SideButtonEvent>
-    ensures { result ≡ rules.side_of_fields (rules.side_event Release) rules.first_side_code (fields body.now) }
+fn side_released(body: &[u8]) -> Option<MouseReport>
+    ensures { result ≡ rules.side_of_fields (side_report Release) rules.first_side_code (fields body.now) }
 {
     let released = side_held(body, FIRST_SIDE_CODE)?;
-    Some(SideButtonEvent {
-        kind: SideButtonKind::Release,
+    Some(MouseReport {
+        kind: MouseKind::Release,
         ..released
     })
 }
 
 // The same before M.
-fn side_held_before(t: &[u8]) -> Option<SideButtonEvent>
+fn side_held_before(t: &[u8]) -> Option<MouseReport>
     ensures { result ≡ option_and_then (λ body. rules.side_of_fields rules.side_held rules.first_side_code (fields body)) (before_end (codes "M") t.now) }
 {
     side_held(before_end(t, b"M")?, FIRST_SIDE_CODE)
 }
 
 // The same of a release, before m.
-fn side_released_before(t: &[u8]) -> Option<SideButtonEvent>
-    ensures { result ≡ option_and_then (λ body. rules.side_of_fields (rules.side_event Release) rules.first_side_code (fields body)) (before_end (codes "m") t.now) }
+fn side_released_before(t: &[u8]) -> Option<MouseReport>
+    ensures { result ≡ option_and_then (λ body. rules.side_of_fields (side_report Release) rules.first_side_code (fields body)) (before_end (codes "m") t.now) }
 {
     side_released(before_end(t, b"m")?)
 }
 
 // < code ; x ; y M or m: a side button as the SGR mode writes it.
 #[tactic(auto, unfolding(crate::specs::Replies::sgr_side_button))]
-fn sgr_side_button(t: &[u8]) -> Option<SideButtonEvent>
+fn sgr_side_button(t: &[u8]) -> Option<MouseReport>
     ensures { result ≡ rules.sgr_side_button t.now }
 {
     let t = after_start(t, b"<")?;
@@ -265,7 +269,7 @@ fn sgr_side_button(t: &[u8]) -> Option<SideButtonEvent>
 
 // code ; x ; y M: a side button as urxvt writes it.
 #[tactic(auto, unfolding(crate::specs::Replies::urxvt_side_button))]
-fn urxvt_side_button(t: &[u8]) -> Option<SideButtonEvent>
+fn urxvt_side_button(t: &[u8]) -> Option<MouseReport>
     ensures { result ≡ rules.urxvt_side_button t.now }
 {
     side_held(before_end(t, b"M")?, FIRST_SIDE_CODE + 32)
@@ -273,18 +277,13 @@ fn urxvt_side_button(t: &[u8]) -> Option<SideButtonEvent>
 
 // M and three bytes: a side button as X10 writes it.
 #[tactic(auto, unfolding(crate::specs::Replies::x10_side_button))]
-fn x10_side_button(t: &[u8]) -> Option<SideButtonEvent>
+fn x10_side_button(t: &[u8]) -> Option<MouseReport>
     ensures { result ≡ rules.x10_side_button t.now }
 {
     match t {
         [b'M', b @ 160..=223, x @ 32..=255, y @ 32..=255] => {
             let low = u16::from(*b - 160);
-            side_button_at(
-                side_button_kind(low),
-                low,
-                u16::from(*x - 32),
-                u16::from(*y - 32),
-            )
+            side_report(side_kind(low), low, u16::from(*x - 32), u16::from(*y - 32))
         }
         _ => None,
     }
@@ -292,7 +291,7 @@ fn x10_side_button(t: &[u8]) -> Option<SideButtonEvent>
 
 // The report of a side button by the first of these rules that fits.
 #[tactic(auto, unfolding(crate::specs::Replies::side_button))]
-pub(crate) fn side_button(t: &[u8]) -> Option<SideButtonEvent>
+pub(crate) fn side_button(t: &[u8]) -> Option<MouseReport>
     ensures { result ≡ rules.side_button t.now }
 {
     sgr_side_button(t)

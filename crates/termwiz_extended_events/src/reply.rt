@@ -14,7 +14,7 @@ use crate::colours::colour;
 use crate::fields::{Fields, after_start, before_end};
 use crate::numbers::{number, short_number};
 use crate::reply_types::{ColourScheme, ModeState, Reply};
-use crate::types::{ExtendedEvent, SequenceBytes};
+use crate::types::{Event, SequenceBytes};
 use std::alloc::{AllocError, Global};
 
 // The state of a mode by its number.
@@ -204,7 +204,7 @@ pub fn osc_reply(alloc: Global, t: &[u8]) -> Result<Option<Reply>, AllocError>
     clipboard(alloc, t)
 }
 
-impl ExtendedEvent {
+impl Event {
     /// Returns the values of a reply, if the event is a control sequence or a string that one of these rules reads. Other events, parts of
     /// strings and strings that were cut off have none. Only a list, a text and bytes take memory, so only device attributes, versions
     /// and clipboards can fail.
@@ -213,9 +213,9 @@ impl ExtendedEvent {
         ensures refused { OnErr result (NeedsMemory (reply_of self.now)) }
     {
         match self {
-            ExtendedEvent::Csi(bytes) => csi_reply(alloc, bytes.as_slice()),
-            ExtendedEvent::Osc(bytes) => osc_reply(alloc, bytes.as_slice()),
-            ExtendedEvent::Dcs(bytes) => dcs_reply(alloc, bytes.as_slice()),
+            Event::Csi(bytes) => csi_reply(alloc, bytes.as_slice()),
+            Event::Osc(bytes) => osc_reply(alloc, bytes.as_slice()),
+            Event::Dcs(bytes) => dcs_reply(alloc, bytes.as_slice()),
             _ => Ok(None),
         }
     }

@@ -1,5 +1,7 @@
 //! The events of the extended parser.
 ghost use Rattle.std.specs.Prelude.{◌≡◌, ◌==◌, false, string_bytes};
+ghost use Rattle.termwiz_extended_events.specs.declared.types.EraseByte.TheVariants as EraseByte;
+ghost use Rattle.termwiz_extended_events.specs.declared.types.NewlineByte.TheVariants as NewlineByte;
 ghost use Rattle.std.specs.Cmp.Rules.{comparing};
 ghost use Rattle.std.specs.Cmp.Lexicographic.{pointwise};
 ghost use Rattle.std.proofs.Common.{rules};
@@ -8,41 +10,71 @@ ghost use Rattle.termwiz_extended_events.specs.KeyReports.{plain_report};
 use std::alloc::Global;
 use std::marker::Model;
 use termwiz_base::Modifiers;
-use termwiz_keys::types::{InputEvent, KeyCode};
+use termwiz_keys::types::{KeyCode, MouseButtons, PastedText};
 
-/// Which sequences of the table keep the key that the port reads from them.
+/// By which grammar an extended parser reads.
 #[derive(Clone, Copy, PartialEq, Eq, Debug)]
-pub enum Protocol {
-    /// All rows keep their keys. For programs that leave Kitty's keyboard protocol off.
-    Legacy,
-    /// Rows that report a key, or the position of the cursor, are read as these reports. For programs that turn Kitty's
-    /// keyboard protocol on, so that a press and its release name the same key.
-    Kitty,
+pub enum Dialect {
+    /// What terminals send in any mode. For every program.
+    Extended,
+    /// What termwiz reads, and nothing else: the other fields of a [`Reading`] say nothing then.
+    Termwiz,
 }
 
-/// How an extended parser reads: whose keys the rows of the sequence table are, what else is looked for, and what the program has asked.
+/// Which byte the Backspace key sends: of 8 and 127, the other one is typed with Ctrl. A program takes it from its terminal's settings (VERASE
+/// of termios).
+#[derive(Clone, Copy, PartialEq, Eq, Debug)]
+pub enum EraseByte {
+    /// 127, as most terminals send it. Byte 8 is Ctrl-H.
+    Delete,
+    /// 8. Byte 127 is Ctrl-Backspace.
+    Backspace,
+}
+
+/// What the byte 10 is.
+#[derive(Clone, Copy, PartialEq, Eq, Debug)]
+pub enum NewlineByte {
+    /// Ctrl-J. The Enter key sends the byte 13.
+    CtrlJ,
+    /// The Enter key: the terminal's settings turn CR into it (ICRNL of termios), or the input is a file.
+    Enter,
+}
+
+/// How an extended parser reads: by which grammar, what else is looked for, what the program has asked, and what the terminal's settings say.
 /// It may be set between any two calls.
 #[derive(Clone, Copy, PartialEq, Eq, Debug)]
 pub struct Reading {
-    /// Which rows of the sequence table keep their keys.
-    pub protocol: Protocol,
+    /// By which grammar.
+    pub dialect: Dialect,
     /// Whether ESC `[M` begins a mouse report of three bytes, as xterm's modes 9 and 1000 send it without mode 1006. Otherwise it is a control
     /// sequence.
     pub x10_mouse: bool,
-    /// How many questions for the cursor's position (DSR 6) have no reply yet. While there are any, a row of the table that can be a reply is
+    /// How many questions for the cursor's position (DSR 6) have no reply yet. While there are any, F3 with modifiers that can be a reply is
     /// one.
     pub questions: u8,
+    /// Which byte the Backspace key sends.
+    pub erase: EraseByte,
+    /// What the byte 10 is.
+    pub newline: NewlineByte,
 }
 
 impl Reading {
-    /// The reading of a protocol, without X10 mouse reports and open questions.
-    pub fn new(protocol: Protocol) -> Reading
-        ensures { result ≡ record { protocol = protocol; x10_mouse = false; questions = 0 } }
+    /// The reading by this grammar, without X10 mouse reports and open questions, where Backspace sends 127 and byte 10 is Ctrl-J.
+    pub fn new(dialect: Dialect) -> Reading
+        ensures { result ≡ record {
+          dialect = dialect;
+          x10_mouse = false;
+          questions = 0;
+          erase = EraseByte.Delete;
+          newline = NewlineByte.CtrlJ;
+        } }
     {
         Reading {
-            protocol,
+            dialect,
             x10_mouse: false,
             questions: 0,
+            erase: EraseByte::Delete,
+            newline: NewlineByte::CtrlJ,
         }
     }
 }
@@ -223,30 +255,37 @@ impl PlainReport {
     }
 }
 
-/// What happened to a side button of the mouse.
+/// What happened to the mouse.
 #[derive(Clone, Copy, PartialEq, Eq, Debug)]
-pub enum SideButtonKind {
-    /// It was pressed.
+pub enum MouseKind {
+    /// A button was pressed.
     Press,
-    /// It was released. Only SGR reports (mode 1006) tell which button was.
+    /// A button was released. Only reports of the SGR mode (1006) tell which.
     Release,
-    /// The mouse was moved while it was down.
+    /// The mouse was moved while a button was down.
     Drag,
+    /// The mouse was moved, and no button is down.
+    Move,
+    /// A wheel was turned.
+    Wheel,
 }
 
-/// A report of one of the mouse buttons 8 to 11, which the port has no names for.
-#[derive(Clone, Copy, PartialEq, Eq, Debug)]
-pub struct SideButtonEvent {
-    /// The number of the button, from 8 to 11.
-    pub number: u8,
-    /// What happened to it.
-    pub kind: SideButtonKind,
+/// A mouse report.
+#[derive(PartialEq, Eq, Debug, Drop)]
+pub struct MouseReport {
     /// The column, as the terminal sent it: the leftmost is 1.
     pub x: u16,
     /// The row, as the terminal sent it: the topmost is 1.
     pub y: u16,
     /// The modifier keys that were held: SHIFT, ALT and CTRL.
     pub modifiers: Modifiers,
+    /// The button that is down, or the wheel that was turned, as termwiz has it. Empty after a release, for a move, and for a side button.
+    pub buttons: MouseButtons,
+    /// What happened.
+    pub kind: MouseKind,
+    /// The number of the button that the report names: 1 to 3 the left, the middle and the right one, 4 to 7 the wheel up, down, to the left
+    /// and to the right, 8 to 11 the side buttons.
+    pub button: Option<u8>,
 }
 
 /// The kind of a string.
@@ -262,11 +301,13 @@ pub enum StringKind {
 
 /// Something that happened at the terminal, or that it replied.
 #[derive(PartialEq, Eq, Debug, Drop)]
-pub enum ExtendedEvent {
-    /// An event of the port: a key, a mouse report or a paste.
-    Input(InputEvent),
-    /// A key report.
+pub enum Event {
+    /// A key, typed or reported.
     Key(KeyReport),
+    /// A mouse report.
+    Mouse(MouseReport),
+    /// Text was pasted, in bracketed paste mode.
+    Paste(PastedText),
     /// The terminal's window gained the focus (mode 1004).
     FocusGained,
     /// The terminal's window lost the focus.
@@ -291,8 +332,6 @@ pub enum ExtendedEvent {
     },
     /// The reply to a question for the flags of Kitty's keyboard protocol.
     KeyboardFlags(u8),
-    /// A report of one of the mouse buttons 8 to 11.
-    SideButton(SideButtonEvent),
     /// Any other control sequence: its bytes after ESC `[`.
     Csi(SequenceBytes),
     /// An operating system command: its bytes after ESC `]`, without its end.

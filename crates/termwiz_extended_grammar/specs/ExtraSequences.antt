@@ -1,32 +1,25 @@
 -- The extra sequences: the texts of such a form that the extended parser reads, each with its event.
-use Rattle.std.specs.Prelude.{◌≡◌, ◌≢◌, ℕ, ◌<◌, ◌≤◌, ◌⊎◌, List, [], ◌∷◌, ◌++◌, codes, bit_or}
+use Rattle.std.specs.Prelude.{◌≡◌, ◌≢◌, ℕ, ◌≤◌, ◌⊎◌, List, [], ◌∷◌, ◌++◌, codes, bit_or}
 use Rattle.termwiz_keys.specs.Introducers.{CSI}
 use Rattle.termwiz_keys.specs.declared.types.KeyEvent.{KeyEvent}
 use Rattle.termwiz_keymap.specs.Bytes.{Begins}
 use Rattle.termwiz_grammar.specs.Sequences.{Meaning, IsSequence}
 use Rattle.termwiz_grammar.specs.Sequences.Meaning.{Row}
-use Rattle.termwiz_extended_events.specs.declared.types.ExtendedEvent.{ExtendedEvent}
-use Rattle.termwiz_extended_events.specs.declared.types.ExtendedEvent.TheVariants.{Key}
-use Rattle.termwiz_extended_events.specs.declared.types.Protocol.{Protocol}
-use Rattle.termwiz_extended_events.specs.declared.types.Protocol.TheVariants.{Legacy, Kitty}
+use Rattle.termwiz_extended_events.specs.declared.types.Event.{Event}
+use Rattle.termwiz_extended_events.specs.declared.types.Event.TheVariants.{Key}
 use Rattle.termwiz_extended_events.specs.declared.types.Reading.{Reading}
-use Rattle.termwiz_extended_events.specs.Meanings.{IsKey, IsPosition, IsKeyOrPosition}
+use Rattle.termwiz_extended_events.specs.Meanings.{IsKey, IsKeyOrPosition}
 use Rattle.termwiz_extended_grammar.specs.Forms.{IsForm, IsKeypadKey, IsModifierDigit}
-use Rattle.termwiz_extended_grammar.specs.Readings.{event_in}
+use Rattle.termwiz_extended_grammar.specs.Readings.{ReadsMore, event_in}
 
--- The event of a row that isn't left to the port: under `Protocol::Kitty` a report of a key or of the cursor's position. Under
--- `Protocol::Legacy` it is a position, while a question for one is open.
-abbrev pub Overrides : Protocol → ℕ → ExtendedEvent → Type 0
-Overrides Legacy questions event = (0 < questions) × IsPosition event
-Overrides Kitty questions event = IsKeyOrPosition event
-
--- The port doesn't read the text, or it is a row that isn't left to the port.
+-- The port doesn't read the text, or it is a row whose event is a report of a key or of the cursor's position.
 abbrev pub IsFree : Reading → List ℕ → Type 0
-IsFree reading text = (m : Meaning) → IsSequence text m
-    → ((key : KeyEvent) × (m ≡ Row key) × Overrides reading.protocol reading.questions (event_in reading text))
+IsFree reading text =
+    (m : Meaning) → IsSequence text m → ((key : KeyEvent) × (m ≡ Row key) × IsKeyOrPosition (event_in reading text))
 
 -- an extra sequence with its event
-pub record IsExtra (reading : Reading) (text : List ℕ) (event : ExtendedEvent) : Type 0 where
+pub record IsExtra (reading : Reading) (text : List ℕ) (event : Event) : Type 0 where
+  pub reads : ReadsMore reading
   pub is_form : IsForm reading.x10_mouse text
   pub is_free : IsFree reading text
   pub means : event ≡ event_in reading text
@@ -34,7 +27,7 @@ pub record IsExtra (reading : Reading) (text : List ℕ) (event : ExtendedEvent)
 -- an extra sequence begins u
 pub record StartsWithExtra (reading : Reading) (u : List ℕ) : Type 0 where
   pub text : List ℕ
-  pub event : ExtendedEvent
+  pub event : Event
   pub is_extra : IsExtra reading text event
   pub begins : Begins text u
 
@@ -42,7 +35,7 @@ pub record StartsWithExtra (reading : Reading) (u : List ℕ) : Type 0 where
 pub record IsUnfinishedExtra (reading : Reading) (u : List ℕ) : Type 0 where
   pub tail : List ℕ
   pub longer : tail ≢ []
-  pub event : ExtendedEvent
+  pub event : Event
   pub is_extra : IsExtra reading (u ++ tail) event
 
 -- a row of the sequence table
@@ -73,9 +66,13 @@ IsBackTab text = Begins CSI text × EndsWithZ text
 abbrev pub IsShortKey : List ℕ → Type 0
 IsShortKey text = (digit : ℕ) × (letter : ℕ) × (text ≡ CSI ++ digit ∷ letter ∷ []) × IsModifierDigit digit × IsCursorLetter letter
 
--- one of both, or ESC [G
+-- ESC [E or ESC [G
+abbrev pub IsBeginKey : List ℕ → Type 0
+IsBeginKey text = (text ≡ CSI ++ codes "E") ⊎ (text ≡ CSI ++ codes "G")
+
+-- one of these three keys
 abbrev pub IsLetteredKey : List ℕ → Type 0
-IsLetteredKey text = IsBackTab text ⊎ (IsShortKey text ⊎ (text ≡ CSI ++ codes "G"))
+IsLetteredKey text = IsBackTab text ⊎ (IsShortKey text ⊎ IsBeginKey text)
 
 -- A bare key: a key report that terminals send after ESC where Alt is held. It is a row of the table, a key of the keypad, one of
 -- rxvt-unicode's, or one of these.
@@ -84,14 +81,14 @@ pub record IsBareKey (reading : Reading) (text : List ℕ) : Type 0 where
   pub layout : IsRow text ⊎ (IsKeypadKey text ⊎ (EndsAsRxvt text ⊎ (IsRxvtFunction text ⊎ IsLetteredKey text)))
 
 -- the event of a bare key after ESC: its report has Kitty's bit of ALT too
-abbrev pub with_alt : ExtendedEvent → ExtendedEvent
+abbrev pub with_alt : Event → Event
 with_alt (Key report) = Key (record report { modifiers = bit_or report.modifiers 2 })
 with_alt event = event
 
 -- an extra sequence that is no bare key begins u
 pub record StartsWithOther (reading : Reading) (u : List ℕ) : Type 0 where
   pub text : List ℕ
-  pub event : ExtendedEvent
+  pub event : Event
   pub is_extra : IsExtra reading text event
   pub not_bare : ¬ IsBareKey reading text
   pub begins : Begins text u

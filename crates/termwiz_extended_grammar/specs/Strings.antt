@@ -6,8 +6,8 @@ use Rattle.termwiz_keys.specs.Introducers.{ESC}
 use Rattle.termwiz_grammar.specs.MouseReports.{IsDigit}
 use Rattle.termwiz_grammar.specs.Laws.{IsHeldEscape}
 use Rattle.termwiz_extended_events.specs.Meanings.{whole_string}
-use Rattle.termwiz_extended_events.specs.declared.types.ExtendedEvent.{ExtendedEvent}
-use Rattle.termwiz_extended_events.specs.declared.types.ExtendedEvent.TheVariants.{StringPart, StringCut}
+use Rattle.termwiz_extended_events.specs.declared.types.Event.{Event}
+use Rattle.termwiz_extended_events.specs.declared.types.Event.TheVariants.{StringPart, StringCut}
 use Rattle.termwiz_extended_events.specs.declared.types.StringKind.{StringKind}
 use Rattle.termwiz_extended_events.specs.declared.types.StringKind.TheVariants.{Osc, Dcs, Apc}
 use Rattle.termwiz_extended_grammar.specs.Forms.{introducer, IsData, IsStringEnd, IsFinal, IsTitleLetter, typed_title, most_string}
@@ -92,7 +92,7 @@ string_length kind head bytes = length (introducer kind ++ head ++ bytes)
 
 -- What ends a string with these bytes, by what follows: what it leaves, and its event. A string ends with its end. It is cut by ESC and
 -- another byte, which it leaves; by ESC ESC, of which it takes one; and by a flush.
-pub data Ends (kind : StringKind) (bytes after : List ℕ) (more : Bool) : List ℕ → ExtendedEvent → Type 0 where
+pub data Ends (kind : StringKind) (bytes after : List ℕ) (more : Bool) : List ℕ → Event → Type 0 where
   ended : (end left : List ℕ) → IsStringEnd kind end → after ≡ end ++ left
       → Ends kind bytes after more left (whole_string kind bytes)
   cut : (b : ℕ) (left : List ℕ) → after ≡ ESC ++ b ∷ left → b ≢ 0x1b → b ≢ 0x5c
@@ -102,10 +102,10 @@ pub data Ends (kind : StringKind) (bytes after : List ℕ) (more : Bool) : List 
   flushed : IsHeldEscape after → more ≡ false → Ends kind bytes after more [] (StringCut kind bytes)
 
 -- What comes of a string. Of a long one a part is read, and its opening is put back before what follows.
-pub data Comes (kind : StringKind) (head bytes after : List ℕ) (more : Bool) : List ℕ → ExtendedEvent → Type 0 where
+pub data Comes (kind : StringKind) (head bytes after : List ℕ) (more : Bool) : List ℕ → Event → Type 0 where
   part : string_length kind head bytes ≡ most_string
       → Comes kind head bytes after more (introducer kind ++ head ++ after) (StringPart kind (head ++ bytes))
-  last : (left : List ℕ) (event : ExtendedEvent) → string_length kind head bytes < most_string
+  last : (left : List ℕ) (event : Event) → string_length kind head bytes < most_string
       → Ends kind (head ++ bytes) after more left event → Comes kind head bytes after more left event
 
 -- an open string: an opening and data, and perhaps the ESC that may begin its end

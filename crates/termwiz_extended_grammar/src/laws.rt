@@ -1,7 +1,7 @@
 //! Laws of the extended grammar, each the contract of a function without effect. Each holds for every reading.
 //!
 //! They speak of the definitions alone. That the parser obeys the definitions is said by its own contracts.
-ghost use Rattle.termwiz_extended_grammar.specs.ExtendedLaws.{BareKeysAreJoined, Conservative, CutIndependent, EmptyIsRest, ExtraIsLongest, FewEvents, FewEventsInStream, FourBeginnings, OneByOneMeans, OneMeaning, OpeningIsLongest, QuestionsMoveNothing, Resumes, SequenceStands, StepsJoin, StringStands, TitlesAreCommands, Undecided, WaitingShape};
+ghost use Rattle.termwiz_extended_grammar.specs.ExtendedLaws.{BareKeysAreJoined, Conservative, CutIndependent, EmptyIsRest, ExtraIsLongest, FewEvents, FewEventsInStream, FourBeginnings, OneByOneMeans, OneMeaning, OpeningIsLongest, QuestionsMoveNothing, Resumes, SequenceStands, StepsJoin, StringStands, TermwizIsPort, TitlesAreCommands, Undecided, WaitingShape};
 ghost use Rattle.termwiz_extended_grammar.specs.ExtendedKinds.{WaitingKinds};
 ghost use Rattle.termwiz_extended_grammar.specs.ExtendedParts.{PartsJoin};
 
@@ -83,8 +83,8 @@ pub fn bare_keys_are_joined()
     ensures { BareKeysAreJoined }
 {}
 
-/// Which texts are known, open or rests doesn't depend on the number of open questions for the cursor's position: the questions decide only
-/// what a row means.
+/// Which texts are known, open or rests doesn't depend on the number of open questions for the cursor's position, nor on what the bytes 8, 10
+/// and 127 are. Both decide only what a known text means.
 pub fn questions_move_nothing()
     ensures { QuestionsMoveNothing }
 {}
@@ -97,8 +97,14 @@ pub fn string_stands()
     ensures { StringStands }
 {}
 
-/// A text in which the port meets no extra sequence and no opening means what it means to the port, event for event, and the same bytes stay
-/// buffered. The port meets one if it begins at an item, at the rest or after the ESC of an item or the rest, or if it properly begins
+/// By `Dialect::Termwiz` a text means what it means to the port: each event is that of one of the port's, in order, and the same bytes stay
+/// buffered, as bytes of the same kind. And each text that means something to the port means these events here.
+pub fn termwiz_is_port()
+    ensures { TermwizIsPort }
+{}
+
+/// A text in which the port meets no extra sequence, no opening and none of the bytes 8, 10 and 127 means what it means to the port, event for
+/// event, and the same bytes stay buffered. The port meets one if it begins at an item, at the rest or after the ESC of an item or the rest, or if it properly begins
 /// there and the port wouldn't go on reading.
 pub fn conservative()
     ensures { Conservative }

@@ -20,6 +20,7 @@ pub(crate) const PASTE_START: &[u8] = b"\x1b[200~";
 pub(crate) const PASTE_END: &[u8] = b"\x1b[201~";
 
 /// Whether a paste begins the text.
+#[inline(always)]
 pub fn begins_paste(text: &[u8]) -> bool
     ensures { IsTrue result ↔ Begins START text.now }
 {

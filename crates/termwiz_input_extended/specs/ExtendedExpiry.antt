@@ -7,7 +7,7 @@ use Rattle.termwiz_input.specs.declared.time.Policy.{Policy}
 use Rattle.termwiz_input.specs.declared.time.Seen.{Seen}
 use Rattle.termwiz_input.specs.declared.time.Timer.{Timer}
 use Rattle.termwiz_input.specs.Time.{IsDue, limit_of_kind, limit_of_string, noted}
-use Rattle.termwiz_extended_events.specs.declared.types.ExtendedEvent.{ExtendedEvent}
+use Rattle.termwiz_extended_events.specs.declared.types.Event.{Event}
 use Rattle.termwiz_extended_events.specs.declared.types.Reading.{Reading}
 use Rattle.termwiz_extended_grammar.specs.Readings.{after_events}
 use Rattle.termwiz_extended_grammar.specs.ExtendedGrammar.{IsRest, Means, Steps}
@@ -29,7 +29,7 @@ limit_of_waiting policy String len = limit_of_string policy len
 -- The limit of a text, by its length and its kind. Its first bytes tell the kind; where no item stands at the text, it is that of the rest.
 pub record IsLimitOf (policy : Policy) (reading : Reading) (text : List ℕ) (limit : Limit) : Type 0 where
   pub kind : ExtendedWaiting
-  pub told : IsToldByBytes text kind
+  pub told : IsToldByBytes reading text kind
   pub is_kind : (more : Bool) → IsRest reading text more → IsKind reading text more kind
   pub is_limit : limit ≡ limit_of_waiting policy kind (length text)
 
@@ -41,24 +41,24 @@ pub record IsSeen (policy : Policy) (reading : Reading) (text : List ℕ) (fed t
   pub empty_is : IsTrue seen.empty ↔ (text ≡ [])
 
 -- The events of a flush of a text, and what it leaves. An open paste is ended where it is; any other text is read with no more to come.
-pub data Flushes (reading : Reading) (text : List ℕ) : List ExtendedEvent → List ℕ → Type 0 where
-  ends_paste : (event : ExtendedEvent) → IsPasteEvent text event → Flushes reading text (event ∷ []) []
-  reads_all : (events : List ExtendedEvent) (left : List ℕ) → ¬ IsOpenPaste text → Means reading text false events left
+pub data Flushes (reading : Reading) (text : List ℕ) : List Event → List ℕ → Type 0 where
+  ends_paste : (event : Event) → IsPasteEvent text event → Flushes reading text (event ∷ []) []
+  reads_all : (events : List Event) (left : List ℕ) → ¬ IsOpenPaste text → Means reading text false events left
       → Flushes reading text events left
 
 -- One event of a flush, and what is left after it: of an open paste where it is ended, or of an item.
-pub data FlushStep (reading : Reading) (text : List ℕ) : ExtendedEvent → List ℕ → Type 0 where
-  paste_ended : (event : ExtendedEvent) → IsPasteEvent text event → FlushStep reading text event []
-  item_read : (event : ExtendedEvent) (left : List ℕ) → ¬ IsOpenPaste text → Steps reading text false (event ∷ []) left
+pub data FlushStep (reading : Reading) (text : List ℕ) : Event → List ℕ → Type 0 where
+  paste_ended : (event : Event) → IsPasteEvent text event → FlushStep reading text event []
+  item_read : (event : Event) (left : List ℕ) → ¬ IsOpenPaste text → Steps reading text false (event ∷ []) left
       → FlushStep reading text event left
 
 -- A text is buffered, and it is this time. If the text isn't due, more may come to it, and nothing happens. If it is due, no more may come:
 -- it is flushed, and what is left is noted.
 pub data Expires (policy : Policy) (reading : Reading) (text : List ℕ) (timer : Timer) (now : ℕ)
-    : Bool → List ExtendedEvent → List ℕ → Timer → Type 0 where
+    : Bool → List Event → List ℕ → Timer → Type 0 where
   stays : (seen : Seen) → IsSeen policy reading text false false seen → ¬ IsDue (noted timer now seen) now
       → Expires policy reading text timer now true [] text (noted timer now seen)
-  flushed : (seen after : Seen) (events : List ExtendedEvent) (left : List ℕ) → IsSeen policy reading text false false seen
+  flushed : (seen after : Seen) (events : List Event) (left : List ℕ) → IsSeen policy reading text false false seen
       → IsDue (noted timer now seen) now → Flushes reading text events left
       → IsSeen policy (after_events reading events) left false true after
       → Expires policy reading text timer now false events left (noted (noted timer now seen) now after)

@@ -1,25 +1,26 @@
 -- What is at the front of a text, as far as extra sequences and strings go.
-use Rattle.std.specs.Prelude.{◌≡◌, ◌⊎◌, ◌++◌, ℕ, ◌<◌, ◌≤◌, ◌-◌, Bool, true, false, List, [], ◌∷◌, length, take, Contains, Option, Result, IfOk, IfSome, IfNone, OnErr}
+use Rattle.std.specs.Prelude.{◌≡◌, ◌⊎◌, ◌++◌, ℕ, ◌<◌, ◌≤◌, ◌-◌, Bool, true, false, List, [], ◌∷◌, length, take, Option, None, Result, IfOk, IfSome, IfNone, OnErr, if◌then◌else◌, unwrap_or, ◌==◌}
 use Rattle.termwiz_keymap.specs.Bytes.{Begins}
 use Rattle.termwiz_keys.specs.Introducers.{ESC, START}
-use Rattle.termwiz_keys.specs.Keys.{escape, with_alt}
-use Rattle.termwiz_keys.specs.declared.types.KeyEvent.{KeyEvent}
+use Rattle.termwiz_keys.specs.Keys.{escape, plain, with_alt}
 use Rattle.termwiz_keys.specs.declared.types.MouseEvent.{MouseEvent}
 use Rattle.termwiz_keys.specs.declared.types.InputEvent.{InputEvent}
-use Rattle.termwiz_keys.specs.declared.types.InputEvent.TheVariants.{Key as PortsKey}
+use Rattle.termwiz_keys.specs.declared.types.InputEvent.TheVariants as port
+use Rattle.termwiz_keys.specs.declared.types.KeyCode.{KeyCode}
 use Rattle.termwiz_grammar.specs.MouseReports.{IsMouseReport}
-use Rattle.termwiz_input.specs.Matches.{HasRow, IsItemAt}
+use Rattle.termwiz_input.specs.Matches.{IsItemAt}
 use Rattle.termwiz_input.specs.PasteSearch.{IsPasteSoFar}
-use Rattle.termwiz_extended_events.specs.declared.types.ExtendedEvent.{ExtendedEvent}
-use Rattle.termwiz_extended_events.specs.declared.types.ExtendedEvent.TheVariants.{Input}
+use Rattle.termwiz_extended_events.specs.declared.types.Event.{Event}
+use Rattle.termwiz_extended_events.specs.declared.types.Event.TheVariants as event
+use Rattle.termwiz_extended_events.specs.MouseReports.{sgr_report}
+use Rattle.termwiz_extended_events.specs.PortEvents.{decided_key, pressed_key, with_key}
 use Rattle.termwiz_extended_events.specs.declared.types.Reading.{Reading}
-use Rattle.termwiz_extended_events.specs.declared.types.Protocol.TheVariants.{Legacy}
+use Rattle.termwiz_extended_events.specs.declared.types.Dialect.{Dialect}
+use Rattle.termwiz_extended_events.specs.declared.types.Dialect.TheVariants.{Extended, Termwiz}
 use Rattle.termwiz_extended_events.specs.Meanings.{NeedsMemory}
-use Rattle.termwiz_grammar.specs.Grammar.{IsOpen, IsUnfinishedSequence}
-use Rattle.termwiz_grammar.specs.Table.{rows as table_rows}
 use Rattle.termwiz_extended_grammar.specs.Forms.{IsForm, IsUnfinishedForm}
-use Rattle.termwiz_extended_grammar.specs.ExtraSequences.{Overrides, IsExtra, IsBareKey}
-use Rattle.termwiz_extended_grammar.specs.Readings.{after_event, after_events, event_in}
+use Rattle.termwiz_extended_grammar.specs.ExtraSequences.{IsExtra, IsBareKey}
+use Rattle.termwiz_extended_grammar.specs.Readings.{ReadsMore, after_event, after_events, event_in}
 use Rattle.termwiz_extended_grammar.specs.Strings.{StartsWithOpening, IsUnfinishedOpening}
 use Rattle.termwiz_extended_grammar.specs.ExtendedGrammar.{HasItem, IsRest, Stands, StartsApart, Steps}
 use Rattle.termwiz_extended_grammar.specs.ExtendedLaws.{HasNoExtra}
@@ -28,24 +29,14 @@ use Rattle.termwiz_input_extended.specs.declared.next_item.AfterEscape.TheVarian
 use Rattle.termwiz_input_extended.specs.declared.next_item.FormMatch.{FormMatch}
 use Rattle.termwiz_input_extended.specs.declared.next_item.FormMatch.TheVariants as front
 use Rattle.termwiz_input_extended.specs.declared.next_item.NextItem.{NextItem}
-use Rattle.termwiz_input_extended.specs.declared.next_item.NextItem.TheVariants.{Control, Key, Form, AltForm, String, MouseReport, Escape, AltEscape, Paste, Usual, Incomplete}
-use Rattle.termwiz_input_extended.specs.declared.next_item.RowMatch.{RowMatch}
-use Rattle.termwiz_input_extended.specs.declared.next_item.RowMatch.TheVariants.{Long, Short, Begun, Absent}
+use Rattle.termwiz_input_extended.specs.declared.next_item.NextItem.TheVariants.{Control, Form, AltForm, String, MouseReport, Escape, AltEscape, Paste, Usual, Incomplete}
 use Rattle.termwiz_input_extended.specs.Buffered.{Buffered}
 use Rattle.termwiz_input_extended.specs.FormAnswers.{IsScanned, NoFormBegins}
 use Rattle.termwiz_input_extended.specs.StringAnswers.{IsOpeningOf}
 
--- all rows of the sequence table are left to the port
-abbrev pub LeavesRows : Reading → Type 0
-LeavesRows reading = (reading.protocol ≡ Legacy) × (reading.questions ≡ 0)
-
--- the text isn't left to the port, even if it is a row
-abbrev pub IsReported : Reading → List ℕ → Type 0
-IsReported reading text = Overrides reading.protocol reading.questions (event_in reading text)
-
 -- the text is an extra sequence
 abbrev pub IsSomeExtra : Reading → List ℕ → Type 0
-IsSomeExtra reading text = (event : ExtendedEvent) × IsExtra reading text event
+IsSomeExtra reading text = (event : Event) × IsExtra reading text event
 
 -- the first so many bytes of the text are a form that is no mouse report
 pub record IsPlainForm (x10_mouse : Bool) (u : List ℕ) (len : ℕ) : Type 0 where
@@ -82,37 +73,12 @@ pub record IsScannedTo (u : List ℕ) (place : ℕ) : Type 0 where
   pub here : (¬ Begins (ESC ++ ESC) u) → IsScanned u place
   pub after : (v : List ℕ) → u ≡ ESC ++ v → Begins ESC v → IsScanned v (place - 1)
 
--- where all rows are left to the port, the longest sequence that begins the text is the row of this key, of so many bytes, and three or more;
--- nothing that comes changes it
-pub record IsLongRowAt (reading : Reading) (u : List ℕ) (more : Bool) (key : KeyEvent) (len : ℕ) : Type 0 where
-  pub port : LeavesRows reading
-  pub long : 2 < len
-  pub row : HasRow u key len
-  pub closed : ¬ IsOpen u more
-
--- no row of three or more bytes begins the text
-abbrev pub HasNoLongRow : List ℕ → Type 0
-HasNoLongRow u = (len : ℕ) (key : KeyEvent) → 2 < len → len ≤ length u → ¬ Contains table_rows (take len u, key)
-
--- the longest sequence that begins the text is the row of this key, of two bytes; nothing that comes changes it
-pub record IsShortRowAt (u : List ℕ) (more : Bool) (key : KeyEvent) : Type 0 where
-  pub row : HasRow u key 2
-  pub closed : ¬ IsOpen u more
-
--- What a look for a row finds: such a row, or that more comes and the text properly begins a sequence. Where all rows are left to the
--- port, it finds each row of three or more bytes.
-abbrev pub IsRowMatch : Reading → List ℕ → Bool → RowMatch → Type 0
-IsRowMatch reading u more (Long key len) = IsLongRowAt reading u more key.now len
-IsRowMatch reading u more (Short key) = IsShortRowAt u more key.now × HasNoLongRow u
-IsRowMatch reading u more Begun = (more ≡ true) × IsUnfinishedSequence u
-IsRowMatch reading u more Absent = LeavesRows reading → HasNoLongRow u
-
--- The first so many bytes of the text are a form that is no mouse report, after one ESC alone. Where all rows are left to the port it is none.
+-- The first so many bytes of the text are a form that is no mouse report, after one ESC alone.
 pub record IsFormAt (reading : Reading) (u : List ℕ) (len : ℕ) : Type 0 where
+  pub reads : ReadsMore reading
   pub plain : IsPlainForm reading.x10_mouse u len
   pub escape : Begins ESC u
   pub one : ¬ Begins (ESC ++ ESC) u
-  pub no_row : LeavesRows reading → HasNoLongRow u
 
 -- the first so many bytes of the text are an extra sequence
 abbrev pub IsExtraAt : Reading → List ℕ → ℕ → Type 0
@@ -128,20 +94,42 @@ IsReadAfterEscape reading text Joined = IsSomeExtra reading text × IsBareKey re
 IsReadAfterEscape reading text Apart = IsSomeExtra reading text × (¬ IsBareKey reading text)
 IsReadAfterEscape reading text OfPort = ¬ IsSomeExtra reading text
 
+-- the key that the reading decides at the front of a text: of its first byte, or of the one after an ESC
+abbrev pub decided_at : Reading → List ℕ → Option KeyCode
+decided_at reading [] = None
+decided_at reading (b ∷ []) = decided_key reading b
+decided_at reading (b ∷ c ∷ u) = if b == 27 then decided_key reading c else decided_key reading b
+
+abbrev pub front_key : Dialect → Reading → List ℕ → Option KeyCode
+front_key Extended reading u = decided_at reading u
+front_key Termwiz reading u = None
+
+-- the event of an event of the port, with the key that was decided in place of its own
+abbrev pub told_by : Option KeyCode → InputEvent → Event
+told_by decided (port.Key k) = event.Key (pressed_key (with_key k (unwrap_or decided k.key)))
+told_by decided (port.Mouse report) = event.Mouse (sgr_report [] report)
+told_by decided (port.Paste text) = event.Paste text
+told_by decided _ = event.Csi []
+
+-- the character at the front, of so many bytes, is an item of the port's, and no reading decides its key
+pub record IsPlainCharacter (reading : Reading) (u : List ℕ) (more : Bool) (c : ℕ) (len : ℕ) : Type 0 where
+  pub own : IsPortsOwn reading u more
+  pub item : IsItemAt u more (port.Key (plain c)) len
+  pub undecided : front_key reading.dialect reading u ≡ None
+
 -- a control character, but ESC, that is a row of the sequence table
 abbrev pub IsControlKey : ℕ → Type 0
 IsControlKey byte = ((1 ≤ byte) × (byte ≤ 26)) ⊎ (byte ≡ 127)
 
 -- this is at the front of the text, under this flag. Of an incomplete sequence the search goes on from a place.
 abbrev pub IsNextItem : Reading → List ℕ → Bool → NextItem → Type 0
-IsNextItem reading u more (Control byte) = (rest : List ℕ) × (u ≡ byte ∷ rest) × IsControlKey byte
-IsNextItem reading u more (Key key len) = IsPortsOwn reading u more × IsItemAt u more (PortsKey key.now) len
+IsNextItem reading u more (Control byte) = ReadsMore reading × ((rest : List ℕ) × (u ≡ byte ∷ rest) × IsControlKey byte)
 IsNextItem reading u more (Form len) = IsFormAt reading u len
-IsNextItem reading u more (String kind len) = IsOpeningOf u kind len
+IsNextItem reading u more (String kind len) = ReadsMore reading × IsOpeningOf u kind len
 IsNextItem reading u more (MouseReport event len) = (len ≤ length u) × IsMouseReport (take len u) event
 IsNextItem reading u more (AltForm len) = (v : List ℕ) × (u ≡ ESC ++ v) × IsBareKeyAt reading v len
 IsNextItem reading u more Escape = (v : List ℕ) × (u ≡ ESC ++ v) × StartsApart reading v
-IsNextItem reading u more AltEscape = IsPortsOwn reading u more × IsItemAt u more (PortsKey (with_alt escape)) 2
+IsNextItem reading u more AltEscape = IsPortsOwn reading u more × IsItemAt u more (port.Key (with_alt escape)) 2 × Begins (ESC ++ ESC) u
 IsNextItem reading u more Paste = Begins START u
 IsNextItem reading u more Usual = IsPortsOwn reading u more
 IsNextItem reading u more (Incomplete place) = IsRest reading u more × IsScannedTo u place
@@ -149,18 +137,18 @@ IsNextItem reading u more (Incomplete place) = IsRest reading u more × IsScanne
 -- an item stands at u whose event has a text or bytes of its own
 pub record HasItemThatNeedsMemory (reading : Reading) (u : List ℕ) (more : Bool) : Type 0 where
   pub left : List ℕ
-  pub event : ExtendedEvent
+  pub event : Event
   pub stands : Stands reading u more left event
   pub needs : NeedsMemory event
 
 -- the events that a text gives, as far as they are read, need no memory
 abbrev pub GivesNoneThatNeedsMemory : Reading → List ℕ → Bool → Type 0
 GivesNoneThatNeedsMemory reading text more =
-    (events : List ExtendedEvent) (rest : List ℕ) → Steps reading text more events rest
+    (events : List Event) (rest : List ℕ) → Steps reading text more events rest
     → ¬ HasItemThatNeedsMemory (after_events reading events) rest more
 
 -- What a call answers that consumes the item at the front: its event, none if no item is there. The reading is that after the event.
-pub record Emits {F : Type 0} (old : Buffered) (more : Bool) (new : Buffered) (result : Result (Option ExtendedEvent) F) : Type 0 where
+pub record Emits {F : Type 0} (old : Buffered) (more : Bool) (new : Buffered) (result : Result (Option Event) F) : Type 0 where
   pub event : IfOk result (λ found. IfSome found (λ event. Steps old.reading old.text more (event ∷ []) new.text))
   pub reading : IfOk result (λ found. IfSome found (λ event. new.reading ≡ after_event old.reading event))
   pub none : IfOk result (λ found. IfNone found (IsRest old.reading old.text more))
@@ -169,7 +157,7 @@ pub record Emits {F : Type 0} (old : Buffered) (more : Bool) (new : Buffered) (r
   pub refused_same : OnErr result (new ≡ old)
 
 -- What a call answers that moves the event of the item at the front to a list: whether an item is there. After a refusal one is.
-pub record Stores {F : Type 0} (old : Buffered) (more : Bool) (before : List ExtendedEvent) (new : Buffered) (after : List ExtendedEvent)
+pub record Stores {F : Type 0} (old : Buffered) (more : Bool) (before : List Event) (new : Buffered) (after : List Event)
     (result : Result Bool F) : Type 0 where
   pub stored : (reading : Reading) (text : List ℕ) → Steps reading text more before old.text → old.reading ≡ after_events reading before
       → Steps reading text more after new.text × (new.reading ≡ after_events reading after)
@@ -178,5 +166,5 @@ pub record Stores {F : Type 0} (old : Buffered) (more : Bool) (before : List Ext
   pub refused : OnErr result (HasItem new.reading new.text more)
 
 -- the paste whose text is what an open paste has so far
-abbrev pub IsPasteEvent : List ℕ → ExtendedEvent → Type 0
-IsPasteEvent u event = (paste : InputEvent) × IsPasteSoFar u paste × (event ≡ Input paste)
+abbrev pub IsPasteEvent : List ℕ → Event → Type 0
+IsPasteEvent u event = (paste : InputEvent) × IsPasteSoFar u paste × (event ≡ told_by None paste)

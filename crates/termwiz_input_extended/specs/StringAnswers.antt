@@ -4,8 +4,8 @@ use Rattle.termwiz_keymap.specs.Bytes.{Begins}
 use Rattle.termwiz_keys.specs.Introducers.{ESC}
 use Rattle.termwiz_grammar.specs.Laws.{IsHeldEscape}
 use Rattle.termwiz_extended_events.specs.Meanings.{whole_string}
-use Rattle.termwiz_extended_events.specs.declared.types.ExtendedEvent.{ExtendedEvent}
-use Rattle.termwiz_extended_events.specs.declared.types.ExtendedEvent.TheVariants.{StringPart, StringCut}
+use Rattle.termwiz_extended_events.specs.declared.types.Event.{Event}
+use Rattle.termwiz_extended_events.specs.declared.types.Event.TheVariants.{StringPart, StringCut}
 use Rattle.termwiz_extended_events.specs.declared.types.StringKind.{StringKind}
 use Rattle.termwiz_extended_events.specs.declared.types.StringKind.TheVariants.{Dcs}
 use Rattle.termwiz_extended_grammar.specs.Forms.{introducer, IsStringEnd}
@@ -50,7 +50,7 @@ HasEnd kind after Escape = (b : ℕ) × (left : List ℕ) × (after ≡ ESC ++ b
 HasEnd kind after Escapes = Begins (ESC ++ ESC) after
 
 -- the event of a string that ended so, with these bytes
-abbrev pub string_event : StringManner → StringKind → List ℕ → ExtendedEvent
+abbrev pub string_event : StringManner → StringKind → List ℕ → Event
 string_event Whole kind bytes = whole_string kind bytes
 string_event Part kind bytes = StringPart kind bytes
 string_event Cut kind bytes = StringCut kind bytes

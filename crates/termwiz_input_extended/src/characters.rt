@@ -1,10 +1,7 @@
 // Characters at the front of a text: printable ASCII, those of several bytes, and control characters.
 ghost use Rattle.std.specs.Prelude.{◌↔◌, ◌∷◌, [], Bool, Contains, IfSome, IsTrue};
-ghost use Rattle.termwiz_keys.specs.Keys.{plain};
-ghost use Rattle.termwiz_keys.specs.declared.types.InputEvent.TheVariants.{Key};
 ghost use Rattle.termwiz_grammar.specs.Table.{rows as table_rows};
-ghost use Rattle.termwiz_input.specs.Matches.{IsItemAt};
-ghost use Rattle.termwiz_input_extended.specs.NextItems.{IsControlKey, IsPortsOwn};
+ghost use Rattle.termwiz_input_extended.specs.NextItems.{IsControlKey, IsPlainCharacter};
 
 use termwiz_base::{Flags, Modifiers};
 use termwiz_extended_events::types::Reading;
@@ -49,7 +46,7 @@ pub(crate) fn control_key(byte: u8) -> KeyEvent
 #[inline(always)]
 pub(crate) fn match_character(text: &[u8]) -> Option<(char, usize)>
     ensures { IfSome result (λ found. (reading : Reading) (more : Bool)
-        → IsPortsOwn reading text.now more × IsItemAt text.now more (Key (plain found.0)) found.1) }
+        → IsPlainCharacter reading text.now more found.0 found.1) }
 {
     match text {
         [first, ..] if is_printable_ascii(*first) => Some((char::from(*first), 1)),

@@ -1,43 +1,49 @@
 //! The extended parser.
-ghost use Rattle.std.specs.Prelude.{◌≡◌, ◌≢◌, ◌++◌, ◌+◌, ◌≤◌, ◌<◌, max, min, ℕ, Bool, List, [], ◌∷◌, length, take, drop, true, false, OnErr, IfOk, IfErr, IfSome, IfNone, IsSome, IsTrue, ◌↔◌, ◌⊎◌, OnOk, IsOk, IsErrOf, vec_len, vec_capacity};
+ghost use Rattle.std.specs.Prelude.{◌≡◌, ◌≢◌, ◌++◌, ◌+◌, ◌≤◌, ◌<◌, max, min, ℕ, Bool, List, [], ◌∷◌, length, take, drop, true, false, OnErr, IfOk, IfErr, IfSome, IfNone, IsSome, IsTrue, ◌↔◌, ◌⊎◌, OnOk, IsOk, IsErrOf, unwrap_or, vec_len, vec_capacity};
 ghost use Rattle.termwiz_keymap.specs.Bytes.{Begins};
 ghost use Rattle.termwiz_keys.specs.Introducers.{ESC, START};
-ghost use Rattle.termwiz_keys.specs.declared.types.InputEvent.TheVariants as Port;
+ghost use Rattle.termwiz_grammar.specs.MouseReports.{IsMouseReport};
 ghost use Rattle.termwiz_grammar.specs.PasteParts.{HasPart, IsSkipped, IsTaken};
 ghost use Rattle.termwiz_grammar.specs.WaitingKinds.{IsOneOrTwoEscapes, IsOpenPaste};
-ghost use Rattle.termwiz_extended_events.specs.declared.types.ExtendedEvent.{ExtendedEvent as Event};
+ghost use Rattle.termwiz_extended_events.specs.declared.types.Event.{Event};
+ghost use Rattle.termwiz_extended_events.specs.PortEvents.{pressed_key, with_key};
 ghost use Rattle.termwiz_extended_grammar.specs.ExtraSequences.{with_alt};
-ghost use Rattle.termwiz_extended_grammar.specs.Readings.{after_event, after_events, asking, first_reading};
+ghost use Rattle.termwiz_extended_grammar.specs.Readings.{ReadsMore, after_event, after_events, asking, first_reading};
 ghost use Rattle.termwiz_extended_grammar.specs.ExtendedGrammar.{HasItem, IsRest, Means, Steps};
 ghost use Rattle.termwiz_extended_grammar.specs.ExtendedKinds.{IsKind};
 ghost use Rattle.termwiz_extended_grammar.specs.ExtendedLaws.{Waits};
 ghost use Rattle.termwiz_input_extended.specs.Buffered.{IsToldByBytes};
 ghost use Rattle.termwiz_input_extended.specs.EventCallbacks.{MayBeCalledOn, WasCalledOn};
-ghost use Rattle.termwiz_input_extended.specs.NextItems.{Emits, GivesNoneThatNeedsMemory, HasItemThatNeedsMemory, IsBareKeyAt, IsNextItem, IsFormAt, IsPasteEvent, IsPortsOwn, Stores};
+ghost use Rattle.termwiz_input_extended.specs.NextItems.{Emits, GivesNoneThatNeedsMemory, HasItemThatNeedsMemory, IsBareKeyAt, IsNextItem, IsFormAt, IsPasteEvent, IsPortsOwn, Stores, told_by};
 ghost use Rattle.termwiz_input_extended.specs.StringAnswers.{IsOpeningOf};
 
 use crate::characters::{control_key, match_character};
 use crate::form::INTRODUCED;
 use crate::next_item::{
-    NextItem, is_extra_at, meaning_in, next_item, plain_report_at, string_meaning,
+    NextItem, decided_at, is_extra_at, meaning_in, next_item, plain_report_at, string_meaning,
 };
 use crate::string::{OpeningAt, StringAt, opening_at, string_at};
 use std::alloc::{AllocError, Global};
 use std::marker::Model;
-use termwiz_extended_events::types::{ExtendedEvent, KeyReport, Protocol, Reading, StringKind};
+use termwiz_extended_events::mouse_reports::sgr_report;
+use termwiz_extended_events::port_events::{decided_key, pressed_key};
+use termwiz_extended_events::types::{
+    Dialect, Event, KeyReport, Reading, SequenceBytes, StringKind,
+};
 pub use termwiz_extended_grammar::waiting::ExtendedWaiting;
 pub use termwiz_input::input::ParseError;
 use termwiz_input::input::{
-    InputEvent, InputParser, KeyEvent, MouseEvent, PastedText, Waiting, alt_key, copied,
-    escape_key, plain_key,
+    FrontReport, InputEvent, InputParser, KeyEvent, PastedText, Waiting, alt_key, escape_key,
+    mouse_report_at, plain_key,
 };
+use termwiz_keys::types::{KeyCode, MouseEvent};
 
 /// A call of [`ExtendedParser::parse_as_vec`] was refused memory. No event is lost: the parser has consumed exactly what `events` came from,
 /// and the next call goes on from there. Call again with the same bytes if `taken` is false, and with no bytes if it is true.
 #[derive(PartialEq, Eq, Debug, Drop)]
 pub struct ExtendedVecError {
     /// The events so far.
-    pub events: Vec<ExtendedEvent>,
+    pub events: Vec<Event>,
     /// Whether the bytes of the call were taken. If not, there are no events, and the parser is unchanged.
     pub taken: bool,
 }
@@ -70,29 +76,40 @@ impl Model for ExtendedParser {
 // More events than most reads have.
 const FIRST_ROOM: usize = 256;
 
-// The event of a key of the port.
-fn key_event(key: KeyEvent) -> ExtendedEvent
-    ensures { result ≡ Event.Input (Port.Key key) }
+// The event of a key of the port, or of the key that the reading decides.
+#[inline(always)]
+fn key_event(alloc: Global, event: KeyEvent, decided: Option<KeyCode>) -> Event
+    ensures { result ≡ Event.Key (pressed_key (with_key event (unwrap_or decided event.key))) }
 {
-    ExtendedEvent::Input(InputEvent::Key(key))
+    let event = KeyEvent {
+        key: decided.unwrap_or(event.key),
+        modifiers: event.modifiers,
+    };
+    Event::Key(pressed_key(alloc, &event))
 }
 
-// The event of a mouse report of the port.
-fn mouse_event(event: MouseEvent) -> ExtendedEvent
-    ensures { result ≡ Event.Input (Port.Mouse event) }
+// The event of an event of the port, of whose bytes nothing else is told. It isn't inlined, since nearly every event is a key.
+#[inline(never)]
+fn told_event(alloc: Global, event: InputEvent, decided: Option<KeyCode>) -> Event
+    ensures { result ≡ told_by decided event }
 {
-    ExtendedEvent::Input(InputEvent::Mouse(event))
+    match event {
+        InputEvent::Key(key) => key_event(alloc, key, decided),
+        InputEvent::Mouse(report) => Event::Mouse(sgr_report(b"", report)),
+        InputEvent::Paste(text) => Event::Paste(text),
+        _ => Event::Csi(SequenceBytes::new(Vec::new(alloc))),
+    }
 }
 
 // Kitty's bit of ALT.
 const ALT_BIT: u8 = 2;
 
 // The event of a bare key after ESC.
-fn with_alt(event: ExtendedEvent) -> ExtendedEvent
+fn with_alt(event: Event) -> Event
     ensures { result ≡ with_alt event }
 {
     match event {
-        ExtendedEvent::Key(report) => ExtendedEvent::Key(KeyReport {
+        Event::Key(report) => Event::Key(KeyReport {
             key: report.key,
             modifiers: report.modifiers | ALT_BIT,
             kind: report.kind,
@@ -105,12 +122,13 @@ fn with_alt(event: ExtendedEvent) -> ExtendedEvent
 }
 
 impl ExtendedParser {
-    /// A parser for this protocol, whose buffer is empty: by [`Reading::new`] it reads no X10 mouse reports, and no question is open.
-    pub fn new(alloc: Global, protocol: Protocol) -> Result<ExtendedParser, AllocError>
+    /// A parser by this grammar, whose buffer is empty: by [`Reading::new`] it reads no X10 mouse reports, no question is open, Backspace sends
+    /// 127, and byte 10 is Ctrl-J.
+    pub fn new(alloc: Global, dialect: Dialect) -> Result<ExtendedParser, AllocError>
         ensures empty { IfOk result (λ parser. parser.text ≡ []) }
-        ensures reading { IfOk result (λ parser. parser.reading ≡ first_reading protocol) }
+        ensures reading { IfOk result (λ parser. parser.reading ≡ first_reading dialect) }
     {
-        Ok(ExtendedParser::over(alloc, InputParser::new(alloc)?, Reading::new(protocol)))
+        Ok(ExtendedParser::over(alloc, InputParser::new(alloc)?, Reading::new(dialect)))
     }
 
     // A parser over another, of whose buffer nothing was searched.
@@ -126,13 +144,13 @@ impl ExtendedParser {
         }
     }
 
-    /// Another parser with the sequence table of this one, for this protocol, whose buffer is empty. It asks for no memory; see
+    /// Another parser with the sequence table of this one, by this grammar, whose buffer is empty. It asks for no memory; see
     /// [`InputParser::sharing`].
-    pub fn sharing(&self, protocol: Protocol) -> Result<ExtendedParser, AllocError>
+    pub fn sharing(&self, dialect: Dialect) -> Result<ExtendedParser, AllocError>
         ensures empty { IfOk result (λ parser. parser.text ≡ []) }
-        ensures reading { IfOk result (λ parser. parser.reading ≡ first_reading protocol) }
+        ensures reading { IfOk result (λ parser. parser.reading ≡ first_reading dialect) }
     {
-        ExtendedParser::sharing_table_of(self.alloc, &self.parser, protocol)
+        ExtendedParser::sharing_table_of(self.alloc, &self.parser, dialect)
     }
 
     /// A parser with the sequence table of an [`InputParser`], as [`ExtendedParser::sharing`] makes one. So a program with parsers of both
@@ -140,12 +158,12 @@ impl ExtendedParser {
     pub fn sharing_table_of(
         alloc: Global,
         parser: &InputParser,
-        protocol: Protocol,
+        dialect: Dialect,
     ) -> Result<ExtendedParser, AllocError>
         ensures empty { IfOk result (λ parser. parser.text ≡ []) }
-        ensures reading { IfOk result (λ parser. parser.reading ≡ first_reading protocol) }
+        ensures reading { IfOk result (λ parser. parser.reading ≡ first_reading dialect) }
     {
-        Ok(ExtendedParser::over(alloc, parser.sharing()?, Reading::new(protocol)))
+        Ok(ExtendedParser::over(alloc, parser.sharing()?, Reading::new(dialect)))
     }
 
     /// An [`InputParser`] with the sequence table of this parser, whose buffer is empty.
@@ -176,11 +194,11 @@ impl ExtendedParser {
         self.reading = reading;
     }
 
-    /// The protocol of its reading.
-    pub fn protocol(&self) -> Protocol
-        ensures { result ≡ self.now.reading.protocol }
+    /// By which grammar it reads.
+    pub fn dialect(&self) -> Dialect
+        ensures { result ≡ self.now.reading.dialect }
     {
-        self.reading.protocol
+        self.reading.dialect
     }
 
     /// Expects one more reply to a question for the cursor's position, up to 255: call it with each ESC `[6n` that is written. While a reply is
@@ -221,7 +239,7 @@ impl ExtendedParser {
 
     // What is at the front of the buffer.
     #[inline(always)]
-    fn next_item(&self, maybe_more: bool) -> NextItem<'_>
+    fn next_item(&self, maybe_more: bool) -> NextItem
         ensures { IsNextItem self.now.reading self.now.text maybe_more result }
     {
         next_item(
@@ -247,10 +265,10 @@ impl ExtendedParser {
     }
 
     // Counts a position of the cursor as the reply to a question.
-    fn note_event(&mut self, event: &ExtendedEvent)
+    fn note_event(&mut self, event: &Event)
         ensures { self.new ≡ record self.old { reading = after_event self.old.reading event.now } }
     {
-        if let ExtendedEvent::CursorPosition { .. } = event {
+        if let Event::CursorPosition { .. } = event {
             self.reading.questions = self.reading.questions.saturating_sub(1);
         }
     }
@@ -293,8 +311,9 @@ impl ExtendedParser {
         kind: StringKind,
         opening: usize,
         maybe_more: bool,
-    ) -> Result<Option<ExtendedEvent>, AllocError>
-        requires { IsOpeningOf self.old.text kind opening }
+    ) -> Result<Option<Event>, AllocError>
+        requires reads { ReadsMore self.old.reading }
+        requires opening { IsOpeningOf self.old.text kind opening }
         ensures { Emits self.old maybe_more self.new result }
     {
         let text = self.waiting_text();
@@ -312,15 +331,38 @@ impl ExtendedParser {
         }
     }
 
+    // Consumes the mouse report of so many bytes at the front of the buffer, and returns its event. It isn't inlined, so that no other event
+    // pays for its place in a frame.
+    #[inline(never)]
+    fn next_report(&mut self, event: MouseEvent, len: usize) -> Result<Option<Event>, AllocError>
+        requires within { len ≤ length self.old.text }
+        requires report { IsMouseReport (take len self.old.text) event }
+        ensures { (more : Bool) → Emits self.old more self.new result }
+    {
+        let report = sgr_report(&self.waiting_text()[..len], event);
+        self.consume(len);
+        Ok(Some(Event::Mouse(report)))
+    }
+
     // Consumes what the port finds at the front of the buffer.
-    fn next_of_port(&mut self, maybe_more: bool) -> Result<Option<ExtendedEvent>, AllocError>
+    fn next_of_port(&mut self, maybe_more: bool) -> Result<Option<Event>, AllocError>
         requires { IsPortsOwn self.old.reading self.old.text maybe_more }
         ensures { Emits self.old maybe_more self.new result }
     {
+        let text = self.waiting_text();
+        if let FrontReport::Whole(event, len) = mouse_report_at(text) {
+            return self.next_report(event, len);
+        }
+        let decided = decided_at(self.reading, text);
         match self.parser.next_event(maybe_more)? {
+            // `told_event` says the same of a key, but is slower.
+            Some(InputEvent::Key(key)) => {
+                self.scanned = 0;
+                Ok(Some(key_event(self.alloc, key, decided)))
+            }
             Some(event) => {
                 self.scanned = 0;
-                Ok(Some(ExtendedEvent::Input(event)))
+                Ok(Some(told_event(self.alloc, event, decided)))
             }
             None => Ok(None),
         }
@@ -328,7 +370,7 @@ impl ExtendedParser {
 
     // The same for a text that a paste begins: quicker where its end isn't there.
     #[inline(always)]
-    fn next_paste(&mut self, maybe_more: bool) -> Result<Option<ExtendedEvent>, AllocError>
+    fn next_paste(&mut self, maybe_more: bool) -> Result<Option<Event>, AllocError>
         requires { Begins START self.old.text }
         ensures { Emits self.old maybe_more self.new result }
     {
@@ -340,11 +382,7 @@ impl ExtendedParser {
 
     // Consumes the form of so many bytes at the front of the buffer, and returns its event. A row of the table is the port's.
     #[inline(never)]
-    fn next_form(
-        &mut self,
-        len: usize,
-        maybe_more: bool,
-    ) -> Result<Option<ExtendedEvent>, AllocError>
+    fn next_form(&mut self, len: usize, maybe_more: bool) -> Result<Option<Event>, AllocError>
         requires { IsFormAt self.old.reading self.old.text len }
         ensures { Emits self.old maybe_more self.new result }
     {
@@ -361,11 +399,7 @@ impl ExtendedParser {
 
     // Consumes ESC and the bare key of so many bytes after it, and returns the key with ALT.
     #[inline(never)]
-    fn next_alt_form(
-        &mut self,
-        len: usize,
-        maybe_more: bool,
-    ) -> Result<Option<ExtendedEvent>, AllocError>
+    fn next_alt_form(&mut self, len: usize, maybe_more: bool) -> Result<Option<Event>, AllocError>
         requires { (v : List ℕ) × (self.old.text ≡ ESC ++ v) × IsBareKeyAt self.old.reading v len }
         ensures { Emits self.old maybe_more self.new result }
     {
@@ -378,40 +412,33 @@ impl ExtendedParser {
     // Consumes the item at the front of the buffer, and returns its event. `None` if no item is there. `next_event` is quicker for
     // characters.
     #[inline(never)]
-    fn emit_item(&mut self, maybe_more: bool) -> Result<Option<ExtendedEvent>, AllocError>
+    fn emit_item(&mut self, maybe_more: bool) -> Result<Option<Event>, AllocError>
         ensures { Emits self.old maybe_more self.new result }
     {
         match self.next_item(maybe_more) {
             NextItem::Control(byte) => {
+                let decided = decided_key(self.reading, byte);
                 self.consume(1);
-                Ok(Some(key_event(control_key(byte))))
-            }
-            NextItem::Key(key, len) => {
-                let key = copied(key);
-                self.consume(len);
-                Ok(Some(key_event(key)))
+                Ok(Some(key_event(self.alloc, control_key(byte), decided)))
             }
             NextItem::Form(len) => {
                 // The frame of `next_form` is large, and an event that is returned from here isn't copied on its way.
-                if let Some(report) = plain_report_at(self.reading, self.waiting_text(), len) {
+                if let Some(report) = plain_report_at(self.waiting_text(), len) {
                     self.consume(len);
-                    return Ok(Some(ExtendedEvent::Key(report.whole(self.alloc))));
+                    return Ok(Some(Event::Key(report.whole(self.alloc))));
                 }
                 self.next_form(len, maybe_more)
             }
             NextItem::AltForm(len) => self.next_alt_form(len, maybe_more),
             NextItem::String(kind, opening) => self.next_string(kind, opening, maybe_more),
-            NextItem::MouseReport(event, len) => {
-                self.consume(len);
-                Ok(Some(mouse_event(event)))
-            }
+            NextItem::MouseReport(event, len) => self.next_report(event, len),
             NextItem::Escape => {
                 self.consume(1);
-                Ok(Some(key_event(escape_key())))
+                Ok(Some(key_event(self.alloc, escape_key(), None)))
             }
             NextItem::AltEscape => {
                 self.consume(2);
-                Ok(Some(key_event(alt_key(escape_key()))))
+                Ok(Some(key_event(self.alloc, alt_key(escape_key()), None)))
             }
             NextItem::Paste => self.next_paste(maybe_more),
             NextItem::Usual => self.next_of_port(maybe_more),
@@ -428,11 +455,11 @@ impl ExtendedParser {
     /// Pass `maybe_more` as for [`ExtendedParser::parse`]. Memory is needed for the text of a paste or of a key, and for the bytes of `Csi`,
     /// `Osc`, `Dcs`, `Apc`, `StringPart` and `StringCut`. If it is refused, the parser is unchanged and the item still at its front, and the same call may be made again.
     /// Any other event needs none.
-    #[tactic(auto, using(crate::proofs::lemmas::fronts::LeftBounded::left_flushed, crate::proofs::lemmas::fronts::LeftBounded::left_waits, crate::proofs::lemmas::calls::ProtocolKept::protocol_emitted))]
-    pub fn next_event(&mut self, maybe_more: bool) -> Result<Option<ExtendedEvent>, AllocError>
+    #[tactic(auto, using(crate::proofs::lemmas::fronts::LeftBounded::left_flushed, crate::proofs::lemmas::fronts::LeftBounded::left_waits, crate::proofs::lemmas::calls::DialectKept::dialect_emitted))]
+    pub fn next_event(&mut self, maybe_more: bool) -> Result<Option<Event>, AllocError>
         ensures event { IfOk result (λ found. IfSome found (λ event. Steps self.old.reading self.old.text maybe_more (event ∷ []) self.new.text)) }
         ensures reading { IfOk result (λ found. IfSome found (λ event. self.new.reading ≡ after_event self.old.reading event)) }
-        ensures protocol { self.new.reading.protocol ≡ self.old.reading.protocol }
+        ensures dialect { self.new.reading.dialect ≡ self.old.reading.dialect }
         ensures none { IfOk result (λ found. IfNone found (IsRest self.old.reading self.old.text maybe_more)) }
         ensures none_same { IfOk result (λ found. IfNone found (self.new ≡ self.old)) }
         ensures refused { OnErr result (HasItemThatNeedsMemory self.old.reading self.old.text maybe_more) }
@@ -448,7 +475,7 @@ impl ExtendedParser {
         match match_character(self.waiting_text()) {
             Some((character, len)) => {
                 self.consume(len);
-                Ok(Some(key_event(plain_key(character))))
+                Ok(Some(key_event(self.alloc, plain_key(character), None)))
             }
             None => self.emit_item(maybe_more),
         }
@@ -461,17 +488,20 @@ impl ExtendedParser {
         ensures kind { (more : Bool) → IsRest self.now.reading self.now.text more → IsKind self.now.reading self.now.text more result }
 
         // The first bytes alone tell the kind, also where an item is matched.
-        ensures bytes { IsToldByBytes self.now.text result }
+        ensures bytes { IsToldByBytes self.now.reading self.now.text result }
     {
         match self.parser.waiting() {
             Waiting::Nothing => ExtendedWaiting::Nothing,
             Waiting::Escape => ExtendedWaiting::Escape,
             Waiting::Character => ExtendedWaiting::Character,
             Waiting::Paste => ExtendedWaiting::Paste,
-            Waiting::Sequence => match opening_at(self.waiting_text()) {
-                OpeningAt::Opening(..) => ExtendedWaiting::String,
-                OpeningAt::Unfinished => ExtendedWaiting::Sequence,
-                OpeningAt::Absent => ExtendedWaiting::Sequence,
+            Waiting::Sequence => match self.reading.dialect {
+                Dialect::Extended => match opening_at(self.waiting_text()) {
+                    OpeningAt::Opening(..) => ExtendedWaiting::String,
+                    OpeningAt::Unfinished => ExtendedWaiting::Sequence,
+                    OpeningAt::Absent => ExtendedWaiting::Sequence,
+                },
+                Dialect::Termwiz => ExtendedWaiting::Sequence,
             },
         }
     }
@@ -480,7 +510,7 @@ impl ExtendedParser {
     ///
     /// It is for a program with limits in time of its own; [`expire`](crate::time::expire) flushes by those of a policy. Unlike a flush, it
     /// breaks only what is cut right after its ESC or ESC ESC.
-    pub fn flush_escape(&mut self) -> Option<ExtendedEvent>
+    pub fn flush_escape(&mut self) -> Option<Event>
         ensures event { IfSome result (λ event. Means self.old.reading self.old.text false (event ∷ []) self.new.text) }
         ensures reading { self.new.reading ≡ self.old.reading }
         ensures when { IsSome result ↔ IsOneOrTwoEscapes self.old.text }
@@ -489,7 +519,7 @@ impl ExtendedParser {
         match self.parser.flush_escape() {
             Some(event) => {
                 self.scanned = 0;
-                Some(ExtendedEvent::Input(event))
+                Some(told_event(self.alloc, event, None))
             }
             None => None,
         }
@@ -501,7 +531,7 @@ impl ExtendedParser {
     /// Call it at the end of the input. What the terminal still sends of the paste arrives as typed keys. A paste that stalls is given up by a
     /// limit in time: see [`expire`](crate::time::expire). For a paste that is too long call [`ExtendedParser::take_paste`] or
     /// [`ExtendedParser::skip_paste`]. If memory for the text is refused, the parser is unchanged.
-    pub fn end_paste(&mut self) -> Result<Option<ExtendedEvent>, AllocError>
+    pub fn end_paste(&mut self) -> Result<Option<Event>, AllocError>
         ensures event { IfOk result (λ found. IfSome found (IsPasteEvent self.old.text)) }
         ensures nothing { IfOk result (λ found. IfSome found (λ _. self.new.text ≡ [])) }
         ensures reading { self.new.reading ≡ self.old.reading }
@@ -513,7 +543,7 @@ impl ExtendedParser {
         match self.parser.end_paste()? {
             Some(event) => {
                 self.scanned = 0;
-                Ok(Some(ExtendedEvent::Input(event)))
+                Ok(Some(told_event(self.alloc, event, None)))
             }
             None => Ok(None),
         }
@@ -523,7 +553,7 @@ impl ExtendedParser {
     /// is open; the parser is then unchanged.
     ///
     /// Call it after each read and its events, as [`InputParser::take_paste`], such as with a limit of 2^20: the text is the next part of what
-    /// is pasted. The paste stays open, and the [`InputEvent::Paste`] that ends it has the rest of its text, maybe none. At most five bytes are
+    /// is pasted. The paste stays open, and the [`Event::Paste`] that ends it has the rest of its text, maybe none. At most five bytes are
     /// held back, that may be the beginning of the paste's end or of a character. If memory for the text is refused, the parser is
     /// unchanged.
     pub fn take_paste(&mut self, limit: usize) -> Result<Option<PastedText>, AllocError>
@@ -549,7 +579,7 @@ impl ExtendedParser {
     /// Forgets text of an open paste before its end comes: all that [`ExtendedParser::take_paste`] would take with a limit of 0. Returns how many
     /// bytes these were. `None` if no paste is open; the parser is then unchanged.
     ///
-    /// To refuse a paste that is too long, call it after each read and its events until the [`InputEvent::Paste`] comes, and ignore that event.
+    /// To refuse a paste that is too long, call it after each read and its events until the [`Event::Paste`] comes, and ignore that event.
     /// So no byte of the paste becomes a key. It asks for no memory, and afterwards at most 11 bytes of the paste stay buffered.
     pub fn skip_paste(&mut self) -> Option<usize>
         ensures skipped { IfSome result (λ count. IsSkipped self.old.text count self.new.text) }
@@ -574,7 +604,7 @@ impl ExtendedParser {
     ///
     /// Pass `maybe_more` as for [`ExtendedParser::parse`]. If memory for an event is refused, its item is still at the front of what waits,
     /// and the same call may be made again.
-    pub fn for_each_event<F: FnMut(ExtendedEvent)>(
+    pub fn for_each_event<F: FnMut(Event)>(
         &mut self,
         callback: &mut F,
         maybe_more: bool,
@@ -583,7 +613,7 @@ impl ExtendedParser {
             → MayBeCalledOn F.FnMut callback.old events }
         ensures ok { OnOk result ((events : List Event) × Means self.old.reading self.old.text maybe_more events self.new.text
             × (self.new.reading ≡ after_events self.old.reading events) × WasCalledOn F.step callback.old events callback.new) }
-        ensures protocol { self.new.reading.protocol ≡ self.old.reading.protocol }
+        ensures dialect { self.new.reading.dialect ≡ self.old.reading.dialect }
 
         // Without more to come only an open paste stays buffered.
         ensures flushed { maybe_more ≡ false → OnOk result ((self.new.text ≡ []) ⊎ Begins START self.new.text) }
@@ -609,7 +639,7 @@ impl ExtendedParser {
     /// Pass `maybe_more` as true while more bytes may come: then a text that may yet become a longer sequence or a character
     /// stays buffered. After a pause call [`expire`](crate::time::expire). Pass false at the end of the input: then only an open
     /// paste stays buffered. No bytes and false are a flush.
-    pub fn parse<F: FnMut(ExtendedEvent)>(
+    pub fn parse<F: FnMut(Event)>(
         &mut self,
         bytes: &[u8],
         callback: &mut F,
@@ -620,7 +650,7 @@ impl ExtendedParser {
         ensures ok { OnOk result ((events : List Event)
             × Means self.old.reading (self.old.text ++ bytes.now) maybe_more events self.new.text
             × (self.new.reading ≡ after_events self.old.reading events) × WasCalledOn F.step callback.old events callback.new) }
-        ensures protocol { self.new.reading.protocol ≡ self.old.reading.protocol }
+        ensures dialect { self.new.reading.dialect ≡ self.old.reading.dialect }
 
         // Without more to come only an open paste stays buffered.
         ensures flushed { maybe_more ≡ false → OnOk result ((self.new.text ≡ []) ⊎ Begins START self.new.text) }
@@ -683,7 +713,7 @@ impl ExtendedParser {
     }
 
     // Makes room in the list for one more event, if an item is at the front of the buffer.
-    fn make_room(&self, events: &mut Vec<ExtendedEvent>, maybe_more: bool) -> Result<(), AllocError>
+    fn make_room(&self, events: &mut Vec<Event>, maybe_more: bool) -> Result<(), AllocError>
         ensures items { events.new.items ≡ events.old.items }
         ensures room { OnOk result (HasItem self.now.reading self.now.text maybe_more → vec_len events.new < vec_capacity events.new) }
         ensures item { OnErr result (HasItem self.now.reading self.now.text maybe_more) }
@@ -699,11 +729,7 @@ impl ExtendedParser {
 
     // Moves the event of the item at the front of the buffer to the list. False if no item is there. There is room for the event before
     // its bytes are consumed.
-    fn store_next(
-        &mut self,
-        events: &mut Vec<ExtendedEvent>,
-        maybe_more: bool,
-    ) -> Result<bool, AllocError>
+    fn store_next(&mut self, events: &mut Vec<Event>, maybe_more: bool) -> Result<bool, AllocError>
         ensures { Stores self.old maybe_more events.old.items self.new events.new.items result }
     {
         self.make_room(events, maybe_more)?;
@@ -717,15 +743,11 @@ impl ExtendedParser {
     }
 
     // Moves the events of the buffered bytes to an empty list, in order. An event's bytes are consumed only after there is room for it.
-    fn store_events(
-        &mut self,
-        events: &mut Vec<ExtendedEvent>,
-        maybe_more: bool,
-    ) -> Result<(), AllocError>
+    fn store_events(&mut self, events: &mut Vec<Event>, maybe_more: bool) -> Result<(), AllocError>
         requires { events.old.items ≡ [] }
         ensures steps { Steps self.old.reading self.old.text maybe_more events.new.items self.new.text }
         ensures reading { self.new.reading ≡ after_events self.old.reading events.new.items }
-        ensures protocol { self.new.reading.protocol ≡ self.old.reading.protocol }
+        ensures dialect { self.new.reading.dialect ≡ self.old.reading.dialect }
         ensures rest { OnOk result (IsRest self.new.reading self.new.text maybe_more) }
         ensures item { OnErr result (HasItem self.new.reading self.new.text maybe_more) }
         ensures few { length events.new.items + length self.new.text ≤ length self.old.text }
@@ -744,11 +766,11 @@ impl ExtendedParser {
         &mut self,
         bytes: &[u8],
         maybe_more: bool,
-    ) -> Result<Vec<ExtendedEvent>, ExtendedVecError>
+    ) -> Result<Vec<Event>, ExtendedVecError>
         ensures ok { IfOk result (λ events. Means self.old.reading (self.old.text ++ bytes.now) maybe_more events.items self.new.text) }
         ensures few { IfOk result (λ events. length events.items + length self.new.text ≤ length self.old.text + length bytes.now) }
         ensures reading { IfOk result (λ events. self.new.reading ≡ after_events self.old.reading events.items) }
-        ensures protocol { self.new.reading.protocol ≡ self.old.reading.protocol }
+        ensures dialect { self.new.reading.dialect ≡ self.old.reading.dialect }
 
         // Without more to come only an open paste stays buffered.
         ensures flushed { maybe_more ≡ false → OnOk result ((self.new.text ≡ []) ⊎ Begins START self.new.text) }

@@ -1,34 +1,33 @@
 // What is at the front of a text: an extra sequence, a string, the Escape key before one, or what the port finds there.
-ghost use Rattle.std.specs.Prelude.{◌≡◌, ◌≢◌, ◌↔◌, ◌++◌, ℕ, Bool, false, List, [], take, IfSome, IsTrue, Some, Contains};
+ghost use Rattle.std.specs.Prelude.{◌≡◌, ◌≢◌, ◌≤◌, length, ◌↔◌, ◌++◌, ℕ, Bool, false, List, [], take, IfSome, IsTrue, Some, Contains};
 ghost use Rattle.termwiz_keymap.specs.Bytes.{Begins};
 ghost use Rattle.termwiz_keys.specs.Introducers.{ESC, CSI, START};
-ghost use Rattle.termwiz_keys.specs.declared.types.InputEvent.TheVariants.{Key as PortsKey};
 ghost use Rattle.termwiz_keys.specs.declared.types.KeyEvent.{KeyEvent as Key};
 ghost use Rattle.termwiz_keys.specs.declared.types.MouseEvent.{MouseEvent as Mouse};
 ghost use Rattle.termwiz_grammar.specs.MouseReports.{IsMouseReport};
 ghost use Rattle.termwiz_grammar.specs.Table.{rows as table_rows};
-ghost use Rattle.termwiz_input.specs.Matches.{IsItemAt};
 ghost use Rattle.termwiz_input.specs.MouseReportAnswers.{HasNoPartInMouseReports};
-ghost use Rattle.termwiz_extended_events.specs.declared.types.ExtendedEvent.TheVariants.{Key as KeyReported};
+ghost use Rattle.termwiz_extended_events.specs.declared.types.Event.TheVariants.{Key as KeyReported};
 ghost use Rattle.termwiz_extended_events.specs.KeyReports.{plain_report};
 ghost use Rattle.termwiz_extended_events.specs.Meanings.{event_from};
 ghost use Rattle.termwiz_extended_grammar.specs.Forms.{IsForm, IsKeypadKey};
-ghost use Rattle.termwiz_extended_grammar.specs.ExtraSequences.{EndsAsRxvt, EndsWithZ, IsBackTab, IsBareKey, IsCursorLetter, IsLetteredKey, IsRxvtFunction, IsShortKey};
-ghost use Rattle.termwiz_extended_grammar.specs.Readings.{event_in};
+ghost use Rattle.termwiz_extended_grammar.specs.ExtraSequences.{EndsAsRxvt, EndsWithZ, IsBackTab, IsBareKey, IsBeginKey, IsCursorLetter, IsLetteredKey, IsRxvtFunction, IsShortKey};
+ghost use Rattle.termwiz_extended_grammar.specs.Readings.{ReadsMore, event_in};
 ghost use Rattle.termwiz_input_extended.specs.FormAnswers.{IsScanned};
 ghost use Rattle.termwiz_input_extended.specs.StringAnswers.{HasOpening, string_event};
-ghost use Rattle.termwiz_input_extended.specs.NextItems.{IsFormMatch, HasNoLongRow, IsNextItem, IsExtraAt, IsFormAt, IsRowMatch, IsPortsOwn, IsReadAfterEscape, IsReported, IsScannedTo, IsSomeExtra, LeavesRows};
+ghost use Rattle.termwiz_input_extended.specs.NextItems.{IsFormMatch, IsNextItem, IsExtraAt, IsFormAt, IsPortsOwn, IsReadAfterEscape, IsScannedTo, IsSomeExtra, front_key};
 
 use crate::characters::is_control_key;
 use crate::form::{ESCAPE, FormAt, form_at, is_keypad_letter, next_scan};
 use crate::string::{OpeningAt, StringItem, StringManner, opening_at};
 use termwiz_extended_events::meanings::{Meaning, meaning_of, plain_report};
-use termwiz_extended_events::types::{PlainReport, Protocol, Reading, StringKind};
+use termwiz_extended_events::port_events::decided_key;
+use termwiz_extended_events::types::{Dialect, PlainReport, Reading, StringKind};
 use termwiz_input::input::{
     FrontReport, InputParser, begins_paste, follows_escape, mouse_report_at,
 };
 use termwiz_input::keymap::Found;
-use termwiz_keys::types::{KeyEvent, MouseEvent};
+use termwiz_keys::types::{KeyCode, MouseEvent};
 
 // What form, or opening of a string, is at the front of a text.
 #[derive(Drop)]
@@ -45,27 +44,12 @@ pub(crate) enum FormMatch {
     Absent,
 }
 
-// What a look for a row of two or more bytes at the front of a text finds.
-#[derive(Drop)]
-pub(crate) enum RowMatch<'k> {
-    // The row of this key, of so many bytes: three or more. No longer sequence can begin there.
-    Long(&'k KeyEvent, usize),
-    // The row of this key, of two bytes. No longer row can begin there, but a form can.
-    Short(&'k KeyEvent),
-    // More may come, and the whole text properly begins a row.
-    Begun,
-    // This decides nothing.
-    Absent,
-}
-
 // What is at the front of a text that no character begins. A `usize` is the number of its bytes, but for `Incomplete`.
 #[derive(Drop)]
-pub(crate) enum NextItem<'k> {
+pub(crate) enum NextItem {
     // A control character, but ESC, that is read as its key.
     Control(u8),
-    // A row of the sequence table that is read as its key.
-    Key(&'k KeyEvent, usize),
-    // A form that is no mouse report: an extra sequence, or a row of the sequence table where not all rows are left to the port.
+    // A form that is no mouse report: an extra sequence, or a row of the sequence table.
     Form(usize),
     // ESC and a bare key of so many bytes.
     AltForm(usize),
@@ -104,34 +88,15 @@ pub(crate) fn meaning_in(reading: Reading, text: &[u8]) -> Meaning<'_>
     meaning_of(text, reading.questions > 0)
 }
 
-// Whether all rows of the sequence table are left to the port.
-fn leaves_rows(reading: Reading) -> bool
-    ensures { IsTrue result ↔ LeavesRows reading }
-{
-    match reading.protocol {
-        Protocol::Legacy => reading.questions == 0,
-        Protocol::Kitty => false,
-    }
-}
-
-// Whether a form of this meaning isn't left to the port, even if it is a row.
-fn is_reported(reading: Reading, meaning: &Meaning<'_>) -> bool
-    ensures { (form : List ℕ) → event_from meaning.now ≡ Some (event_in reading form) → IsTrue result ↔ IsReported reading form }
-{
-    match reading.protocol {
-        Protocol::Legacy => reading.questions > 0 && meaning.is_position(),
-        Protocol::Kitty => meaning.is_key_or_position(),
-    }
-}
-
 // Whether a form that is no mouse report is an extra sequence.
 fn is_extra(parser: &InputParser, reading: Reading, form: &[u8], meaning: &Meaning<'_>) -> bool
+    requires reads { ReadsMore reading }
     requires form { IsForm reading.x10_mouse form.now }
     requires no_mouse { (event : Mouse) → ¬ IsMouseReport form.now event }
     requires means { event_from meaning.now ≡ Some (event_in reading form.now) }
     ensures { IsTrue result ↔ IsSomeExtra reading form.now }
 {
-    if is_reported(reading, meaning) {
+    if meaning.is_key_or_position() {
         return true;
     }
     !is_table_row(parser, form)
@@ -199,11 +164,18 @@ fn is_short_key(form: &[u8]) -> bool
     }
 }
 
-// Whether a text is one of both, or ESC [G.
+// Whether a text is ESC [E or ESC [G.
+fn is_begin_key(form: &[u8]) -> bool
+    ensures { IsTrue result ↔ IsBeginKey form.now }
+{
+    matches!(form, [ESCAPE, b'[', b'E' | b'G'])
+}
+
+// Whether a text is one of these three keys.
 fn is_lettered_key(form: &[u8]) -> bool
     ensures { IsTrue result ↔ IsLetteredKey form.now }
 {
-    is_back_tab(form) || is_short_key(form) || matches!(form, [ESCAPE, b'[', b'G'])
+    is_back_tab(form) || is_short_key(form) || is_begin_key(form)
 }
 
 // Whether a text of this meaning is a bare key, to which ESC is joined.
@@ -238,6 +210,7 @@ enum AfterEscape {
 // sequence.
 #[inline(never)]
 fn after_escape(parser: &InputParser, reading: Reading, form: &[u8]) -> AfterEscape
+    requires reads { ReadsMore reading }
     requires form { IsForm reading.x10_mouse form.now }
     requires no_mouse { (event : Mouse) → ¬ IsMouseReport form.now event }
     ensures { IsReadAfterEscape reading form.now result }
@@ -252,8 +225,7 @@ fn after_escape(parser: &InputParser, reading: Reading, form: &[u8]) -> AfterEsc
     }
 }
 
-// Whether the form of so many bytes at the front of a text, which has this meaning, is an extra sequence. Where all rows are left to the port the
-// text was looked up before: the form is no row.
+// Whether the form of so many bytes at the front of a text, which has this meaning, is an extra sequence.
 #[inline(always)]
 pub(crate) fn is_extra_at(
     parser: &InputParser,
@@ -267,23 +239,18 @@ pub(crate) fn is_extra_at(
     ensures some { IsTrue result → IsExtraAt reading text.now len }
     ensures none { result ≡ false → (more : Bool) → IsPortsOwn reading text.now more }
 {
-    if leaves_rows(reading) {
-        return true;
-    }
     is_extra(parser, reading, &text[..len], meaning)
 }
 
 // The key report of the form of so many bytes at the front of a text, if it is read as one that says no more than a key and its manner. It
 // is a small value, from which the event is built once, and so it is quicker than a meaning. `None` decides nothing.
 #[inline(never)]
-pub(crate) fn plain_report_at(reading: Reading, text: &[u8], len: usize) -> Option<PlainReport>
-    requires { IsFormAt reading text.now len }
-    ensures { IfSome result (λ report. IsExtraAt reading text.now len × (event_in reading (take len text.now) ≡ KeyReported (plain_report report))) }
+pub(crate) fn plain_report_at(text: &[u8], len: usize) -> Option<PlainReport>
+    requires { len ≤ length text.now }
+    ensures { (reading : Reading) → IsFormAt reading text.now len
+        → IfSome result (λ report. IsExtraAt reading text.now len × (event_in reading (take len text.now) ≡ KeyReported (plain_report report))) }
 {
-    match reading.protocol {
-        Protocol::Legacy => None,
-        Protocol::Kitty => plain_report(&text[..len]),
-    }
+    plain_report(&text[..len])
 }
 
 // What opening is at the front of a text that begins with ESC. It is quick where the next byte introduces no string.
@@ -349,13 +316,14 @@ pub(crate) fn string_meaning(item: StringItem, bytes: &[u8]) -> Meaning<'_>
 }
 
 // What is at the front of a text that starts with ESC ESC, by what follows the first one.
-fn item_of_two_escapes<'k>(
+fn item_of_two_escapes(
     parser: &InputParser,
     reading: Reading,
     after: &[u8],
     scanned: usize,
     maybe_more: bool,
-) -> NextItem<'k>
+) -> NextItem
+    requires reads { ReadsMore reading }
     requires escape { Begins ESC after.now }
     requires scanned { IsScanned after.now scanned }
     ensures { IsNextItem reading (ESC ++ after.now) maybe_more result }
@@ -380,14 +348,13 @@ fn item_of_two_escapes<'k>(
 
 // What is at the front of a text that begins with one ESC alone, and with no part of a mouse report: a form, or what the port finds.
 #[inline(always)]
-fn item_of_form<'k>(text: &[u8], scanned: usize, x10_mouse: bool, maybe_more: bool) -> NextItem<'k>
+fn item_of_form(text: &[u8], scanned: usize, x10_mouse: bool, maybe_more: bool) -> NextItem
     requires escape { Begins ESC text.now }
     requires one { ¬ Begins (ESC ++ ESC) text.now }
     requires no_mouse { HasNoPartInMouseReports text.now }
     requires no_opening { HasOpening text.now OpeningAt.Absent }
     requires scanned { IsScanned text.now scanned }
-    ensures { (reading : Reading) → reading.x10_mouse ≡ x10_mouse → (LeavesRows reading → HasNoLongRow text.now)
-        → IsNextItem reading text.now maybe_more result }
+    ensures { (reading : Reading) → ReadsMore reading → reading.x10_mouse ≡ x10_mouse → IsNextItem reading text.now maybe_more result }
 {
     match form_at(text, scanned, x10_mouse) {
         FormAt::Whole(len) => NextItem::Form(len),
@@ -397,63 +364,10 @@ fn item_of_form<'k>(text: &[u8], scanned: usize, x10_mouse: bool, maybe_more: bo
     }
 }
 
-// What is at the front of such a text, if it also begins with the row of this key, of two bytes, and no longer one: a form, or else the row.
-#[inline(always)]
-fn item_of_short_row<'k>(
-    text: &[u8],
-    key: &'k KeyEvent,
-    scanned: usize,
-    x10_mouse: bool,
-    maybe_more: bool,
-) -> NextItem<'k>
-    requires escape { Begins ESC text.now }
-    requires one { ¬ Begins (ESC ++ ESC) text.now }
-    requires no_mouse { HasNoPartInMouseReports text.now }
-    requires no_opening { HasOpening text.now OpeningAt.Absent }
-    requires scanned { IsScanned text.now scanned }
-    requires row { IsItemAt text.now maybe_more (PortsKey key.now) 2 }
-    requires no_row { HasNoLongRow text.now }
-    ensures { (reading : Reading) → reading.x10_mouse ≡ x10_mouse → IsNextItem reading text.now maybe_more result }
-{
-    match item_of_form(text, scanned, x10_mouse, maybe_more) {
-        NextItem::Usual => NextItem::Key(key, 2),
-        form => form,
-    }
-}
-
-// Looks for a row of two or more bytes at the front of a text, where all rows are left to the port.
-#[inline(always)]
-fn match_row<'k>(
-    parser: &'k InputParser,
-    reading: Reading,
-    text: &[u8],
-    maybe_more: bool,
-) -> RowMatch<'k>
-    requires { HasNoPartInMouseReports text.now }
-    ensures { IsRowMatch reading text.now maybe_more result }
-{
-    if !leaves_rows(reading) {
-        return RowMatch::Absent;
-    }
-    match parser.lookup(text, maybe_more) {
-        Found::Exact(2, key) => RowMatch::Short(key),
-        Found::Exact(len, key) if len > 2 => RowMatch::Long(key, len),
-        Found::Exact(..) => RowMatch::Absent,
-        Found::Ambiguous(..) => RowMatch::Begun,
-        Found::NeedData => RowMatch::Absent,
-        Found::None => RowMatch::Absent,
-    }
-}
-
 // What is at the front of a text that begins with one ESC alone, where no opening is. A mouse report is looked for first.
 #[inline(always)]
-fn item_of_sequence<'k>(
-    parser: &'k InputParser,
-    reading: Reading,
-    text: &[u8],
-    scanned: usize,
-    maybe_more: bool,
-) -> NextItem<'k>
+fn item_of_sequence(reading: Reading, text: &[u8], scanned: usize, maybe_more: bool) -> NextItem
+    requires reads { ReadsMore reading }
     requires escape { Begins ESC text.now }
     requires one { ¬ Begins (ESC ++ ESC) text.now }
     requires no_opening { HasOpening text.now OpeningAt.Absent }
@@ -465,30 +379,14 @@ fn item_of_sequence<'k>(
         FrontReport::Begun if maybe_more => NextItem::Incomplete(next_scan(text)),
         FrontReport::Begun => NextItem::Usual,
         FrontReport::Absent if begins_paste(text) => NextItem::Paste,
-        FrontReport::Absent => match match_row(parser, reading, text, maybe_more) {
-            RowMatch::Long(key, len) => NextItem::Key(key, len),
-            RowMatch::Short(key) => item_of_short_row(
-                text,
-                key,
-                scanned,
-                reading.x10_mouse,
-                maybe_more,
-            ),
-            RowMatch::Begun => NextItem::Incomplete(0),
-            RowMatch::Absent => item_of_form(text, scanned, reading.x10_mouse, maybe_more),
-        },
+        FrontReport::Absent => item_of_form(text, scanned, reading.x10_mouse, maybe_more),
     }
 }
 
 // What is at the front of a text that begins with one ESC alone. An opening is looked for first.
 #[inline(always)]
-fn item_of_one_escape<'k>(
-    parser: &'k InputParser,
-    reading: Reading,
-    text: &[u8],
-    scanned: usize,
-    maybe_more: bool,
-) -> NextItem<'k>
+fn item_of_one_escape(reading: Reading, text: &[u8], scanned: usize, maybe_more: bool) -> NextItem
+    requires reads { ReadsMore reading }
     requires escape { Begins ESC text.now }
     requires one { ¬ Begins (ESC ++ ESC) text.now }
     requires scanned { IsScanned text.now scanned }
@@ -498,15 +396,15 @@ fn item_of_one_escape<'k>(
         OpeningAt::Opening(kind, len) => NextItem::String(kind, len),
         OpeningAt::Unfinished if maybe_more => NextItem::Incomplete(0),
         OpeningAt::Unfinished => NextItem::Usual,
-        OpeningAt::Absent => item_of_sequence(parser, reading, text, scanned, maybe_more),
+        OpeningAt::Absent => item_of_sequence(reading, text, scanned, maybe_more),
     }
 }
 
 // What is at the front of a text that begins with no ESC.
 #[inline(always)]
-fn item_without_escape<'k>(text: &[u8]) -> NextItem<'k>
+fn item_without_escape(text: &[u8]) -> NextItem
     requires { ¬ Begins ESC text.now }
-    ensures { (reading : Reading) (more : Bool) → IsNextItem reading text.now more result }
+    ensures { (reading : Reading) → ReadsMore reading → (more : Bool) → IsNextItem reading text.now more result }
 {
     match text {
         [] => NextItem::Incomplete(0),
@@ -515,17 +413,17 @@ fn item_without_escape<'k>(text: &[u8]) -> NextItem<'k>
     }
 }
 
-// What is at the front of a text. A character is the port's: `match_character` is quicker for it. The bytes before `scanned` were looked at
-// before.
+// What is at the front of a text to which more belongs than the port's sequences.
 #[inline(always)]
-pub(crate) fn next_item<'k>(
-    parser: &'k InputParser,
+fn extended_item(
+    parser: &InputParser,
     reading: Reading,
     text: &[u8],
     scanned: usize,
     maybe_more: bool,
-) -> NextItem<'k>
-    requires { IsScannedTo text.now scanned }
+) -> NextItem
+    requires reads { ReadsMore reading }
+    requires scanned { IsScannedTo text.now scanned }
     ensures { IsNextItem reading text.now maybe_more result }
 {
     match follows_escape(text) {
@@ -540,7 +438,40 @@ pub(crate) fn next_item<'k>(
                     maybe_more,
                 )
             }
-            None => item_of_one_escape(parser, reading, text, scanned, maybe_more),
+            None => item_of_one_escape(reading, text, scanned, maybe_more),
         },
+    }
+}
+
+// What is at the front of a text. A character is the port's: `match_character` is quicker for it. The bytes before `scanned` were looked at
+// before.
+#[inline(always)]
+pub(crate) fn next_item(
+    parser: &InputParser,
+    reading: Reading,
+    text: &[u8],
+    scanned: usize,
+    maybe_more: bool,
+) -> NextItem
+    requires { IsScannedTo text.now scanned }
+    ensures { IsNextItem reading text.now maybe_more result }
+{
+    match reading.dialect {
+        Dialect::Extended => extended_item(parser, reading, text, scanned, maybe_more),
+        Dialect::Termwiz => NextItem::Usual,
+    }
+}
+
+// The key that the reading decides at the front of a text: of its first byte, or of the one after an ESC.
+pub(crate) fn decided_at(reading: Reading, text: &[u8]) -> Option<KeyCode>
+    ensures { result ≡ front_key reading.dialect reading text.now }
+{
+    match reading.dialect {
+        Dialect::Extended => match text {
+            [ESCAPE, byte, ..] => decided_key(reading, *byte),
+            [byte, ..] => decided_key(reading, *byte),
+            [] => None,
+        },
+        Dialect::Termwiz => None,
     }
 }

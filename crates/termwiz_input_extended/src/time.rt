@@ -4,7 +4,7 @@
 ghost use Rattle.std.specs.Prelude.{◌≡◌, ◌⊎◌, ◌∷◌, [], List, ℕ, Bool, false, IfNone, IfOk, IfSome, OnOk, OnErr};
 ghost use Rattle.termwiz_grammar.specs.WaitingKinds.{IsOpenPaste};
 ghost use Rattle.termwiz_input.specs.Time.{IsDue, noted};
-ghost use Rattle.termwiz_extended_events.specs.declared.types.ExtendedEvent.{ExtendedEvent as Event};
+ghost use Rattle.termwiz_extended_events.specs.declared.types.Event.{Event};
 ghost use Rattle.termwiz_extended_grammar.specs.Readings.{after_event, after_events};
 ghost use Rattle.termwiz_extended_grammar.specs.ExtendedGrammar.{Steps};
 ghost use Rattle.termwiz_input_extended.specs.EventCallbacks.{MayBeCalledOn, WasCalledOn};
@@ -13,7 +13,7 @@ ghost use Rattle.termwiz_input_extended.specs.NextItems.{HasItemThatNeedsMemory,
 
 use crate::input::{ExtendedParser, ExtendedWaiting};
 use std::alloc::AllocError;
-use termwiz_extended_events::types::ExtendedEvent;
+use termwiz_extended_events::types::Event;
 use termwiz_grammar::waiting::Waiting;
 pub use termwiz_input::time::{Age, Limit, Policy, Seen, Timer};
 
@@ -54,7 +54,7 @@ pub fn seen_of(parser: &ExtendedParser, policy: &Policy, fed: bool, taken: bool)
 ///
 /// Call it when no bytes came for as long as `next_timeout` said. The parser must have emitted all events before. It notes the time, and after
 /// a flush what is left. If memory for an event is refused, the bytes of that event are still buffered, and due: call it again.
-pub fn expire<F: FnMut(ExtendedEvent)>(
+pub fn expire<F: FnMut(Event)>(
     parser: &mut ExtendedParser,
     timer: &mut Timer,
     policy: &Policy,
@@ -67,7 +67,7 @@ pub fn expire<F: FnMut(ExtendedEvent)>(
     ensures ok { OnOk result ((more : Bool) × (events : List Event)
         × Expires policy.now parser.old.reading parser.old.text timer.old now more events parser.new.text timer.new
         × (parser.new.reading ≡ after_events parser.old.reading events) × WasCalledOn F.step callback.old events callback.new) }
-    ensures protocol { parser.new.reading.protocol ≡ parser.old.reading.protocol }
+    ensures dialect { parser.new.reading.dialect ≡ parser.old.reading.dialect }
     ensures refused { OnErr result ((events : List Event) × Steps parser.old.reading parser.old.text false events parser.new.text
         × (parser.new.reading ≡ after_events parser.old.reading events) × WasCalledOn F.step callback.old events callback.new) }
     ensures refused_item { OnErr result (IsOpenPaste parser.new.text ⊎ HasItemThatNeedsMemory parser.new.reading parser.new.text false) }
@@ -91,10 +91,10 @@ pub fn expire<F: FnMut(ExtendedEvent)>(
 ///
 /// Call it up to `None` when [`Timer::is_due`] is true, and then note that events were taken. If memory for an event is refused, the parser is
 /// unchanged, and the same call may be made again.
-pub fn next_flushed(parser: &mut ExtendedParser) -> Result<Option<ExtendedEvent>, AllocError>
+pub fn next_flushed(parser: &mut ExtendedParser) -> Result<Option<Event>, AllocError>
     ensures event { IfOk result (λ found. IfSome found (λ event. FlushStep parser.old.reading parser.old.text event parser.new.text)) }
     ensures reading { IfOk result (λ found. IfSome found (λ event. parser.new.reading ≡ after_event parser.old.reading event)) }
-    ensures protocol { parser.new.reading.protocol ≡ parser.old.reading.protocol }
+    ensures dialect { parser.new.reading.dialect ≡ parser.old.reading.dialect }
     ensures none { IfOk result (λ found. IfNone found (parser.old.text ≡ [])) }
     ensures none_same { IfOk result (λ found. IfNone found (parser.new ≡ parser.old)) }
     ensures refused { OnErr result (IsOpenPaste parser.old.text ⊎ HasItemThatNeedsMemory parser.old.reading parser.old.text false) }

@@ -1,24 +1,24 @@
--- The laws of the encoder: the extended parser reads back what is written. Key reports are read back by every reading under Kitty's protocol,
--- and the other texts by every reading.
+-- The laws of the encoder: the extended parser reads back what is written. Key reports are read back by every reading of the extended grammar, and
+-- the other texts by every reading.
 use Rattle.std.specs.Prelude.{◌≡◌, ⊤, ℕ, ◌<◌, ◌≤◌, Bool, List, [], ◌∷◌, true, false, length, Contains, map, Option, Some, None, if◌then◌else◌}
 use Rattle.std.specs.Char.{IsScalar, is_ascii_lowercase}
 use Rattle.std.specs.Str.{chars, IsUtf8}
 use Rattle.termwiz_keys.specs.Keys.{key_with, NONE as no_modifiers}
 use Rattle.termwiz_keys.specs.declared.types.KeyCode.{KeyCode}
 use Rattle.termwiz_keys.specs.declared.types.KeyCode.TheVariants.{Char, Function, Enter, Escape, Tab, Backspace}
-use Rattle.termwiz_keys.specs.declared.types.InputEvent.TheVariants as input
 use Rattle.termwiz_grammar.specs.Listed.{IsSharedLetter}
 use Rattle.termwiz_extended_events.specs.declared.types.KeyReport.{KeyReport}
 use Rattle.termwiz_extended_events.specs.declared.types.KeyEventKind.TheVariants.{Press}
 use Rattle.termwiz_extended_events.specs.declared.types.ReportedKey.{ReportedKey}
 use Rattle.termwiz_extended_events.specs.declared.types.ReportedKey.TheVariants.{Named}
-use Rattle.termwiz_extended_events.specs.declared.types.ExtendedEvent.{ExtendedEvent}
-use Rattle.termwiz_extended_events.specs.declared.types.ExtendedEvent.TheVariants.{Input, Key}
-use Rattle.termwiz_extended_events.specs.declared.types.Protocol.TheVariants.{Kitty}
+use Rattle.termwiz_extended_events.specs.declared.types.Event.{Event}
+use Rattle.termwiz_extended_events.specs.declared.types.Event.TheVariants.{Key}
+use Rattle.termwiz_extended_events.specs.declared.types.Dialect.{Dialect}
 use Rattle.termwiz_extended_events.specs.declared.types.Reading.{Reading}
-use Rattle.termwiz_extended_events.specs.EventKeys.{key_of_event}
 use Rattle.termwiz_extended_events.specs.KeyReports.{report_of}
+use Rattle.termwiz_extended_events.specs.PortEvents.{pressed_key, typed_key}
 use Rattle.termwiz_extended_grammar.specs.ExtendedGrammar.{Means}
+use Rattle.termwiz_extended_grammar.specs.Readings.{ReadsMore}
 use Rattle.termwiz_kitty.specs.declared.legacy.LegacyText.{LegacyText}
 use Rattle.termwiz_kitty.specs.declared.legacy.LegacyText.TheVariants.{AfterEscape}
 use Rattle.termwiz_kitty.specs.declared.telling.Telling.TheVariants.{Typed, Legacy, Reported}
@@ -45,9 +45,9 @@ pub record IsReport (r : KeyReport) : Type 0 where
   pub base_is : IsScalarOrMissing r.base
   pub text_is : IsUtf8 r.text
 
--- Under Kitty's protocol the sequence of a report that isn't too long means that report, and nothing else, whether or not more may come.
+-- By the extended grammar the sequence of a report that isn't too long means that report, and nothing else, whether or not more may come.
 abbrev pub KittyReadBack : Type 0
-KittyReadBack = (reading : Reading) (r : KeyReport) (flags : ℕ) (text : List ℕ) (more : Bool) → reading.protocol ≡ Kitty → IsReport r
+KittyReadBack = (reading : Reading) (r : KeyReport) (flags : ℕ) (text : List ℕ) (more : Bool) → ReadsMore reading → IsReport r
     → telling r flags ≡ Reported → kitty_text r flags ≡ Some text → length text ≤ most_bytes
     → Means reading text more (Key (reported r flags) ∷ []) []
 
@@ -65,28 +65,40 @@ abbrev pub FullyTold : Type 0
 FullyTold = (r : KeyReport) → IsWritable r → (telling r all_flags ≡ Reported) × (reported r all_flags ≡ r)
 
 -- the event of a key without modifiers, as it is before the protocol
-abbrev pub pressed : KeyCode → ExtendedEvent
-pressed key = Input (input.Key (key_with key no_modifiers))
+abbrev pub pressed : KeyCode → Event
+pressed key = Key (pressed_key (key_with key no_modifiers))
 
 -- the events of a text's characters, each a key
-abbrev pub characters_pressed : List ℕ → List ExtendedEvent
+abbrev pub characters_pressed : List ℕ → List Event
 characters_pressed text = map (λ c. pressed (Char c)) (chars text)
 
--- what a key types by itself is read as Enter, Tab, Backspace, or its character
-abbrev pub typed_by_events : ReportedKey → List ℕ → List ExtendedEvent
-typed_by_events (Named Enter) text = pressed Enter ∷ []
-typed_by_events (Named Tab) text = pressed Tab ∷ []
-typed_by_events (Named Backspace) text = pressed Backspace ∷ []
-typed_by_events key text = characters_pressed text
+-- the byte that the Backspace key types
+abbrev pub typed_by_backspace : ℕ
+typed_by_backspace = 127
+
+-- The key that a key is read as where it is typed. It is the same key, but that the reading decides what the byte of Backspace is.
+abbrev pub read_by : Dialect → Reading → KeyCode → KeyCode
+read_by dialect reading Backspace = typed_key dialect reading (typed_by_backspace ∷ []) Backspace
+read_by dialect reading key = key
+
+abbrev pub read_key : Reading → KeyCode → KeyCode
+read_key reading key = read_by reading.dialect reading key
+
+-- what a key types by itself is read as Enter, Tab, what the byte of Backspace is, or its character
+abbrev pub typed_by_events : Reading → ReportedKey → List ℕ → List Event
+typed_by_events reading (Named Enter) text = pressed Enter ∷ []
+typed_by_events reading (Named Tab) text = pressed Tab ∷ []
+typed_by_events reading (Named Backspace) text = pressed (read_key reading Backspace) ∷ []
+typed_by_events reading key text = characters_pressed text
 
 -- what a typed text is read as: the text of the report as its characters
-abbrev pub typed_events : ReportedKey → KeyReport → List ℕ → List ExtendedEvent
-typed_events key r text = if is_typed_text r.text then characters_pressed text else typed_by_events key text
+abbrev pub typed_events : Reading → ReportedKey → KeyReport → List ℕ → List Event
+typed_events reading key r text = if is_typed_text r.text then characters_pressed text else typed_by_events reading key text
 
 -- A key that is sent as its text: the text means exactly these events, whether or not more may come, and nothing waits.
 abbrev pub TypedReadBack : Type 0
 TypedReadBack = (reading : Reading) (r : KeyReport) (flags : ℕ) (text : List ℕ) (more : Bool) → IsReport r → telling r flags ≡ Typed
-    → kitty_text r flags ≡ Some text → Means reading text more (typed_events (told_key r flags) r text) []
+    → kitty_text r flags ≡ Some text → Means reading text more (typed_events reading (told_key r flags) r text) []
 
 -- the press of a key with these of kitty's bits
 abbrev pub press_of : KeyCode → ℕ → KeyReport
@@ -94,7 +106,7 @@ press_of key bits = report_of (Named key) (record { modifiers = bits; kind = Pre
 
 -- The text is one event, a key with this report, and nothing waits.
 abbrev pub IsReadAs : Reading → List ℕ → Bool → KeyReport → Type 0
-IsReadAs reading text more report = (event : ExtendedEvent) × Means reading text more (event ∷ []) [] × (key_of_event event ≡ Some report)
+IsReadAs reading text more report = Means reading text more (Key report ∷ []) []
 
 -- The keys whose texts begin sequences or strings, with kitty's bits of their modifiers: Escape, Escape with Alt, and [ O P ] and _ with Alt.
 abbrev pub keys_that_wait : List (KeyCode × ℕ)
@@ -114,14 +126,14 @@ pub data IsReadBack : KeyCode → ℕ → Type 0 where
   ctrl_letter : (c held : ℕ) → is_ascii_lowercase c ≡ true → ¬ IsSharedLetter c → Contains (CTRL ∷ CTRL_ALT ∷ []) held
       → IsReadBack (Char c) held
 
--- Such a key that is sent as before the protocol: its text is its press, with all modifiers of its report. With more to come that is so of the
--- keys whose texts begin no sequence and no string.
+-- Such a key that is sent as before the protocol: its text is its press, or that of the key that the reading decides the byte of Backspace to be,
+-- with all modifiers of its report. With more to come that is so of the keys whose texts begin no sequence and no string.
 abbrev pub LegacyReadBack : Type 0
 LegacyReadBack = (reading : Reading) (r : KeyReport) (key : KeyCode) (flags : ℕ) (sent : LegacyText) (text : List ℕ) (more : Bool)
     → IsReport r → told_key r flags ≡ Named key → telling r flags ≡ Legacy sent → kitty_text r flags ≡ Some text
     → IsReadBack key (without_locks r.modifiers)
     → (more ≡ true → ¬ Contains keys_that_wait (key, without_locks r.modifiers))
-    → IsReadAs reading text more (press_of key (without_locks r.modifiers))
+    → IsReadAs reading text more (press_of (read_key reading key) (without_locks r.modifiers))
 
 -- A text key with Alt, or with Shift and Alt, is sent as ESC and the character that it shows: that is read as this character's key with Alt.
 abbrev pub AltReadBack : Type 0

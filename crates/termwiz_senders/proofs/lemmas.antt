@@ -10,6 +10,10 @@ pub mod SgrReports
 pub mod UrxvtReports
 pub mod ByteReports
 pub mod ReadAlone
+pub mod RowsAlone
+pub mod StringsAlone
+pub mod RowKeysRead
+pub mod RowPlaces
 pub mod Numbers
 pub mod TableEntries
 pub mod OwnKeys

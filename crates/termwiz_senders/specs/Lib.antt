@@ -4,4 +4,5 @@ pub mod MouseTexts
 pub mod MouseLaws
 pub mod ReportTexts
 pub mod KeyTexts
+pub mod RowKeys
 pub mod EventTexts

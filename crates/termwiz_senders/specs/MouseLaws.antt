@@ -1,15 +1,23 @@
 -- The laws of mouse reports: what is sent is read back.
-use Rattle.std.specs.Prelude.{◌≡◌, ℕ, ◌^◌, ◌<◌, Bool, true, List, [], ◌∷◌, Some}
+use Rattle.std.specs.Prelude.{◌≡◌, ℕ, ◌^◌, ◌<◌, Bool, true, false, List, [], ◌∷◌, Option, Some, None}
 use Rattle.termwiz_base.specs.Mouse.{IsReport, report_of}
+use Rattle.termwiz_base.specs.declared.mouse.MouseButton.{MouseButton}
+use Rattle.termwiz_base.specs.declared.mouse.MouseButton.TheVariants as button
 use Rattle.termwiz_base.specs.declared.mouse.MouseReport.{MouseReport}
 use Rattle.termwiz_base.specs.declared.mouse.MouseReport.TheVariants.{SGR1006}
 use Rattle.termwiz_keys.specs.Buttons.{buttons_of}
 use Rattle.termwiz_keys.specs.declared.types.InputEvent.{InputEvent}
-use Rattle.termwiz_keys.specs.declared.types.InputEvent.TheVariants.{Mouse}
+use Rattle.termwiz_keys.specs.declared.types.InputEvent.TheVariants as input
 use Rattle.termwiz_grammar.specs.Grammar as port
-use Rattle.termwiz_extended_events.specs.declared.types.ExtendedEvent.TheVariants.{Input}
+use Rattle.termwiz_extended_events.specs.declared.types.Event.{Event}
+use Rattle.termwiz_extended_events.specs.declared.types.Event.TheVariants.{Mouse}
+use Rattle.termwiz_extended_events.specs.declared.types.MouseKind.{MouseKind}
+use Rattle.termwiz_extended_events.specs.declared.types.MouseKind.TheVariants as kinds
 use Rattle.termwiz_extended_events.specs.declared.types.Reading.{Reading}
 use Rattle.termwiz_extended_grammar.specs.ExtendedGrammar as extended
+use Rattle.termwiz_extended_grammar.specs.Readings.{ReadsMore}
+use Rattle.termwiz_senders.specs.declared.mouse.Action.{Action}
+use Rattle.termwiz_senders.specs.declared.mouse.Action.TheVariants as action
 use Rattle.termwiz_senders.specs.declared.mouse.MouseEncoding.{MouseEncoding}
 use Rattle.termwiz_senders.specs.declared.mouse.MouseEncoding.TheVariants.{Default, Urxvt, Sgr}
 use Rattle.termwiz_senders.specs.declared.mouse.MouseTracking.{MouseTracking}
@@ -30,7 +38,7 @@ pub record Sends (report : MouseReport) (tracking : MouseTracking) (encoding : M
 
 -- the event that is read: the place and the buttons of the report, and those modifiers that were sent
 abbrev pub event_told : MouseTracking → Told → InputEvent
-event_told tracking t = Mouse (record {
+event_told tracking t = input.Mouse (record {
   x = t.x;
   y = t.y;
   mouse_buttons = buttons_of t.button;
@@ -40,6 +48,63 @@ event_told tracking t = Mouse (record {
 abbrev pub read_event : MouseTracking → MouseReport → InputEvent
 read_event tracking report = event_told tracking (told_by report)
 
+-- the number of a button, by which events name it
+abbrev pub button_number : MouseButton → Option ℕ
+button_number button.Button1Press = Some 1
+button_number button.Button1Release = Some 1
+button_number button.Button1Drag = Some 1
+button_number button.Button2Press = Some 2
+button_number button.Button2Release = Some 2
+button_number button.Button2Drag = Some 2
+button_number button.Button3Press = Some 3
+button_number button.Button3Release = Some 3
+button_number button.Button3Drag = Some 3
+button_number button.Button4Press = Some 4
+button_number button.Button4Release = Some 4
+button_number button.Button5Press = Some 5
+button_number button.Button5Release = Some 5
+button_number button.Button6Press = Some 6
+button_number button.Button6Release = Some 6
+button_number button.Button7Press = Some 7
+button_number button.Button7Release = Some 7
+button_number button.None = None
+
+-- the button that is told: of a release only SGR's encoding tells it
+abbrev pub told_number : MouseEncoding → Action → MouseButton → Option ℕ
+told_number Sgr _ b = button_number b
+told_number _ action.Release b = None
+told_number _ _ b = button_number b
+
+-- a wheel
+abbrev pub is_wheel : MouseButton → Bool
+is_wheel button.Button4Press = true
+is_wheel button.Button5Press = true
+is_wheel button.Button6Press = true
+is_wheel button.Button7Press = true
+is_wheel b = false
+
+-- what happened
+abbrev pub told_kind : Action → Bool → MouseKind
+told_kind action.Press true = kinds.Wheel
+told_kind action.Press false = kinds.Press
+told_kind action.Release _ = kinds.Release
+told_kind action.Drag _ = kinds.Drag
+told_kind action.Move _ = kinds.Move
+
+-- the extended parser's event: the same, with what happened to which button
+abbrev pub report_told : MouseEncoding → MouseTracking → Told → Event
+report_told encoding tracking t = Mouse (record {
+  x = t.x;
+  y = t.y;
+  modifiers = sent_modifiers tracking t.modifiers;
+  buttons = buttons_of t.button;
+  kind = told_kind (action_of t.button) (is_wheel t.button);
+  button = told_number encoding (action_of t.button) t.button;
+})
+
+abbrev pub read_report : MouseEncoding → MouseTracking → MouseReport → Event
+read_report encoding tracking report = report_told encoding tracking (told_by report)
+
 -- What is sent in SGR's encoding is that event, to the port and under every reading.
 abbrev pub SgrReadBack : Type 0
 SgrReadBack = (report : MouseReport) (tracking : MouseTracking) (bytes : List ℕ) (more : Bool) → Sends report tracking Sgr bytes
@@ -47,18 +112,19 @@ SgrReadBack = (report : MouseReport) (tracking : MouseTracking) (bytes : List �
 
 abbrev pub SgrReadBackExtended : Type 0
 SgrReadBackExtended = (reading : Reading) (report : MouseReport) (tracking : MouseTracking) (bytes : List ℕ) (more : Bool)
-    → Sends report tracking Sgr bytes → extended.Means reading bytes more (Input (read_event tracking report) ∷ []) []
+    → Sends report tracking Sgr bytes → extended.Means reading bytes more (read_report Sgr tracking report ∷ []) []
 
--- What is sent in urxvt's is that under every reading.
+-- What is sent in urxvt's is that under every reading that reads more than the port's sequences.
 abbrev pub UrxvtReadBack : Type 0
 UrxvtReadBack = (reading : Reading) (report : MouseReport) (tracking : MouseTracking) (bytes : List ℕ) (more : Bool)
-    → Sends report tracking Urxvt bytes → extended.Means reading bytes more (Input (read_event tracking report) ∷ []) []
+    → ReadsMore reading → Sends report tracking Urxvt bytes
+    → extended.Means reading bytes more (read_report Urxvt tracking report ∷ []) []
 
--- What is sent in three bytes is that under every reading that reads X10 mouse reports.
+-- What is sent in three bytes is that under every such reading that reads X10 mouse reports.
 abbrev pub DefaultReadBack : Type 0
 DefaultReadBack = (reading : Reading) (report : MouseReport) (tracking : MouseTracking) (bytes : List ℕ) (more : Bool)
-    → reading.x10_mouse ≡ true → Sends report tracking Default bytes
-    → extended.Means reading bytes more (Input (read_event tracking report) ∷ []) []
+    → ReadsMore reading → reading.x10_mouse ≡ true → Sends report tracking Default bytes
+    → extended.Means reading bytes more (read_report Default tracking report ∷ []) []
 
 -- These numbers and this last byte are sent at this place in SGR's encoding, and are a report, which is that one.
 pub record SendsNumbers (sent : MouseReport) (tracking : MouseTracking) (x y : ℕ) (given : MouseReport) : Type 0 where

@@ -5,10 +5,11 @@ use Rattle.termwiz_keys.specs.Keys.{NONE, key_with}
 use Rattle.termwiz_keys.specs.declared.types.KeyCode.{KeyCode}
 use Rattle.termwiz_keys.specs.declared.types.KeyCode.TheVariants.{Char, Enter, Tab}
 use Rattle.termwiz_keys.specs.declared.types.InputEvent.{InputEvent}
-use Rattle.termwiz_keys.specs.declared.types.InputEvent.TheVariants.{Key, Paste}
+use Rattle.termwiz_keys.specs.declared.types.InputEvent.TheVariants as input
 use Rattle.termwiz_grammar.specs.Grammar as port
-use Rattle.termwiz_extended_events.specs.declared.types.ExtendedEvent.{ExtendedEvent}
-use Rattle.termwiz_extended_events.specs.declared.types.ExtendedEvent.TheVariants.{Input}
+use Rattle.termwiz_extended_events.specs.declared.types.Event.{Event}
+use Rattle.termwiz_extended_events.specs.declared.types.Event.TheVariants.{Key, Paste}
+use Rattle.termwiz_extended_events.specs.PortEvents.{pressed_key}
 use Rattle.termwiz_extended_events.specs.declared.types.Reading.{Reading}
 use Rattle.termwiz_extended_grammar.specs.Readings.{after_events}
 use Rattle.termwiz_extended_grammar.specs.ExtendedGrammar as extended
@@ -16,7 +17,11 @@ use Rattle.termwiz_senders.specs.Pastes.{HT, CR, characters, safe, safe_text, pa
 
 -- the event of a text that is sent in brackets
 abbrev pub paste_event : List ℕ → InputEvent
-paste_event text = Paste (safe_text text)
+paste_event text = input.Paste (safe_text text)
+
+-- the same to the extended parser
+abbrev pub extended_paste : List ℕ → Event
+extended_paste text = Paste (safe_text text)
 
 -- In brackets a text is one paste, whatever it is.
 abbrev pub OnePaste : Type 0
@@ -24,7 +29,7 @@ OnePaste = (text : List ℕ) (more : Bool) → port.Means (paste_text text true)
 
 abbrev pub OnePasteExtended : Type 0
 OnePasteExtended = (reading : Reading) (text : List ℕ) (more : Bool)
-    → extended.Means reading (paste_text text true) more (Input (paste_event text) ∷ []) []
+    → extended.Means reading (paste_text text true) more (extended_paste text ∷ []) []
 
 -- The same after T and before S, if a flush of T leaves nothing buffered: the events of T with this flush, then the paste, then those of S.
 abbrev pub PasteStands : Type 0
@@ -32,9 +37,9 @@ PasteStands = (T text S W : List ℕ) (E D : List InputEvent) (more : Bool)
     → port.Means T false E [] → port.Means S more D W → port.Means (T ++ paste_text text true ++ S) more (E ++ paste_event text ∷ D) W
 
 abbrev pub PasteStandsExtended : Type 0
-PasteStandsExtended = (reading : Reading) (T text S W : List ℕ) (E D : List ExtendedEvent) (more : Bool)
+PasteStandsExtended = (reading : Reading) (T text S W : List ℕ) (E D : List Event) (more : Bool)
     → extended.Means reading T false E [] → extended.Means (after_events reading E) S more D W
-    → extended.Means reading (T ++ paste_text text true ++ S) more (E ++ Input (paste_event text) ∷ D) W
+    → extended.Means reading (T ++ paste_text text true ++ S) more (E ++ extended_paste text ∷ D) W
 
 -- the key that types a character
 abbrev pub typing_key : ℕ → KeyCode
@@ -42,7 +47,11 @@ typing_key c = if c == CR then Enter else (if c == HT then Tab else Char c)
 
 -- the press of each such key, without modifiers
 abbrev pub typed_events : List ℕ → List InputEvent
-typed_events cs = map (λ c. Key (key_with (typing_key c) NONE)) cs
+typed_events cs = map (λ c. input.Key (key_with (typing_key c) NONE)) cs
+
+-- the same to the extended parser
+abbrev pub typed_reports : List ℕ → List Event
+typed_reports cs = map (λ c. Key (pressed_key (key_with (typing_key c) NONE))) cs
 
 -- Without brackets a text is typed: each character that it has when it is made safe is the press of a key.
 abbrev pub TypedPaste : Type 0
@@ -50,7 +59,7 @@ TypedPaste = (text : List ℕ) (more : Bool) → port.Means (paste_text text fal
 
 abbrev pub TypedPasteExtended : Type 0
 TypedPasteExtended = (reading : Reading) (text : List ℕ) (more : Bool)
-    → extended.Means reading (paste_text text false) more (map (λ event. Input event) (typed_events (safe (characters text)))) []
+    → extended.Means reading (paste_text text false) more (typed_reports (safe (characters text))) []
 
 -- no control character but HT and CR
 abbrev pub IsSafe : ℕ → Type 0

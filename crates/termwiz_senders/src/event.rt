@@ -1,18 +1,23 @@
 //! Events of the extended parser to bytes that are read as them.
-ghost use Rattle.std.specs.Prelude.{◌≡◌, ◌≢◌, ◌++◌, ◌<◌, ◌≤◌, ◌↔◌, ℕ, List, IfOk, IfErr, OnOk, true, IfSome, IfNone, Some, None, Ok, Err, flat_map, length, string_bytes};
+ghost use Rattle.std.specs.Prelude.{◌≡◌, ◌≢◌, ◌++◌, ◌<◌, ◌≤◌, ◌↔◌, ℕ, List, IfOk, IfErr, OnOk, true, IfSome, IfNone, IsTrue, Some, None, Ok, Err, flat_map, length, string_bytes};
 ghost use Rattle.termwiz_keymap.specs.Bytes.{Occurs};
 ghost use Rattle.termwiz_keys.specs.Introducers.{END};
 ghost use Rattle.termwiz_laws.specs.PasteEvents.{pasted};
-ghost use Rattle.termwiz_extended_events.specs.declared.types.ExtendedEvent.TheVariants as variants;
+ghost use Rattle.termwiz_extended_events.specs.declared.types.Event.TheVariants as variants;
 ghost use Rattle.termwiz_extended_events.specs.ReportedKeys.{entry_at};
 ghost use Rattle.termwiz_extended_events.specs.Meanings.{whole_string};
 ghost use Rattle.termwiz_extended_grammar.specs.Forms.{introducer};
+ghost use Rattle.termwiz_extended_grammar.specs.Readings.{ReadsMore};
+ghost use Rattle.termwiz_base.specs.declared.mouse.MouseReport.TheVariants.{SGR1006};
+ghost use Rattle.termwiz_keys.specs.Buttons as buttons;
+ghost use Rattle.termwiz_senders.specs.MouseTexts.{mouse_text};
+ghost use Rattle.termwiz_senders.specs.declared.mouse.MouseTracking.TheVariants.{Any};
 ghost use Rattle.termwiz_senders.specs.EventTexts as rules;
-ghost use Rattle.termwiz_senders.specs.EventTexts.{IsEventText, IsItself, IsRefused, IsTooLong};
-ghost use Rattle.termwiz_senders.specs.KeyTexts.{IsTried};
+ghost use Rattle.termwiz_senders.specs.EventTexts.{IsEventText, IsItself, IsRefused, IsReply, IsTooLong};
+ghost use Rattle.termwiz_senders.specs.KeyTexts.{IsKeyText, IsTried};
 ghost use Rattle.termwiz_senders.specs.declared.event.EncodeEventError.TheVariants as error;
 
-use crate::key::key_event_text;
+use crate::key::typed_key_text;
 use crate::mouse::{
     MouseEncoding, MouseError, MouseTracking, counted, encode_mouse, modifier_code,
 };
@@ -22,12 +27,13 @@ use crate::report::report_text;
 use bitflags::Flags;
 use std::alloc::{AllocError, Global};
 use std::fmt::Write;
-use termwiz_base::{Modifiers, MouseButton, MouseReport};
-use termwiz_extended_events::types::{ExtendedEvent, SideButtonEvent, SideButtonKind, StringKind};
+use termwiz_base::{Modifiers, MouseButton, MouseReport as ButtonReport};
+use termwiz_extended_events::types::{
+    Dialect, Event, KeyReport, MouseKind, MouseReport, Reading, StringKind,
+};
 use termwiz_input_extended::input::ExtendedParser;
 use termwiz_keymap::bytes::find_from;
 use termwiz_keys::encode::CSI;
-use termwiz_keys::types::{InputEvent, MouseEvent};
 use thiserror::Error;
 
 /// Why [`encode_event`] made no bytes.
@@ -53,24 +59,25 @@ impl From<AllocError> for EncodeEventError {
 }
 
 /// The bytes that a parser reads as an event, whatever a terminal sent for it. With no more to come they are that event alone, and nothing
-/// stays buffered. That is so with more to come too, unless the event is a key of `Input`, whose text may begin a sequence.
+/// stays buffered. That is so with more to come too, unless the bytes are ESC, ESC ESC, or ESC and one of `[`, `O`, `P`, `]` and `_`.
 ///
 /// `parser` says how they are read, by its reading and by its sequence table. Nothing is fed to it, and what it has buffered doesn't matter.
 ///
-/// A key of `Input` is written as what a terminal sends for it, as its character, or as a row of the sequence table. A key report is written in
-/// the form of Kitty's keyboard protocol, with what happened to the key always told, so that no row is like it. Keys as a terminal sends them
-/// are those of [`KeyCode::encode`](termwiz_keys::types::KeyCode::encode) and of [`encode_kitty`](termwiz_kitty::encode::encode_kitty).
+/// A key is written by the first of these that is read as that very key: what a terminal sends for it with every mode off
+/// ([`KeyCode::encode`](termwiz_keys::types::KeyCode::encode)), its character, a row of the sequence table, ESC and one of these for the key
+/// without ALT, and a report in the form of Kitty's keyboard protocol with what happened to the key always told. Keys as a terminal sends them
+/// are those of `encode` and of [`encode_kitty`](termwiz_kitty::encode::encode_kitty).
 ///
-/// A mouse report is written in SGR's encoding (mode 1006), a paste as its text in brackets, and a `Csi`, `Osc`, `Dcs` or `Apc` as its bytes
-/// with their introducer and ESC `\` where a string ends.
+/// A mouse report is written in SGR's encoding (mode 1006), but a release that names no button in urxvt's; a paste as its text in brackets;
+/// and a `Csi`, `Osc`, `Dcs` or `Apc` as its bytes with their introducer and ESC `\` where a string ends.
 ///
-/// `NoText` comes for an event that no bytes are read as by these rules: an event that no parser makes, a paste that holds ESC `[201~`, or a
-/// part of a string or a string that was cut off. `TooLong` comes for a sequence of more than 256 bytes, or a string of 65535 bytes or more.
-/// The only other error is `Memory`.
+/// `NoText` comes for an event that no bytes are read as by these rules: an event that no parser makes, or not by this reading, a paste that
+/// holds ESC `[201~`, or a part of a string or a string that was cut off. `TooLong` comes for a sequence of more than 256 bytes, or a string of
+/// 65535 bytes or more. The only other error is `Memory`.
 #[tactic(auto, unfolding(crate::specs::EventTexts::IsEventText))]
 pub fn encode_event(
     alloc: Global,
-    event: &ExtendedEvent,
+    event: &Event,
     parser: &ExtendedParser,
 ) -> Result<Vec<u8>, EncodeEventError>
     ensures sent { IfOk result (λ sent. IsEventText parser.now.reading event.now sent.items) }
@@ -78,54 +85,76 @@ pub fn encode_event(
     ensures too_long { result ≡ Err error.TooLong → IsTooLong event.now × IsRefused parser.now.reading event.now }
 {
     match event {
-        ExtendedEvent::Input(event) => input_text(alloc, event, parser),
-        ExtendedEvent::Key(report) => report_text(alloc, report),
-        ExtendedEvent::FocusGained => Ok(b"\x1b[I".to_vec(alloc)?),
-        ExtendedEvent::FocusLost => Ok(b"\x1b[O".to_vec(alloc)?),
-        ExtendedEvent::CursorPosition { row, column } => {
-            found(told_position(alloc, *row, *column)?)
-        }
-        ExtendedEvent::Resize {
+        Event::Key(report) => key_text(alloc, report, parser),
+        Event::Mouse(report) => found(mouse_text(alloc, report, parser.reading())?),
+        Event::Paste(text) => found(paste_text(alloc, text.as_str())?),
+        Event::Csi(text) => sequence_text(alloc, event, parser, text.as_slice()),
+        Event::Osc(text) => { string_text(alloc, event, parser, StringKind::Osc, text.as_slice()) }
+        Event::Dcs(text) => { string_text(alloc, event, parser, StringKind::Dcs, text.as_slice()) }
+        Event::Apc(text) => { string_text(alloc, event, parser, StringKind::Apc, text.as_slice()) }
+        Event::StringPart { .. } | Event::StringCut { .. } => { Err(EncodeEventError::NoText) }
+        Event::FocusGained
+        | Event::FocusLost
+        | Event::CursorPosition { .. }
+        | Event::Resize { .. }
+        | Event::KeyboardFlags(_) => reply_text(alloc, event, parser.reading()),
+    }
+}
+
+// The bytes of a reply, or of the focus, where they are read.
+#[tactic(auto, unfolding(crate::specs::EventTexts::IsEventText))]
+fn reply_text(alloc: Global, event: &Event, reading: Reading) -> Result<Vec<u8>, EncodeEventError>
+    requires { IsReply event.now }
+    ensures sent { IfOk result (λ sent. IsEventText reading event.now sent.items) }
+    ensures no_text { result ≡ Err error.NoText → IsRefused reading event.now }
+    ensures never_long { result ≢ Err error.TooLong }
+{
+    if !reads_more(reading) {
+        return Err(EncodeEventError::NoText);
+    }
+    match event {
+        Event::FocusGained => Ok(b"\x1b[I".to_vec(alloc)?),
+        Event::FocusLost => Ok(b"\x1b[O".to_vec(alloc)?),
+        Event::CursorPosition { row, column } => { found(told_position(alloc, *row, *column)?) }
+        Event::Resize {
             rows,
             columns,
             height,
             width,
         } => Ok(size_text(alloc, *rows, *columns, *height, *width)?),
-        ExtendedEvent::KeyboardFlags(flags) => Ok(flags_text(alloc, *flags)?),
-        ExtendedEvent::SideButton(event) => found(side_button_text(alloc, event)?),
-        ExtendedEvent::Csi(text) => sequence_text(alloc, event, parser, text.as_slice()),
-        ExtendedEvent::Osc(text) => {
-            string_text(alloc, event, parser, StringKind::Osc, text.as_slice())
-        }
-        ExtendedEvent::Dcs(text) => {
-            string_text(alloc, event, parser, StringKind::Dcs, text.as_slice())
-        }
-        ExtendedEvent::Apc(text) => {
-            string_text(alloc, event, parser, StringKind::Apc, text.as_slice())
-        }
-        ExtendedEvent::StringPart { .. } | ExtendedEvent::StringCut { .. } => {
-            Err(EncodeEventError::NoText)
-        }
+        Event::KeyboardFlags(flags) => Ok(flags_text(alloc, *flags)?),
+        _ => Err(EncodeEventError::NoText),
     }
 }
 
-// The bytes of an event of the port.
-#[tactic(auto, unfolding(crate::specs::EventTexts::IsEventText))]
-fn input_text(
+// Whether more than the port's sequences is read.
+fn reads_more(reading: Reading) -> bool
+    ensures { IsTrue result ↔ ReadsMore reading }
+{
+    match reading.dialect {
+        Dialect::Extended => true,
+        Dialect::Termwiz => false,
+    }
+}
+
+// The bytes of a key.
+fn key_text(
     alloc: Global,
-    event: &InputEvent,
+    report: &KeyReport,
     parser: &ExtendedParser,
 ) -> Result<Vec<u8>, EncodeEventError>
-    ensures sent { IfOk result (λ sent. IsEventText parser.now.reading (variants.Input event.now) sent.items) }
-    ensures no_text { result ≡ Err error.NoText → IsRefused parser.now.reading (variants.Input event.now) }
-    ensures never_long { result ≢ Err error.TooLong }
+    ensures sent { IfOk result (λ sent. IsKeyText parser.now.reading report.now sent.items) }
+    ensures no_text { result ≡ Err error.NoText → (bytes : List ℕ) → ¬ IsKeyText parser.now.reading report.now bytes }
+    ensures too_long { result ≡ Err error.TooLong
+        → IsTooLong (variants.Key report.now) × ((bytes : List ℕ) → ¬ IsKeyText parser.now.reading report.now bytes) }
 {
-    match event {
-        InputEvent::Key(key) => found(key_event_text(alloc, parser, key)?),
-        InputEvent::Mouse(event) => found(mouse_text(alloc, event)?),
-        InputEvent::Paste(text) => found(paste_text(alloc, text.as_str())?),
-        _ => Err(EncodeEventError::NoText),
+    if let Some(typed) = typed_key_text(alloc, parser, report)? {
+        return Ok(typed);
     }
+    if !reads_more(parser.reading()) {
+        return Err(EncodeEventError::NoText);
+    }
+    report_text(alloc, report)
 }
 
 // The bytes that were found.
@@ -137,21 +166,90 @@ fn found(text: Option<Vec<u8>>) -> Result<Vec<u8>, EncodeEventError>
     text.ok_or(EncodeEventError::NoText)
 }
 
-// The report that tells the buttons of an event, by their bits: that one of them was pressed, or that a wheel was turned.
+// The button that was pressed, by its number.
 #[tactic(auto, unfolding(termwiz_extended_events::specs::ReportedKeys::entry_at))]
-fn reported_button(buttons: u8) -> Option<MouseButton>
-    ensures { result ≡ entry_at rules.reported_buttons buttons }
+fn pressed_button(number: u8) -> Option<MouseButton>
+    ensures { result ≡ entry_at rules.pressed_buttons number }
 {
-    match buttons {
-        0 => Some(MouseButton::None),
-        2 => Some(MouseButton::Button1Press),
-        8 => Some(MouseButton::Button2Press),
-        4 => Some(MouseButton::Button3Press),
-        80 => Some(MouseButton::Button4Press),
-        16 => Some(MouseButton::Button5Press),
-        96 => Some(MouseButton::Button6Press),
-        32 => Some(MouseButton::Button7Press),
+    match number {
+        1 => Some(MouseButton::Button1Press),
+        2 => Some(MouseButton::Button2Press),
+        3 => Some(MouseButton::Button3Press),
         _ => None,
+    }
+}
+
+// The button that was dragged, by its number.
+#[tactic(auto, unfolding(termwiz_extended_events::specs::ReportedKeys::entry_at))]
+fn dragged_button(number: u8) -> Option<MouseButton>
+    ensures { result ≡ entry_at rules.dragged_buttons number }
+{
+    match number {
+        1 => Some(MouseButton::Button1Drag),
+        2 => Some(MouseButton::Button2Drag),
+        3 => Some(MouseButton::Button3Drag),
+        _ => None,
+    }
+}
+
+// The button or the wheel that was released, by its number.
+#[tactic(auto, unfolding(termwiz_extended_events::specs::ReportedKeys::entry_at))]
+fn released_button(number: u8) -> Option<MouseButton>
+    ensures { result ≡ entry_at rules.released_buttons number }
+{
+    match number {
+        1 => Some(MouseButton::Button1Release),
+        2 => Some(MouseButton::Button2Release),
+        3 => Some(MouseButton::Button3Release),
+        4 => Some(MouseButton::Button4Release),
+        5 => Some(MouseButton::Button5Release),
+        6 => Some(MouseButton::Button6Release),
+        7 => Some(MouseButton::Button7Release),
+        _ => None,
+    }
+}
+
+// The wheel that was turned, by its number.
+#[tactic(auto, unfolding(termwiz_extended_events::specs::ReportedKeys::entry_at))]
+fn turned_wheel(number: u8) -> Option<MouseButton>
+    ensures { result ≡ entry_at rules.turned_wheels number }
+{
+    match number {
+        4 => Some(MouseButton::Button4Press),
+        5 => Some(MouseButton::Button5Press),
+        6 => Some(MouseButton::Button6Press),
+        7 => Some(MouseButton::Button7Press),
+        _ => None,
+    }
+}
+
+// What is reported to the port too.
+fn reported_button(kind: MouseKind, button: Option<u8>) -> Option<MouseButton>
+    ensures { result ≡ rules.reported_button kind button }
+{
+    match (kind, button) {
+        (MouseKind::Press, Some(number)) => pressed_button(number),
+        (MouseKind::Drag, Some(number)) => dragged_button(number),
+        (MouseKind::Release, Some(number)) => released_button(number),
+        (MouseKind::Wheel, Some(number)) => turned_wheel(number),
+        (MouseKind::Move, None) => Some(MouseButton::None),
+        _ => None,
+    }
+}
+
+// The bits of the buttons that are down after a report of this one.
+fn button_bits(button: MouseButton) -> u8
+    ensures { result ≡ buttons.button_bits button }
+{
+    match button {
+        MouseButton::Button1Press | MouseButton::Button1Drag => 2,
+        MouseButton::Button2Press | MouseButton::Button2Drag => 8,
+        MouseButton::Button3Press | MouseButton::Button3Drag => 4,
+        MouseButton::Button4Press => 80,
+        MouseButton::Button5Press => 16,
+        MouseButton::Button6Press => 96,
+        MouseButton::Button7Press => 32,
+        _ => 0,
     }
 }
 
@@ -165,29 +263,48 @@ fn tells_modifiers(held: Modifiers) -> bool
     held.bits() == u16::from(told)
 }
 
-// The report of a mouse event, if it has one.
-#[tactic(auto, unfolding(crate::specs::EventTexts::mouse_event_text, crate::specs::MouseTexts::mouse_text))]
-fn mouse_text(alloc: Global, event: &MouseEvent) -> Result<Option<Vec<u8>>, AllocError>
-    ensures some { IfOk result (λ text. IfSome text (λ text. rules.mouse_event_text event.now ≡ Some text.items)) }
-    ensures none { IfOk result (λ text. IfNone text (rules.mouse_event_text event.now ≡ None)) }
+// A report of this button at the place of another one.
+#[tactic(auto, unfolding(crate::specs::MouseTexts::mouse_text))]
+fn button_text(
+    alloc: Global,
+    report: &MouseReport,
+    button: MouseButton,
+    encoding: MouseEncoding,
+) -> Result<Option<Vec<u8>>, AllocError>
+    ensures some { IfOk result (λ text. IfSome text (λ text.
+        mouse_text (SGR1006 report.now.x report.now.y button report.now.modifiers) Any encoding ≡ Some text.items)) }
+    ensures none { IfOk result (λ text. IfNone text (
+        mouse_text (SGR1006 report.now.x report.now.y button report.now.modifiers) Any encoding ≡ None)) }
 {
-    if !tells_modifiers(event.modifiers) {
-        return Ok(None);
-    }
-    let Some(button) = reported_button(event.mouse_buttons.bits()) else {
-        return Ok(None);
-    };
-    let report = MouseReport::SGR1006 {
-        x: event.x,
-        y: event.y,
+    let report = ButtonReport::SGR1006 {
+        x: report.x,
+        y: report.y,
         button,
-        modifiers: event.modifiers,
+        modifiers: report.modifiers,
     };
-    match encode_mouse(alloc, &report, MouseTracking::Any, MouseEncoding::Sgr) {
+    match encode_mouse(alloc, &report, MouseTracking::Any, encoding) {
         Ok(text) => Ok(Some(text)),
         Err(MouseError::TooFar) => Ok(None),
         Err(MouseError::Memory) => Err(AllocError),
     }
+}
+
+// The report that the port reads too, if there is one.
+#[tactic(auto, unfolding(crate::specs::EventTexts::sgr_event_text))]
+fn sgr_text(alloc: Global, report: &MouseReport) -> Result<Option<Vec<u8>>, AllocError>
+    ensures some { IfOk result (λ text. IfSome text (λ text. rules.sgr_event_text report.now ≡ Some text.items)) }
+    ensures none { IfOk result (λ text. IfNone text (rules.sgr_event_text report.now ≡ None)) }
+{
+    if !tells_modifiers(report.modifiers) {
+        return Ok(None);
+    }
+    let Some(button) = reported_button(report.kind, report.button) else {
+        return Ok(None);
+    };
+    if report.buttons.bits() != button_bits(button) {
+        return Ok(None);
+    }
+    button_text(alloc, report, button, MouseEncoding::Sgr)
 }
 
 // The code of a side button, by its number.
@@ -203,47 +320,91 @@ fn side_code(number: u8) -> Option<u8>
 }
 
 // What a drag adds to the code of a side button.
-fn side_move(kind: SideButtonKind) -> u8
+fn side_move(kind: MouseKind) -> u8
     ensures added { result ≡ rules.side_move kind }
     ensures small { result ≤ 32 }
 {
     match kind {
-        SideButtonKind::Drag => 32,
-        SideButtonKind::Press | SideButtonKind::Release => 0,
+        MouseKind::Drag => 32,
+        _ => 0,
     }
 }
 
 // The character at the end of the report of a side button.
-fn side_last(kind: SideButtonKind) -> char
+fn side_last(kind: MouseKind) -> char
     ensures last { result ≡ rules.side_last kind }
     ensures ascii { result < 128 }
 {
     match kind {
-        SideButtonKind::Release => 'm',
-        SideButtonKind::Press | SideButtonKind::Drag => 'M',
+        MouseKind::Release => 'm',
+        _ => 'M',
     }
 }
 
 // The report of a side button, if it has one.
-#[tactic(auto, unfolding(crate::specs::EventTexts::side_button_text))]
-fn side_button_text(alloc: Global, event: &SideButtonEvent) -> Result<Option<Vec<u8>>, AllocError>
-    ensures some { IfOk result (λ text. IfSome text (λ text. rules.side_button_text event.now ≡ Some text.items)) }
-    ensures none { IfOk result (λ text. IfNone text (rules.side_button_text event.now ≡ None)) }
+fn side_text(alloc: Global, report: &MouseReport, number: u8) -> Result<Option<Vec<u8>>, AllocError>
+    ensures some { IfOk result (λ text. IfSome text (λ text. rules.side_event_text report.now number ≡ Some text.items)) }
+    ensures none { IfOk result (λ text. IfNone text (rules.side_event_text report.now number ≡ None)) }
 {
-    if !tells_modifiers(event.modifiers) {
-        return Ok(None);
-    }
-    let Some(code) = side_code(event.number) else {
+    let Some(code) = side_code(number) else {
         return Ok(None);
     };
-    let code = code + side_move(event.kind) + modifier_code(MouseTracking::Any, event.modifiers);
+    let code = code + side_move(report.kind) + modifier_code(MouseTracking::Any, report.modifiers);
     let text = format!(in alloc;
         "{CSI}<{code};{};{}{}",
-        event.x,
-        event.y,
-        side_last(event.kind)
+        report.x,
+        report.y,
+        side_last(report.kind)
     )?;
     Ok(Some(text.into_bytes()))
+}
+
+// The report that the port doesn't read, if there is one.
+#[tactic(auto, unfolding(crate::specs::EventTexts::further_mouse_text))]
+fn further_text(alloc: Global, report: &MouseReport) -> Result<Option<Vec<u8>>, AllocError>
+    ensures some { IfOk result (λ text. IfSome text (λ text. rules.further_mouse_text report.now ≡ Some text.items)) }
+    ensures none { IfOk result (λ text. IfNone text (rules.further_mouse_text report.now ≡ None)) }
+{
+    if !tells_modifiers(report.modifiers) || report.buttons.bits() != 0 {
+        return Ok(None);
+    }
+    match report.button {
+        Some(number) => match report.kind {
+            MouseKind::Press | MouseKind::Drag | MouseKind::Release => {
+                side_text(alloc, report, number)
+            }
+            _ => Ok(None),
+        },
+        None => match report.kind {
+            MouseKind::Release => {
+                button_text(
+                    alloc,
+                    report,
+                    MouseButton::Button1Release,
+                    MouseEncoding::Urxvt,
+                )
+            }
+            _ => Ok(None),
+        },
+    }
+}
+
+// A mouse report, if it has one.
+fn mouse_text(
+    alloc: Global,
+    report: &MouseReport,
+    reading: Reading,
+) -> Result<Option<Vec<u8>>, AllocError>
+    ensures some { IfOk result (λ text. IfSome text (λ text. rules.IsMouseText reading report.now text.items)) }
+    ensures none { IfOk result (λ text. IfNone text ((bytes : List ℕ) → ¬ rules.IsMouseText reading report.now bytes)) }
+{
+    if let Some(text) = sgr_text(alloc, report)? {
+        return Ok(Some(text));
+    }
+    if !reads_more(reading) {
+        return Ok(None);
+    }
+    further_text(alloc, report)
 }
 
 // The bytes of a paste of a text, unless the text would end it.
@@ -383,7 +544,7 @@ const MOST_STRING: usize = 65534;
 
 // Bytes of an event, if they are read as it.
 fn tried(
-    event: &ExtendedEvent,
+    event: &Event,
     parser: &ExtendedParser,
     bytes: Vec<u8>,
 ) -> Result<Option<Vec<u8>>, AllocError>
@@ -401,7 +562,7 @@ fn tried(
 // The bytes of a control sequence, which is this event.
 fn sequence_text(
     alloc: Global,
-    event: &ExtendedEvent,
+    event: &Event,
     parser: &ExtendedParser,
     text: &[u8],
 ) -> Result<Vec<u8>, EncodeEventError>
@@ -434,7 +595,7 @@ fn introducer_of(kind: StringKind) -> &'static [u8]
 // The bytes of a string of a kind, which is this event.
 fn string_text(
     alloc: Global,
-    event: &ExtendedEvent,
+    event: &Event,
     parser: &ExtendedParser,
     kind: StringKind,
     text: &[u8],

@@ -1,5 +1,5 @@
-//! Laws of what is sent, each the contract of a function without effect. What is said of the extended parser holds under every reading: either
-//! protocol, X10 mouse reports read or not, and any number of open questions.
+//! Laws of what is sent, each the contract of a function without effect. What is said of the extended parser holds under every reading, by
+//! either grammar, unless it says more.
 ghost use Rattle.termwiz_senders.specs.MouseLaws.{DefaultReadBack, SgrGivesAgain, SgrInverse, SgrReadBack, SgrReadBackExtended, UrxvtReadBack};
 ghost use Rattle.termwiz_senders.specs.PasteLaws.{AtMostThreefold, OnePaste, OnePasteExtended, PasteStands, PasteStandsExtended, SafeIsUnchanged, SafeOnce, TypedPaste, TypedPasteExtended};
 
@@ -34,14 +34,14 @@ pub fn safe_texts()
 
 /// A report that is sent in SGR's encoding is read as one mouse event, whether or not more may come, and nothing stays buffered: by the port
 /// (`port`) and by the extended parser (`extended`). The event has the place and the buttons of the report, and of the modifiers those that
-/// were sent.
+/// were sent. The extended parser's also tells what happened to which button.
 pub fn sgr_read_back()
     ensures port { SgrReadBack }
     ensures extended { SgrReadBackExtended }
 {}
 
-/// The extended parser reads the same of a report that is sent in urxvt's encoding (`urxvt`). It does so of one that is sent in three bytes, if
-/// it was told to read X10 mouse reports (`three_bytes`).
+/// By `Dialect::Extended` the extended parser reads the same of a report that is sent in urxvt's encoding (`urxvt`), but that a release names no
+/// button. It does so of one that is sent in three bytes, if it was told to read X10 mouse reports (`three_bytes`).
 pub fn other_mouse_read_back()
     ensures urxvt { UrxvtReadBack }
     ensures three_bytes { DefaultReadBack }

@@ -9,3 +9,4 @@ pub mod mouse;
 pub mod paste;
 mod reader;
 mod report;
+mod rows;

@@ -1,18 +1,16 @@
-// Whether bytes are read as an event, and which rows of the sequence table a key has.
-ghost use Rattle.std.specs.Prelude.{◌≡◌, ◌↔◌, List, [], ◌∷◌, Contains, IfOk, IfSome, IfNone, IsTrue};
-ghost use Rattle.termwiz_keys.specs.declared.types.InputEvent.TheVariants as input;
-ghost use Rattle.termwiz_grammar.specs.Table.{rows as table_rows};
-ghost use Rattle.termwiz_extended_events.specs.declared.types.ExtendedEvent.TheVariants as event;
+// Whether bytes are read as an event.
+ghost use Rattle.std.specs.Prelude.{◌≡◌, ◌↔◌, ℕ, List, [], ◌∷◌, IfOk, IfSome, IfNone, IsTrue};
+ghost use Rattle.termwiz_extended_events.specs.declared.types.Event.{Event};
+ghost use Rattle.termwiz_extended_events.specs.declared.types.Event.TheVariants as event;
 ghost use Rattle.termwiz_extended_grammar.specs.ExtendedGrammar.{Means};
-ghost use Rattle.termwiz_senders.specs.KeyTexts.{HasRow, IsFirstRowOf, IsReadAsKey, IsTried};
+ghost use Rattle.termwiz_senders.specs.KeyTexts.{IsFirstRow, IsReadAsKey, IsTried};
 
+use crate::rows::first_row;
 use std::alloc::AllocError;
-use termwiz_extended_events::types::{ExtendedEvent, Reading};
-use termwiz_input::input::{InputParser, copied};
-use termwiz_input::keymap::Found;
+use termwiz_extended_events::types::{Event, KeyReport, Reading, ReportedKey};
+use termwiz_input::input::InputParser;
 use termwiz_input_extended::input::ExtendedParser;
 use termwiz_keys::laws::equality;
-use termwiz_keys::types::{InputEvent, KeyEvent};
 
 // Reads what is written, as parsers do.
 #[derive(Drop)]
@@ -27,7 +25,7 @@ impl Reader {
     pub(crate) fn beside(parser: &ExtendedParser) -> Result<Reader, AllocError> {
         Ok(Reader {
             rows: parser.input_sharing()?,
-            parser: parser.sharing(parser.reading().protocol)?,
+            parser: parser.sharing(parser.dialect())?,
         })
     }
 
@@ -37,7 +35,7 @@ impl Reader {
         reading: Reading,
         bytes: &[u8],
         maybe_more: bool,
-        event: &ExtendedEvent,
+        event: &Event,
     ) -> Result<bool, AllocError>
         requires { IsTried event.now }
         ensures { IfOk result (λ read. IsTrue read ↔ Means reading bytes.now maybe_more (event.now ∷ []) []) }
@@ -50,36 +48,54 @@ impl Reader {
         &mut self,
         reading: Reading,
         bytes: &[u8],
-        key: &KeyEvent,
+        report: &KeyReport,
     ) -> Result<bool, AllocError>
-        ensures { IfOk result (λ read. IsTrue read ↔ IsReadAsKey reading key.now bytes.now) }
+        ensures { IfOk result (λ read. IsTrue read ↔ IsReadAsKey reading report.now bytes.now) }
     {
-        reads_key(&mut self.parser, reading, bytes, key)
+        reads_key(&mut self.parser, reading, bytes, report)
     }
 
-    // Whether bytes are a row of this key.
-    pub(crate) fn has_row(&self, bytes: &[u8], key: &KeyEvent) -> bool
-        ensures { IsTrue result ↔ Contains table_rows (bytes.now, key.now) }
-    {
-        match self.rows.lookup(bytes, false) {
-            Found::Exact(len, own) => len == bytes.len() && is_key(own, key),
-            Found::Ambiguous(..) => false,
-            Found::NeedData => false,
-            Found::None => false,
-        }
-    }
-
-    // The first row of a key that is read as it.
+    // The first row that is read as a report.
     pub(crate) fn first_row(
         &mut self,
         reading: Reading,
-        key: &KeyEvent,
+        report: &KeyReport,
     ) -> Result<Option<&[u8]>, AllocError>
-        ensures row { IfOk result (λ row. IfSome row (λ row. IsFirstRowOf reading key.now row.now)) }
-        ensures none { IfOk result (λ row. IfNone row (¬ HasRow reading key.now)) }
+        ensures row { IfOk result (λ row. IfSome row (λ row. IsFirstRow reading report.now row.now)) }
+        ensures none { IfOk result (λ row. IfNone row ((bytes : List ℕ) → ¬ IsFirstRow reading report.now bytes)) }
     {
-        first_row(&self.rows, &mut self.parser, reading, key)
+        first_row(&self.rows, &mut self.parser, reading, report)
     }
+}
+
+// The event that bytes are alone by this reading, if they are one and nothing stays buffered.
+fn only_event(
+    parser: &mut ExtendedParser,
+    reading: Reading,
+    bytes: &[u8],
+    maybe_more: bool,
+) -> Result<Option<Event>, AllocError>
+    ensures some { IfOk result (λ found. IfSome found (λ event. Means reading bytes.now maybe_more (event ∷ []) [])) }
+    ensures none { IfOk result (λ found. IfNone found ((event : Event) → ¬ Means reading bytes.now maybe_more (event ∷ []) [])) }
+{
+    parser.reset();
+    parser.set_reading(reading);
+    parser.feed(bytes)?;
+    let Some(found) = parser.next_event(maybe_more)? else {
+        return Ok(None);
+    };
+    if is_nothing(parser.waiting_text()) {
+        Ok(Some(found))
+    } else {
+        Ok(None)
+    }
+}
+
+// Whether nothing is left.
+fn is_nothing(left: &[u8]) -> bool
+    ensures { IsTrue result ↔ (left.now ≡ []) }
+{
+    left.is_empty()
 }
 
 // Whether bytes are this event alone by this reading, and nothing stays buffered.
@@ -88,82 +104,77 @@ fn reads(
     reading: Reading,
     bytes: &[u8],
     maybe_more: bool,
-    event: &ExtendedEvent,
+    event: &Event,
 ) -> Result<bool, AllocError>
     requires { IsTried event.now }
     ensures { IfOk result (λ read. IsTrue read ↔ Means reading bytes.now maybe_more (event.now ∷ []) []) }
 {
-    parser.reset();
-    parser.set_reading(reading);
-    parser.feed(bytes)?;
-    let Some(found) = parser.next_event(maybe_more)? else {
-        return Ok(false);
-    };
-    Ok(is_all(&found, event, parser.waiting_text()))
-}
-
-// Whether what was found is this event, and nothing is left.
-fn is_all(found: &ExtendedEvent, event: &ExtendedEvent, left: &[u8]) -> bool
-    requires { IsTried event.now }
-    ensures { IsTrue result ↔ ((found.now ≡ event.now) × (left.now ≡ [])) }
-{
-    is_same(found, event) && left.is_empty()
+    match only_event(parser, reading, bytes, maybe_more)? {
+        Some(found) => Ok(is_same(&found, event)),
+        None => Ok(false),
+    }
 }
 
 // Whether an event is this one.
-fn is_same(found: &ExtendedEvent, event: &ExtendedEvent) -> bool
+fn is_same(found: &Event, event: &Event) -> bool
     requires { IsTried event.now }
     ensures { IsTrue result ↔ (found.now ≡ event.now) }
 {
     match (found, event) {
-        (ExtendedEvent::Input(InputEvent::Key(a)), ExtendedEvent::Input(InputEvent::Key(b))) => {
-            is_key(a, b)
-        }
-        (ExtendedEvent::Csi(a), ExtendedEvent::Csi(b)) => a.as_slice() == b.as_slice(),
-        (ExtendedEvent::Osc(a), ExtendedEvent::Osc(b)) => a.as_slice() == b.as_slice(),
-        (ExtendedEvent::Dcs(a), ExtendedEvent::Dcs(b)) => a.as_slice() == b.as_slice(),
-        (ExtendedEvent::Apc(a), ExtendedEvent::Apc(b)) => a.as_slice() == b.as_slice(),
+        (Event::Key(a), Event::Key(b)) => is_report(a, b),
+        (Event::Csi(a), Event::Csi(b)) => a.as_slice() == b.as_slice(),
+        (Event::Osc(a), Event::Osc(b)) => a.as_slice() == b.as_slice(),
+        (Event::Dcs(a), Event::Dcs(b)) => a.as_slice() == b.as_slice(),
+        (Event::Apc(a), Event::Apc(b)) => a.as_slice() == b.as_slice(),
         _ => false,
     }
 }
 
 // Whether a key is this one.
-fn is_key(found: &KeyEvent, key: &KeyEvent) -> bool
-    ensures { IsTrue result ↔ (found.now ≡ key.now) }
+fn is_key(found: ReportedKey, key: ReportedKey) -> bool
+    ensures { IsTrue result ↔ (found ≡ key) }
 {
     equality();
-    found == key
+    match (found, key) {
+        (ReportedKey::Named(a), ReportedKey::Named(b)) => a == b,
+        (ReportedKey::Functional(a), ReportedKey::Functional(b)) => a == b,
+        _ => false,
+    }
+}
+
+// Whether a report is this one.
+fn is_report(found: &KeyReport, report: &KeyReport) -> bool
+    ensures { IsTrue result ↔ (found.now ≡ report.now) }
+{
+    is_key(found.key, report.key)
+        && found.modifiers == report.modifiers
+        && found.kind == report.kind
+        && found.shifted == report.shifted
+        && found.base == report.base
+        && found.text.as_str() == report.text.as_str()
+}
+
+// Whether an event is this key.
+fn is_key_event(found: &Event, report: &KeyReport) -> bool
+    ensures { IsTrue result ↔ (found.now ≡ event.Key report.now) }
+{
+    match found {
+        Event::Key(found) => is_report(found, report),
+        _ => false,
+    }
 }
 
 // Whether bytes, with no more to come, are this key alone.
-fn reads_key(
+pub(crate) fn reads_key(
     parser: &mut ExtendedParser,
     reading: Reading,
     bytes: &[u8],
-    key: &KeyEvent,
+    report: &KeyReport,
 ) -> Result<bool, AllocError>
-    ensures { IfOk result (λ read. IsTrue read ↔ IsReadAsKey reading key.now bytes.now) }
+    ensures { IfOk result (λ read. IsTrue read ↔ IsReadAsKey reading report.now bytes.now) }
 {
-    let event = ExtendedEvent::Input(InputEvent::Key(copied(key)));
-    reads(parser, reading, bytes, false, &event)
-}
-
-// The first row of a key that is read as it.
-fn first_row<'r>(
-    rows: &'r InputParser,
-    parser: &mut ExtendedParser,
-    reading: Reading,
-    key: &KeyEvent,
-) -> Result<Option<&'r [u8]>, AllocError>
-    ensures row { IfOk result (λ row. IfSome row (λ row. IsFirstRowOf reading key.now row.now)) }
-    ensures none { IfOk result (λ row. IfNone row (¬ HasRow reading key.now)) }
-{
-    let mut place = rows.first_place(key);
-    while let Some((row, _)) = rows.row(place) {
-        if reads_key(parser, reading, row, key)? {
-            return Ok(Some(row));
-        }
-        place = rows.next_place(place);
+    match only_event(parser, reading, bytes, false)? {
+        Some(found) => Ok(is_key_event(&found, report)),
+        None => Ok(false),
     }
-    Ok(None)
 }

@@ -2,7 +2,7 @@
 ghost use Rattle.std.specs.Prelude.{◌≡◌, ◌==◌, ◌||◌, ◌≢◌, ◌++◌, codes, ◌≤◌, ◌<◌, ℕ, List, IfOk, OnOk, Some, Err, length, is_some, option_map, string_bytes};
 ghost use Rattle.std.specs.Str.{chars};
 ghost use Rattle.termwiz_extended_events.specs.ReportedKeys as keys;
-ghost use Rattle.termwiz_extended_events.specs.declared.types.ExtendedEvent.TheVariants as event;
+ghost use Rattle.termwiz_extended_events.specs.declared.types.Event.TheVariants as event;
 ghost use Rattle.termwiz_kitty.specs.KeyForms.{is_character};
 ghost use Rattle.termwiz_senders.specs.EventTexts.{IsTooLong};
 ghost use Rattle.termwiz_senders.specs.ReportTexts as rules;

@@ -10,7 +10,7 @@ use Rattle.termwiz_input.specs.Laws as port
 use Rattle.termwiz_input.specs.Pieces.{AreNumbered, NumberedEvent, ReadsFirst, events_of, flag_at, join, pieces_or_one, taken_or_one, texts}
 use Rattle.test_calls.specs.declared.parses.Stop.{Stop}
 use Rattle.test_calls.specs.declared.parses.PiecesStop.{PiecesStop}
-use Rattle.termwiz_extended_events.specs.declared.types.ExtendedEvent.{ExtendedEvent}
+use Rattle.termwiz_extended_events.specs.declared.types.Event.{Event}
 use Rattle.termwiz_extended_events.specs.declared.types.Reading.{Reading as ExtendedReading}
 use Rattle.termwiz_extended_grammar.specs.ExtendedGrammar as extended
 use Rattle.termwiz_extended_grammar.specs.ExtendedLaws as extended_laws
@@ -53,7 +53,7 @@ pub resumes_port : port.Resumes → (text middle rest : List ℕ) (E D : List In
     → Means middle false D rest → Means text false (E ++ D) rest
 resumes_port resumes text middle rest E D = (resumes text [] middle rest E D false).1
 
-pub resumes_extended : extended_laws.Resumes → (reading : ExtendedReading) (text middle rest : List ℕ) (E D : List ExtendedEvent)
+pub resumes_extended : extended_laws.Resumes → (reading : ExtendedReading) (text middle rest : List ℕ) (E D : List Event)
     → extended.Steps reading text false E middle → extended.Means (after_events reading E) middle false D rest
     → extended.Means reading text false (E ++ D) rest
 resumes_extended resumes reading text middle rest E D = (resumes reading text [] middle rest E D false).1

@@ -4,7 +4,7 @@
 ghost use Rattle.std.specs.Prelude.{◌≡◌, ◌++◌, ◌∷◌, [], List, false, length, IfNone, IfOk, IfSome, OnErr, OnOk};
 ghost use Rattle.termwiz_input.specs.PasteParts.{IsTaken};
 ghost use Rattle.termwiz_input.specs.WaitingKinds.{IsOpenPaste};
-ghost use Rattle.termwiz_extended_events.specs.declared.types.ExtendedEvent.{ExtendedEvent as Event};
+ghost use Rattle.termwiz_extended_events.specs.declared.types.Event.{Event};
 ghost use Rattle.termwiz_extended_grammar.specs.ExtendedGrammar.{IsRest, Means, Steps};
 ghost use Rattle.termwiz_extended_grammar.specs.Readings.{first_reading};
 ghost use Rattle.termwiz_input_extended.specs.EventCallbacks.{WasCalledOn};
@@ -16,7 +16,7 @@ use std::alloc::{AllocError, Global};
 use termwiz_input::input::PastedText;
 use termwiz_input_extended::input::{ExtendedParser, ExtendedVecError, ParseError};
 use termwiz_input_extended::laws::resumes;
-use termwiz_input_extended::types::{ExtendedEvent, Protocol};
+use termwiz_input_extended::types::{Dialect, Event};
 
 // What is buffered in a parser.
 fn left_in(parser: &ExtendedParser) -> Left
@@ -29,13 +29,13 @@ fn left_in(parser: &ExtendedParser) -> Left
 }
 
 /// A parser with an empty buffer, and whether the first call was refused.
-pub fn make_parser(alloc: Global, protocol: Protocol) -> Result<(ExtendedParser, bool), AllocError>
+pub fn make_parser(alloc: Global, dialect: Dialect) -> Result<(ExtendedParser, bool), AllocError>
     ensures empty { IfOk result (λ made. made.0.text ≡ []) }
-    ensures reading { IfOk result (λ made. made.0.reading ≡ first_reading protocol) }
+    ensures reading { IfOk result (λ made. made.0.reading ≡ first_reading dialect) }
 {
-    match ExtendedParser::new(alloc, protocol) {
+    match ExtendedParser::new(alloc, dialect) {
         Ok(parser) => Ok((parser, false)),
-        Err(_) => Ok((ExtendedParser::new(alloc, protocol)?, true)),
+        Err(_) => Ok((ExtendedParser::new(alloc, dialect)?, true)),
     }
 }
 
@@ -54,9 +54,7 @@ pub fn feed(parser: &mut ExtendedParser, bytes: &[u8]) -> Result<Option<usize>, 
 }
 
 /// The next event, and how many bytes were buffered after a refusal.
-pub fn next_event(
-    parser: &mut ExtendedParser,
-) -> Result<(Option<ExtendedEvent>, Option<usize>), AllocError>
+pub fn next_event(parser: &mut ExtendedParser) -> Result<(Option<Event>, Option<usize>), AllocError>
     ensures event { IfOk result (λ next. IfSome next.0 (λ event.
         Steps parser.old.reading parser.old.text false (event ∷ []) parser.new.text)) }
     ensures none { IfOk result (λ next. IfNone next.0 (IsRest parser.old.reading parser.old.text false)) }
@@ -73,9 +71,7 @@ pub fn next_event(
 }
 
 /// Ends the open paste of a parser, if there is one. Returns its event, and how many bytes stayed buffered after a refusal.
-pub fn end_paste(
-    parser: &mut ExtendedParser,
-) -> Result<(Option<ExtendedEvent>, Option<usize>), AllocError>
+pub fn end_paste(parser: &mut ExtendedParser) -> Result<(Option<Event>, Option<usize>), AllocError>
     ensures event { IfOk result (λ ended. IfSome ended.0 (IsPasteEvent parser.old.text)) }
     ensures none { IfOk result (λ ended. IfNone ended.0 (¬ IsOpenPaste parser.old.text)) }
     ensures unchanged { IfOk result (λ ended. IfSome ended.1 (λ len. len ≡ length parser.old.text)) }
@@ -106,7 +102,7 @@ pub fn take_paste(
 }
 
 /// Gives the events of what is buffered to `first`. After a refusal the same call is made; its events go to `later`.
-pub fn for_each_event<F: FnMut(ExtendedEvent), G: FnMut(ExtendedEvent)>(
+pub fn for_each_event<F: FnMut(Event), G: FnMut(Event)>(
     parser: &mut ExtendedParser,
     first: &mut F,
     later: &mut G,
@@ -132,7 +128,7 @@ pub fn for_each_event<F: FnMut(ExtendedEvent), G: FnMut(ExtendedEvent)>(
 
 /// Gives the bytes to `parse`, and their events to `first`. After a refusal the bytes are given again if they weren't
 /// buffered, and no bytes if they were; the events of that call go to `later`.
-pub fn parse<F: FnMut(ExtendedEvent), G: FnMut(ExtendedEvent)>(
+pub fn parse<F: FnMut(Event), G: FnMut(Event)>(
     parser: &mut ExtendedParser,
     bytes: &[u8],
     first: &mut F,
@@ -166,11 +162,11 @@ pub fn parse<F: FnMut(ExtendedEvent), G: FnMut(ExtendedEvent)>(
 #[derive(Drop)]
 pub struct ExtendedLists {
     /// The events of the first call, or those that its error has.
-    pub first: Vec<ExtendedEvent>,
+    pub first: Vec<Event>,
     /// What stood after the first call, if it was refused.
     pub stop: Option<Stop>,
     /// The events of the second call.
-    pub later: Vec<ExtendedEvent>,
+    pub later: Vec<Event>,
 }
 
 /// Gives the bytes to `parse_as_vec`. After a refusal the bytes are given again if they weren't buffered, and no bytes if

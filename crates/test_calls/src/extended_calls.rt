@@ -5,14 +5,14 @@ use crate::noted::Noted;
 use std::alloc::{AllocError, Global};
 use termwiz_input_extended::input::ExtendedParser;
 use termwiz_input_extended::time::expire;
-use termwiz_input_extended::types::ExtendedEvent;
+use termwiz_input_extended::types::Event;
 
 /// The events of a call of `parse_as_vec`.
 pub fn listed(
     parser: &mut ExtendedParser,
     bytes: &[u8],
     more: bool,
-) -> Result<Vec<ExtendedEvent>, AllocError> {
+) -> Result<Vec<Event>, AllocError> {
     match parser.parse_as_vec(bytes, more) {
         Ok(events) => Ok(events),
         Err(_) => Err(AllocError),
@@ -26,9 +26,9 @@ pub fn called_back(
     limits: &mut Limits,
     callback: Callback,
     bytes: &[u8],
-) -> Result<Vec<ExtendedEvent>, AllocError> {
+) -> Result<Vec<Event>, AllocError> {
     let mut noted = Noted::new(alloc);
-    let mut note = |event: ExtendedEvent| noted.push(event);
+    let mut note = |event: Event| noted.push(event);
     let is_done = match callback {
         Callback::Parse(more) => parser.parse(bytes, &mut note, more).is_ok(),
         Callback::Loop(more) => {

@@ -7,10 +7,11 @@ use crate::limits::{Limits, note_of};
 use crate::line::Line;
 use std::alloc::{AllocError, Global};
 use termwiz_extended_events::meanings::{event_of, meaning_of};
+use termwiz_extended_events::port_events::port_of;
 use termwiz_extended_events::types::KeyReport;
 use termwiz_input_extended::input::ExtendedParser;
 use termwiz_input_extended::time::{limit_of, next_flushed, seen_of};
-use termwiz_input_extended::types::{ExtendedEvent, Protocol};
+use termwiz_input_extended::types::{Dialect, Event};
 
 /// A parser, and its limits in time.
 #[derive(Drop)]
@@ -21,9 +22,9 @@ pub struct ExtendedSession {
 
 impl ExtendedSession {
     /// A parser whose buffer is empty, under the usual policy.
-    pub fn new(alloc: Global, protocol: Protocol) -> Result<ExtendedSession, AllocError> {
+    pub fn new(alloc: Global, dialect: Dialect) -> Result<ExtendedSession, AllocError> {
         Ok(ExtendedSession {
-            parser: ExtendedParser::new(alloc, protocol)?,
+            parser: ExtendedParser::new(alloc, dialect)?,
             limits: Limits::usual(),
         })
     }
@@ -40,6 +41,7 @@ impl Session for ExtendedSession {
         match command.name {
             "next_event" => take_next(&mut self.parser, more, line),
             "next_flushed" => flush_next(&mut self.parser, line),
+            "next_port" => take_port(&mut self.parser, more, line),
             "callback" => self.call_back(alloc, command, Callback::Parse(more), line),
             "loop" => self.call_back(alloc, command, Callback::Loop(more), line),
             "expire" => self.call_back(alloc, command, Callback::Expire(command.number), line),
@@ -105,6 +107,17 @@ fn take_next(parser: &mut ExtendedParser, more: bool, line: &mut Line) -> Result
     Ok(())
 }
 
+// Appends the port's event of the next event, or that it has none.
+fn take_port(parser: &mut ExtendedParser, more: bool, line: &mut Line) -> Result<(), Failure> {
+    if let Some(event) = parser.next_event(more)? {
+        match port_of(event) {
+            Some(event) => line.event(&event),
+            None => line.word("None"),
+        }
+    }
+    Ok(())
+}
+
 // Appends the next event of a flush, if there is one.
 fn flush_next(parser: &mut ExtendedParser, line: &mut Line) -> Result<(), Failure> {
     if let Some(event) = next_flushed(parser)? {
@@ -115,7 +128,7 @@ fn flush_next(parser: &mut ExtendedParser, line: &mut Line) -> Result<(), Failur
 }
 
 // Appends the events, and how many bytes stay buffered.
-fn show_events(events: &[ExtendedEvent], waiting: usize, line: &mut Line) {
+fn show_events(events: &[Event], waiting: usize, line: &mut Line) {
     for event in events {
         show_event(event, line);
     }
@@ -123,9 +136,9 @@ fn show_events(events: &[ExtendedEvent], waiting: usize, line: &mut Line) {
 }
 
 // Appends an event.
-fn show_event(event: &ExtendedEvent, line: &mut Line) {
+fn show_event(event: &Event, line: &mut Line) {
     match event {
-        ExtendedEvent::Input(event) => line.event(event),
+        Event::Paste(text) => line.pasted(text),
         _ => line.shown(format_args!("{event:?}")),
     }
     line.word(", ");
@@ -138,15 +151,15 @@ fn show_sequence(alloc: Global, text: &[u8], asks: bool, line: &mut Line) -> Res
     line.word(", ");
     let event = event_of(alloc, text, asks)?;
     show_event(&event, line);
-    match event.key(alloc)? {
+    match event.key() {
         Some(report) => show_report(alloc, report, line),
         None => Ok(()),
     }
 }
 
-fn show_report(alloc: Global, report: KeyReport, line: &mut Line) -> Result<(), Failure> {
+fn show_report(alloc: Global, report: &KeyReport, line: &mut Line) -> Result<(), Failure> {
     let copy = report.clone(alloc)?;
-    show_event(&ExtendedEvent::Key(report), line);
-    show_event(&ExtendedEvent::Key(copy), line);
+    line.shown(format_args!("Key({report:?}), "));
+    show_event(&Event::Key(copy), line);
     Ok(())
 }

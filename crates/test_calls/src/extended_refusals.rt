@@ -3,12 +3,12 @@
 use crate::extended;
 use crate::failure::Failure;
 use crate::printing::{
-    print_event, print_found, print_part, print_refused, print_text, print_waiting, print_word,
+    print_found, print_part, print_pasted, print_refused, print_text, print_waiting, print_word,
 };
 use crate::refusals::{OPEN_PASTE, print_stop};
 use termwiz_extended_events::types::KeyReport;
 use termwiz_input_extended::input::ExtendedParser;
-use termwiz_input_extended::types::{ExtendedEvent, Protocol};
+use termwiz_input_extended::types::{Dialect, Event};
 
 // An ESC that is held, a paste, the reply with a colour, a control sequence that has no event of its own, and a key with its text.
 const ALL_KINDS: &[u8] = b"\x1b\x1b[200~ab\x1b[201~\x1b]4;1\x07\x1b[?62c\x1b[97;;98u";
@@ -17,7 +17,7 @@ const ALL_KINDS: &[u8] = b"\x1b\x1b[200~ab\x1b[201~\x1b]4;1\x07\x1b[?62c\x1b[97;
 pub fn show(rt: &HostRuntime, case: &str) -> Result<(), Failure> {
     show_lent(
         rt,
-        &mut ExtendedParser::new(rt.alloc(), Protocol::Kitty)?,
+        &mut ExtendedParser::new(rt.alloc(), Dialect::Extended)?,
         case,
     )
 }
@@ -43,7 +43,7 @@ fn show_lent(rt: &HostRuntime, parser: &mut ExtendedParser, case: &str) -> Resul
 
 /// Makes a parser.
 pub fn show_new(rt: &HostRuntime) -> Result<(), Failure> {
-    let Ok((parser, refused)) = extended::make_parser(rt.alloc(), Protocol::Kitty) else {
+    let Ok((parser, refused)) = extended::make_parser(rt.alloc(), Dialect::Extended) else {
         return Err(Failure::Failed);
     };
     print_refused(rt, refused);
@@ -60,13 +60,13 @@ fn show_feed(rt: &HostRuntime, parser: &mut ExtendedParser) -> Result<(), Failur
 }
 
 // Prints an event, after the name of its call.
-fn print_given(rt: &HostRuntime, call: &str, event: &ExtendedEvent) {
+fn print_given(rt: &HostRuntime, call: &str, event: &Event) {
     print_word(rt, call);
     match event {
-        ExtendedEvent::Input(event) => print_event(rt, event),
-        ExtendedEvent::Key(report) => print_key(rt, report),
-        ExtendedEvent::Csi(bytes) => print_bytes(rt, "Csi(", bytes.as_slice()),
-        ExtendedEvent::Osc(bytes) => print_bytes(rt, "Osc(", bytes.as_slice()),
+        Event::Key(report) => print_key(rt, report),
+        Event::Paste(text) => print_pasted(rt, text),
+        Event::Csi(bytes) => print_bytes(rt, "Csi(", bytes.as_slice()),
+        Event::Osc(bytes) => print_bytes(rt, "Osc(", bytes.as_slice()),
         _ => print_word(rt, "another event"),
     }
 }
@@ -85,7 +85,7 @@ fn print_bytes(rt: &HostRuntime, name: &str, bytes: &[u8]) {
 }
 
 // Prints an event that a callback is given.
-fn take(rt: &HostRuntime, call: &str, event: ExtendedEvent) {
+fn take(rt: &HostRuntime, call: &str, event: Event) {
     print_given(rt, call, &event);
 }
 
@@ -109,7 +109,7 @@ fn show_next_event(rt: &HostRuntime, parser: &mut ExtendedParser) -> Result<(), 
 }
 
 // Prints an event, if there is one.
-fn print_optional(rt: &HostRuntime, call: &str, event: Option<&ExtendedEvent>) {
+fn print_optional(rt: &HostRuntime, call: &str, event: Option<&Event>) {
     if let Some(event) = event {
         print_given(rt, call, event);
     }
@@ -121,8 +121,8 @@ fn show_called_back(
     parser: &mut ExtendedParser,
     is_fed: bool,
 ) -> Result<(), Failure> {
-    let mut first = |event: ExtendedEvent| take(rt, " / first ", event);
-    let mut later = |event: ExtendedEvent| take(rt, " / later ", event);
+    let mut first = |event: Event| take(rt, " / first ", event);
+    let mut later = |event: Event| take(rt, " / later ", event);
     let stop = if is_fed {
         extended::for_each_event(parser, &mut first, &mut later).ok()
     } else {
@@ -146,7 +146,7 @@ fn show_parse_as_vec(rt: &HostRuntime, parser: &mut ExtendedParser) -> Result<()
 }
 
 // Prints the events of a call.
-fn print_events(rt: &HostRuntime, call: &str, events: &[ExtendedEvent]) {
+fn print_events(rt: &HostRuntime, call: &str, events: &[Event]) {
     for event in events {
         print_given(rt, call, event);
     }

@@ -4,7 +4,7 @@ use std::alloc::{AllocError, Global};
 use std::fmt::Display;
 use std::io::Write;
 use termwiz_base::Modifiers;
-use termwiz_input::types::{InputEvent, KeyCode, KeyEvent};
+use termwiz_input::types::{InputEvent, KeyCode, KeyEvent, PastedText};
 
 /// A line, as long as memory for it was granted. What is appended fails nowhere else.
 #[derive(Drop)]
@@ -68,6 +68,15 @@ impl Line {
     pub fn event(&mut self, event: &InputEvent) {
         let appended = push_event(&mut self.text, event);
         self.note(appended);
+    }
+
+    /// Appends a pasted text, as of an event.
+    pub fn pasted(&mut self, text: &PastedText) {
+        let bytes = text.as_str().as_bytes();
+        self.word("paste ");
+        self.number(bytes.len());
+        self.word(":");
+        self.hex(bytes);
     }
 
     /// Appends a key and its modifiers.

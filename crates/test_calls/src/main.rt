@@ -1,8 +1,8 @@
 //! Makes the calls that only a program in Rattle can make, and prints what they return. What they have to return is in
 //! `tests/test_rattle.py`.
 //!
-//! `test_calls MODE` reads commands from standard input, and prints a line for each: see [`conversation`]. MODE is `parser`, `legacy` or `kitty`
-//! for an extended parser, `map`, `buffer` or `values`. `test_calls refusals CASE..` prints a line for each case: see [`refusals`].
+//! `test_calls MODE` reads commands from standard input, and prints a line for each: see [`conversation`]. MODE is `parser`, `extended` or `termwiz`
+//! for an extended parser of that dialect, `map`, `buffer` or `values`. `test_calls refusals CASE..` prints a line for each case: see [`refusals`].
 //!
 //! The status is 0, or 3 if memory was refused elsewhere than in the call of a case, 2 if there is no such mode, command or case, and 1 if the
 //! call of a case was refused twice, or nothing could be read or printed.
@@ -36,7 +36,7 @@ use key_map::MapSession;
 use parser::ParserSession;
 use std::env;
 use std::process::ExitCode;
-use termwiz_input_extended::types::Protocol;
+use termwiz_input_extended::types::Dialect;
 use values::ValuesSession;
 
 fn main(rt: HostRuntime) -> ExitCode {
@@ -68,8 +68,8 @@ fn converse_in(rt: &HostRuntime, mode: &str) -> Result<(), Failure> {
     let alloc = rt.alloc();
     match mode {
         "parser" => converse(rt, &mut ParserSession::new(alloc)?),
-        "legacy" => converse(rt, &mut ExtendedSession::new(alloc, Protocol::Legacy)?),
-        "kitty" => converse(rt, &mut ExtendedSession::new(alloc, Protocol::Kitty)?),
+        "extended" => converse(rt, &mut ExtendedSession::new(alloc, Dialect::Extended)?),
+        "termwiz" => converse(rt, &mut ExtendedSession::new(alloc, Dialect::Termwiz)?),
         "map" => converse(rt, &mut MapSession::new(alloc)),
         "buffer" => converse(rt, &mut BufferSession::new(alloc)),
         "values" => converse(rt, &mut ValuesSession),

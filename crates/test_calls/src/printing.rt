@@ -68,7 +68,8 @@ pub fn print_event(rt: &HostRuntime, event: &InputEvent) {
     }
 }
 
-fn print_pasted(rt: &HostRuntime, text: &PastedText) {
+/// Prints a pasted text.
+pub fn print_pasted(rt: &HostRuntime, text: &PastedText) {
     print_word(rt, "Paste(");
     print_text(rt, text.as_str());
     print_word(rt, ")");

@@ -21,12 +21,13 @@ use Rattle.termwiz_laws.proofs.lemmas.key_streams.NoFlush.{means_at_once}
 use Rattle.termwiz_laws.proofs.lemmas.key_streams.OneKeyTexts.{OneKey, one_key}
 use Rattle.termwiz_laws.proofs.lemmas.key_streams.OneKeyTexts.OneKey.{itself, after_escape, broken_byte, broken_after_escape}
 use Rattle.termwiz_laws.proofs.lemmas.shared_texts.TwinKeys.{read_once, sent_means}
-use Rattle.termwiz_extended_events.specs.declared.types.ExtendedEvent.{ExtendedEvent}
-use Rattle.termwiz_extended_events.specs.declared.types.ExtendedEvent.TheVariants.{Input, Key, CursorPosition}
+use Rattle.termwiz_extended_events.specs.declared.types.Event.{Event}
+use Rattle.termwiz_extended_events.specs.declared.types.Event.TheVariants.{Key, CursorPosition}
 use Rattle.termwiz_extended_events.specs.declared.types.Reading.{Reading}
 use Rattle.termwiz_extended_events.specs.Meanings.{IsKey, IsKeyOrPosition}
 use Rattle.termwiz_extended_grammar.specs.ExtraSequences as extra
-use Rattle.termwiz_extended_grammar.specs.ExtendedGrammar.{HasItem, IsRest, Means}
+use Rattle.termwiz_extended_grammar.specs.ExtendedGrammar.{HasItem, IsRest, Means, escape_event}
+use Rattle.termwiz_extended_events.specs.PortEvents.{told}
 use Rattle.termwiz_extended_grammar.specs.ExtendedGrammar.Stands.{alt_key, lone_escape}
 use Rattle.termwiz_extended_grammar.specs.Readings.{after_events, event_in}
 use Rattle.termwiz_extended_grammar.proofs.lemmas.cuts.ExtendedCuts.{cut_independent}
@@ -106,12 +107,12 @@ module _ (text : List ℕ) (k : KeyEvent) (means : IsKeyOf text k) (other : ¬ W
   }
 
 -- a report of a key or of the cursor's position is of a key, or it isn't
-key_or_not : (e : ExtendedEvent) → IsKeyOrPosition e → IsKey e ⊎ (¬ IsKey e)
+key_or_not : (e : Event) → IsKeyOrPosition e → IsKey e ⊎ (¬ IsKey e)
 key_or_not (Key r) h = inl tt
 key_or_not (CursorPosition row column) h = inr (λ no. no)
 key_or_not e h = absurd h
 
-first_item : (reading : Reading) (text : List ℕ) (event : ExtendedEvent) → Means reading text true (event ∷ []) [] → HasItem reading text true
+first_item : (reading : Reading) (text : List ℕ) (event : Event) → Means reading text true (event ∷ []) [] → HasItem reading text true
 first_item reading text event means = (means.steps.0, event, means.steps.1)
 
 -- some item stands at such a text
@@ -128,7 +129,7 @@ item reading text k is = go (read_as reading text k true is)
         )
     behind v split report (inr position) = (
       v,
-      Input (input.Key escape),
+      escape_event,
       lone_escape v split (inl (record {
         text = v;
         event = event_in reading v;
@@ -139,27 +140,27 @@ item reading text k is = go (read_as reading text k true is)
     )
 
     go : ReadAs reading text k true → HasItem reading text true
-    go (as_key means) = first_item reading text (Input (input.Key k)) means
+    go (as_key means) = first_item reading text (told reading text (input.Key k)) means
     go (as_report report means) = first_item reading text (event_in reading text) means
     go (apart v split report) = behind v split report (key_or_not (event_in reading v) report.reports)
 
 -- two lists that join to one event
-record IsOneEvent (e event : ExtendedEvent) (E D : List ExtendedEvent) : Type 0 where
+record IsOneEvent (e event : Event) (E D : List Event) : Type 0 where
   same : e ≡ event
   first : E ≡ []
   later : D ≡ []
 
-one_event : (e event : ExtendedEvent) (E D : List ExtendedEvent) → e ∷ E ++ D ≡ event ∷ [] → IsOneEvent e event E D
+one_event : (e event : Event) (E D : List Event) → e ∷ E ++ D ≡ event ∷ [] → IsOneEvent e event E D
 one_event e event [] [] joined = record { same = cc (joined); first = refl; later = refl }
 one_event e event [] (d ∷ D) joined = cc (joined)
 one_event e event (d ∷ E) D joined = cc (joined)
 
 -- what a flush reads as one event is that event at once, where some item stands
-at_once : (reading : Reading) (text : List ℕ) (event : ExtendedEvent) → HasItem reading text true → Means reading text false (event ∷ []) []
+at_once : (reading : Reading) (text : List ℕ) (event : Event) → HasItem reading text true → Means reading text false (event ∷ []) []
     → Means reading text true (event ∷ []) []
 at_once reading text event stands means = (let it = one_meaning reading text true in go it.0 it.1 it.2)
   where
-    go : (E : List ExtendedEvent) (W : List ℕ) → Means reading text true E W → Means reading text true (event ∷ []) []
+    go : (E : List Event) (W : List ℕ) → Means reading text true E W → Means reading text true (event ∷ []) []
     go [] W rests =
         absurd (subst (λ u. IsRest reading u true) (sym rests.steps) rests.rest stands.0 stands.1 stands.2)
     go (e ∷ E) W some =
@@ -180,7 +181,7 @@ at_once reading text event stands means = (let it = one_meaning reading text tru
         (subst (λ d. Means reading text true (d ∷ []) W) is.same (subst (λ D. Means reading text true (e ∷ D) W) is.first some))
 
 -- a text of one key that doesn't wait is its event at once
-pub key_at_once : (reading : Reading) (text : List ℕ) (k : KeyEvent) (event : ExtendedEvent) → IsKeyOf text k → ¬ Waits k → IsWhole text k
+pub key_at_once : (reading : Reading) (text : List ℕ) (k : KeyEvent) (event : Event) → IsKeyOf text k → ¬ Waits k → IsWhole text k
     → Means reading text false (event ∷ []) [] → Means reading text true (event ∷ []) []
 key_at_once reading text k event key other whole means =
     at_once reading text event (item reading text k (read_at_once text k key other whole reading)) means

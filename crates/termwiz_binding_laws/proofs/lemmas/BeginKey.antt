@@ -21,11 +21,9 @@ use Rattle.termwiz_laws.proofs.lemmas.further_keys.ComputedReadings.{enc_written
 use Rattle.termwiz_laws.proofs.lemmas.further_keys.FurtherReadings.{bits}
 use Rattle.termwiz_extended_events.specs.declared.types.KeyReport.{KeyReport}
 use Rattle.termwiz_extended_events.specs.declared.types.KeyEventKind.TheVariants.{Press}
-use Rattle.termwiz_extended_events.specs.declared.types.Protocol.{Protocol}
-use Rattle.termwiz_extended_events.specs.declared.types.Protocol.TheVariants.{Legacy, Kitty}
 use Rattle.termwiz_extended_events.specs.declared.types.Reading.{Reading}
 use Rattle.termwiz_extended_events.specs.declared.types.ReportedKey.TheVariants.{Named}
-use Rattle.termwiz_extended_events.specs.declared.types.ExtendedEvent.TheVariants.{Key}
+use Rattle.termwiz_extended_events.specs.declared.types.Event.TheVariants.{Key}
 use Rattle.termwiz_extended_events.specs.KeyReports.{report_of}
 use Rattle.termwiz_extended_events.specs.Meanings.{event_of}
 use Rattle.termwiz_extended_events.proofs.Examples.{written_out as events_written_out}
@@ -33,13 +31,14 @@ use Rattle.termwiz_extended_grammar.specs.Forms.{IsForm}
 use Rattle.termwiz_extended_grammar.specs.Forms.IsForm.{control}
 use Rattle.termwiz_extended_grammar.specs.ExtraSequences.{IsFree}
 use Rattle.termwiz_extended_grammar.specs.ExtendedGrammar.{Means}
-use Rattle.termwiz_extended_grammar.specs.Readings.{is_asking}
+use Rattle.termwiz_extended_grammar.specs.Readings.{ReadsMore, is_asking}
 use Rattle.termwiz_kitty.proofs.lemmas.read_back.SequenceForms.{written, is_control}
 use Rattle.termwiz_kitty.proofs.lemmas.read_back.SequencesMean.{means_alone}
 use Rattle.termwiz_bindings.specs.declared.press.KeyPress.{KeyPress}
 use Rattle.termwiz_bindings.specs.Presses.{canonical, event_report}
 use Rattle.termwiz_binding_laws.specs.Twins.{twin, twin_in}
-use Rattle.termwiz_binding_laws.specs.EncodedPresses.{any_of_four, IsReadAsKey}
+use Rattle.termwiz_binding_laws.specs.EncodedPresses.{any_of_four}
+use Rattle.termwiz_binding_laws.proofs.lemmas.KeysRead.{IsReadAsKey}
 use Rattle.termwiz_binding_laws.proofs.lemmas.ComputedPresses.{canonical_written_out}
 
 -- what it sends
@@ -66,12 +65,10 @@ begin_read : map (λ held. canonical (begin_report held)) any_of_four ≡ map (�
 unfolding canonical_written_out
 begin_read = refl
 
-begin_twins : (protocol : Protocol) (modes : KeyCodeEncodeModes)
-    → map (λ held. canonical (event_report (twin_in protocol KeyPadBegin held modes))) any_of_four
+begin_twins : (modes : KeyCodeEncodeModes) → map (λ held. canonical (event_report (twin KeyPadBegin held modes))) any_of_four
     ≡ map (λ held. Some (begin_press held)) any_of_four
-unfolding canonical_written_out twin
-begin_twins Legacy modes = refl
-begin_twins Kitty modes = refl
+unfolding canonical_written_out twin_in
+begin_twins modes = refl
 
 -- no row is such a text
 abbrev is_no_row : ℕ → Bool
@@ -132,16 +129,16 @@ module _ (held : ℕ) (here : Contains any_of_four held) where
   event asks = same_on (λ h. event_of asks (begin_text h)) (λ h. Key (begin_report h)) any_of_four held (begin_events asks) here
 
 -- its text is read as that key, which is its twin but for SUPER
-pub begin_is_read : (reading : Reading) (held : ℕ) (modes : KeyCodeEncodeModes) (text : List ℕ) → Contains any_of_four held
-    → enc KeyPadBegin (bits held) modes ≡ Some text → IsReadAsKey reading text (twin_in reading.protocol KeyPadBegin held modes)
-begin_is_read reading held modes text here sends = (
+pub begin_is_read : (reading : Reading) (held : ℕ) (modes : KeyCodeEncodeModes) (text : List ℕ) → ReadsMore reading
+    → Contains any_of_four held → enc KeyPadBegin (bits held) modes ≡ Some text → IsReadAsKey reading text (twin KeyPadBegin held modes)
+begin_is_read reading held modes text reads here sends = (
   begin_press held,
-  same_on (λ h. canonical (event_report (twin_in reading.protocol KeyPadBegin h modes))) (λ h. Some (begin_press h)) any_of_four held
-      (begin_twins reading.protocol modes) here,
+  same_on (λ h. canonical (event_report (twin KeyPadBegin h modes))) (λ h. Some (begin_press h)) any_of_four held (begin_twins modes) here,
   (
     Key (begin_report held),
     subst (λ t. Means reading t false (Key (begin_report held) ∷ []) []) same
         (means_alone reading (begin_text held) false (Key (begin_report held)) (record {
+          reads = reads;
           is_form = form held here reading.x10_mouse;
           is_free = free held here reading;
           means = sym (event held here (is_asking reading));

@@ -1,5 +1,5 @@
 -- The presses that the texts of keys are read as, computed over lists of keys with modifiers.
-use Rattle.std.proofs.Common.{◌≡◌, ℕ, Bool, true, false, List, [], ◌∷◌, ◌++◌, map, drop, Option, Some, None, Contains, lit<, refl}
+use Rattle.std.proofs.Common.{◌≡◌, ℕ, Bool, true, false, List, [], ◌∷◌, ◌++◌, map, drop, Option, Some, None}
 use Rattle.std.specs.Prelude.{option_map, option_and_then}
 use Rattle.std.specs.Str.{chars as text_chars}
 use Rattle.termwiz_keys.specs.declared.types.KeyCode.{KeyCode}
@@ -12,9 +12,9 @@ use Rattle.termwiz_grammar.proofs.lemmas.read_back.RuleReader.{rows_for, csi_u_r
 use Rattle.termwiz_laws.proofs.lemmas.further_keys.ComputedReadings.{Held}
 use Rattle.termwiz_laws.proofs.lemmas.further_keys.WideReadings.{wide_reading, part_of}
 use Rattle.termwiz_extended_events.specs.declared.types.KeyReport.{KeyReport}
-use Rattle.termwiz_extended_events.specs.declared.types.Protocol.{Protocol}
-use Rattle.termwiz_extended_events.specs.declared.types.Protocol.TheVariants.{Legacy, Kitty}
-use Rattle.termwiz_extended_events.specs.EventKeys.{pressed_key}
+use Rattle.termwiz_extended_events.specs.declared.types.Dialect.{Dialect}
+use Rattle.termwiz_extended_events.specs.declared.types.Dialect.TheVariants.{Extended, Termwiz}
+use Rattle.termwiz_extended_events.specs.PortEvents.{pressed_key}
 use Rattle.termwiz_extended_events.specs.ReportedKeys.{functional_key}
 use Rattle.termwiz_extended_events.specs.Meanings.{event_of}
 use Rattle.termwiz_extended_grammar.specs.ExtraSequences.{with_alt}
@@ -24,12 +24,12 @@ use Rattle.termwiz_bindings.specs.MainKeys as keys
 use Rattle.termwiz_bindings.specs.Presses as rules
 use Rattle.termwiz_bindings.specs.Presses.{canonical, event_report, settled_report}
 use Rattle.termwiz_binding_laws.specs.Twins.{twin_in}
-use Rattle.termwiz_binding_laws.proofs.lemmas.EveryReading.{row_press, is_report}
+use Rattle.termwiz_binding_laws.proofs.lemmas.EveryReading.{row_press, is_report, told_by}
 
 -- the press of a report: to unfold this is to unfold every rule
 unfoldable pub canonical_written_out : KeyReport → Option KeyPress
 unfolding canonical rules.settled rules.plain_press rules.main_press rules.control_press rules.told_press rules.shown_press
-    rules.lowered_press rules.cased_press rules.typed_press rules.kitty_bits letters.has_near_capital
+    rules.lowered_press rules.cased_press rules.typed_press letters.has_near_capital
     letters.has_far_capital letters.capital_of letters.letter_of letters.is_shifted_sign letters.shown_with_shift
     keys.makes_no_press keys.main_code keys.main_of_named functional_key text_chars
 canonical_written_out = canonical
@@ -46,44 +46,40 @@ part_of_key Escape = rows_for Escape ++ coded_rows
 part_of_key Backspace = rows_for Backspace ++ coded_rows
 part_of_key key = rows_for key
 
--- the press of a key event that is there
-abbrev pub press_read : Option KeyEvent → Option KeyPress
-press_read read = option_and_then (λ k. canonical (pressed_key k)) read
+-- the press of a key event that is there, as a grammar tells it
+abbrev pub press_read : Dialect → List ℕ → Option KeyEvent → Option KeyPress
+press_read dialect text read = option_and_then (λ k. canonical (pressed_key (told_by dialect text k))) read
 
 -- that press, or another one in its place
-abbrev pub press_or : Bool → KeyPress → Option KeyEvent → Option KeyPress
-press_or true press read = option_map (λ k. press) read
-press_or false press read = press_read read
+abbrev pub press_or : Bool → KeyPress → Dialect → List ℕ → Option KeyEvent → Option KeyPress
+press_or true press dialect text read = option_map (λ k. press) read
+press_or false press dialect text read = press_read dialect text read
 
--- a protocol, and whether a question for the cursor's position is open
+-- a grammar, and whether a question for the cursor's position is open: the port knows of none
 abbrev pub Kind : Type 0
-Kind = Protocol × Bool
+Kind = Dialect × Bool
 
 abbrev pub kinds : List Kind
-kinds = (Legacy, false) ∷ (Legacy, true) ∷ (Kitty, false) ∷ (Kitty, true) ∷ []
+kinds = (Termwiz, false) ∷ (Extended, false) ∷ (Extended, true) ∷ []
 
 -- those without a question
 abbrev pub unasked : List Kind
-unasked = (Legacy, false) ∷ (Kitty, false) ∷ []
+unasked = (Termwiz, false) ∷ (Extended, false) ∷ []
 
--- both protocols
-abbrev pub protocols : List Protocol
-protocols = Legacy ∷ Kitty ∷ []
+-- those of the extended grammar
+abbrev pub asked : List Kind
+asked = (Extended, false) ∷ (Extended, true) ∷ []
 
-pub in_protocols : (protocol : Protocol) → Contains protocols protocol
-in_protocols Legacy = (0, lit< tt, refl)
-in_protocols Kitty = (1, lit< tt, refl)
+abbrev pub twin_of : Dialect → KeyCodeEncodeModes → Held → KeyEvent
+twin_of dialect modes p = twin_in dialect p.0 p.1 modes
 
-abbrev pub twin_of : Protocol → KeyCodeEncodeModes → Held → KeyEvent
-twin_of protocol modes p = twin_in protocol p.0 p.1 modes
-
-abbrev pub twin_press : Protocol → KeyCodeEncodeModes → Held → KeyPress
-twin_press protocol modes p = settled_report (event_report (twin_of protocol modes p))
+abbrev pub twin_press : Dialect → KeyCodeEncodeModes → Held → KeyPress
+twin_press dialect modes p = settled_report (event_report (twin_of dialect modes p))
 
 -- what a text may be read as: the port's key, a report, or a report after an ESC
 abbrev pub presses_of_text : Kind → List TableRow → KeyPress → Option (List ℕ) → List (Option KeyPress)
 presses_of_text kind part press (Some text) =
-    press_or (is_report kind.0 kind.1 text) press (wide_reading part text)
+    press_or (is_report kind.0 kind.1 text) press kind.0 text (wide_reading part text)
     ∷ row_press kind.0 (event_of kind.1 text) (Some press)
     ∷ row_press kind.0 (with_alt (event_of kind.1 (drop 1 text))) (Some press) ∷ []
 presses_of_text kind part press None = []

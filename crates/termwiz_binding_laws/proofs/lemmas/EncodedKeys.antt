@@ -1,7 +1,8 @@
 -- Every key is read as the press of its twin: by the key, its modifiers and the modes.
-use Rattle.std.proofs.Common.{◌≡◌, ◌≢◌, ◌∙◌, ◌⊎◌, inl, inr, ⊎_elim, ℕ, suc, ◌≤◌, ◌<◌, Bool, true, false, not, List, [], ◌∷◌, map, Option, Some, refl, sym, ap, subst, arith, Contains, lit<, ◌&&◌, ◌||◌, ◌==◌}
+use Rattle.std.proofs.Common.{◌≡◌, ◌≢◌, ◌∙◌, ◌⊎◌, inl, inr, ⊎_elim, ℕ, suc, ◌≤◌, ◌<◌, Bool, true, false, not, List, [], ◌∷◌, ◌++◌, map, Option, Some, refl, sym, ap, subst, arith, Contains, lit<, ◌&&◌, ◌||◌, ◌==◌, nat_lt}
 use Rattle.std.specs.List.{list_all}
-use Rattle.std.proofs.lemmas.Bool.{or_cases, eqb-true, eqb-false}
+use Rattle.std.specs.Fmt.{digits}
+use Rattle.std.proofs.lemmas.Bool.{or_cases, eqb-true, eqb-false, ltb-true}
 use Rattle.std.proofs.lemmas.List.Sums.{AllPass-from_list_all}
 use Rattle.std.proofs.lemmas.List.Elements.{All-contains, Contains-append_left, Contains-append_right}
 use Rattle.termwiz_keys.specs.declared.types.KeyCode.{KeyCode}
@@ -10,25 +11,30 @@ use Rattle.termwiz_keys.specs.declared.encode.KeyCodeEncodeModes.{KeyCodeEncodeM
 use Rattle.termwiz_keys.specs.Encoding.{enc, key_text, normal_key, named_key, keypad_text, keypad_number_text, keypad_letter_text}
 use Rattle.termwiz_keys.specs.Keys.{NONE, SHIFT, CTRL}
 use Rattle.termwiz_keys.specs.KeyCodes.{holds, shifted}
-use Rattle.termwiz_grammar.specs.Table.{numbers}
+use Rattle.termwiz_grammar.specs.Table.{numbers, written_out}
 use Rattle.termwiz_grammar.proofs.lemmas.lists.ListMembers.{pairs, in_map, in_pairs, same_on}
 use Rattle.termwiz_grammar.proofs.lemmas.read_back.RuleReader.{AreRows, rows_for_are}
-use Rattle.termwiz_laws.proofs.lemmas.further_keys.ComputedReadings.{mode, chars}
+use Rattle.termwiz_laws.proofs.lemmas.further_keys.ComputedReadings.{Held, enc_written_out, mode, chars}
 use Rattle.termwiz_laws.proofs.lemmas.further_keys.FurtherReadings.{bits}
 use Rattle.termwiz_laws.proofs.lemmas.further_keys.OtherKeys.{function_range}
 use Rattle.termwiz_laws.proofs.lemmas.further_keys.SingleKey.{among, among_contains}
+use Rattle.termwiz_extended_events.specs.declared.types.Reading.{Reading}
+use Rattle.termwiz_extended_events.proofs.Examples.{written_out as events_written_out}
+use Rattle.termwiz_extended_grammar.specs.Readings.{is_asking}
 use Rattle.termwiz_kitty.proofs.lemmas.PortKeys.{at_number}
-use Rattle.termwiz_binding_laws.specs.Twins.{twin_in}
-use Rattle.termwiz_binding_laws.specs.EncodedPresses.{at_first, any_of_four, IsCovered, is_newline, is_position, PressesOfEncodedKeys, PressesInEveryReading, PressesByPort}
+use Rattle.termwiz_binding_laws.specs.Twins.{edit_key, twin, twin_in}
+use Rattle.termwiz_binding_laws.specs.EncodedPresses.{HasFirstSettings, any_of_four, IsCovered, is_newline, is_position, PressesByPort}
+use Rattle.termwiz_binding_laws.specs.SentPresses.{IsSentKey}
+use Rattle.termwiz_binding_laws.proofs.lemmas.KeysRead.{IsReadAsKey, PressesOfEncodedKeys}
 use Rattle.termwiz_binding_laws.proofs.lemmas.AsciiPresses as ascii
 use Rattle.termwiz_binding_laws.proofs.lemmas.AsciiPresses.{printable}
 use Rattle.termwiz_binding_laws.proofs.lemmas.BeginKey.{begin_is_read}
-use Rattle.termwiz_binding_laws.proofs.lemmas.ComputedPresses.{kinds, unasked, AllTold, part_of_key}
+use Rattle.termwiz_binding_laws.proofs.lemmas.ComputedPresses.{canonical_written_out, kinds, unasked, asked, ToldIn, AllTold, part_of_key}
 use Rattle.termwiz_binding_laws.proofs.lemmas.ModeClasses.{InEveryClass}
 use Rattle.termwiz_binding_laws.proofs.lemmas.NamedPresses as named
 use Rattle.termwiz_binding_laws.proofs.lemmas.NamedPresses.{function_keys, functions, thirds, steady_keys, steady, cursor_keys, cursor, coded_keys, coded, enters, with_shift_or_ctrl, without_shift_and_ctrl}
-use Rattle.termwiz_binding_laws.proofs.lemmas.PortPresses.{kind_of, in_kinds, in_unasked, told_key, told_in_all, rows_of_tab, rows_of_enter, rows_of_escape, rows_of_backspace, rows_of_character}
-use Rattle.termwiz_binding_laws.proofs.lemmas.Readers.{Reader, protocol_of, is_asking_reader, IsKeyReadBy, Knows}
+use Rattle.termwiz_binding_laws.proofs.lemmas.PortPresses.{in_asked, told_in_all_of, kind_of, in_kinds, in_unasked, told_key, told_in_all, rows_of_tab, rows_of_enter, rows_of_escape, rows_of_backspace, rows_of_character}
+use Rattle.termwiz_binding_laws.proofs.lemmas.Readers.{Reader, dialect_of, is_asking_reader, IsKeyReadBy, Knows}
 use Rattle.termwiz_binding_laws.proofs.lemmas.Readers.Reader.{extended, of_port}
 use Rattle.termwiz_binding_laws.proofs.lemmas.WidePresses.{wide_is_read}
 
@@ -103,10 +109,10 @@ module _ (reader : Reader) (held : ℕ) (modes : KeyCodeEncodeModes) (text : Lis
   Sends key = enc key (bits held) modes ≡ Some text
 
   abbrev Read : KeyCode → Type 0
-  Read key = IsKeyReadBy reader text (twin_in (protocol_of reader) key held modes)
+  Read key = IsKeyReadBy reader text (twin_in (dialect_of reader) key held modes)
 
   every : Contains kinds (kind_of reader)
-  every = in_kinds (protocol_of reader) (is_asking_reader reader)
+  every = in_kinds reader
 
   steady_read : (key : KeyCode) → Contains steady_keys key → AreRows (part_of_key key) → Sends key → Read key
   steady_read key k are sends =
@@ -129,7 +135,7 @@ module _ (reader : Reader) (held : ℕ) (modes : KeyCodeEncodeModes) (text : Lis
 
       third : n ≡ 3 → is_asking_reader reader ≡ false → Read (Function n)
       third three none =
-          told_key reader unasked modes thirds (Function n) held text (in_unasked (protocol_of reader) (is_asking_reader reader) none)
+          told_key reader unasked modes thirds (Function n) held text (in_unasked reader none)
           (named.thirds_told _ _ _ _)
           (in_pairs (Function 3 ∷ []) any_of_four (Function n) held (0, lit< tt, ap (λ m. Function m) (sym three)) here)
           (rows_for_are (Function n)) sends
@@ -209,8 +215,8 @@ module _ (reader : Reader) (held : ℕ) (modes : KeyCodeEncodeModes) (text : Lis
       go (inr high) = wide_is_read reader c held modes text covered.0 high here sends known
 
   begin_read : (r : Reader) → Knows r KeyPadBegin held modes → Sends KeyPadBegin
-      → IsKeyReadBy r text (twin_in (protocol_of r) KeyPadBegin held modes)
-  begin_read (extended reading) known sends = begin_is_read reading held modes text here sends
+      → IsKeyReadBy r text (twin_in (dialect_of r) KeyPadBegin held modes)
+  begin_read (extended reading first) known sends = begin_is_read reading held modes text first.reads here sends
   begin_read of_port known sends = absurd (cc (known))
 
   by_key : (key : KeyCode) → IsCovered key → is_newline key held modes ≡ false
@@ -260,17 +266,142 @@ module _ (reader : Reader) (held : ℕ) (modes : KeyCodeEncodeModes) (text : Lis
   -- nothing is sent for any other key
   by_key key covered newline apart known sends some = absurd (some (empty_text text (enc key (bits held) modes) (cc) sends))
 
-pub presses_in_every_reading : PressesInEveryReading
-presses_in_every_reading reading key held modes text covered here newline apart sends some =
-    by_key (extended reading) held modes text here key covered newline apart tt sends some
+-- control characters but U+0008 and U+007F, which are sent as keys
+abbrev control_codes : List ℕ
+control_codes = numbers 1 7 ++ numbers 9 23
+
+abbrev controls : List Held
+controls = pairs (chars control_codes) any_of_four
+
+controls_small : list_all (λ d. nat_lt d 128) control_codes ≡ true
+unfolding numbers
+controls_small = refl
+
+controls_told : (n : Bool) → InEveryClass (λ m. ToldIn asked m controls) n
+unfolding enc_written_out written_out events_written_out canonical_written_out twin_in digits numbers
+controls_told n = record {
+  xterm_off = λ a. refl;
+  xterm_zero = λ a. refl;
+  xterm_one = λ a. refl;
+  xterm_two = λ a. refl;
+  csi_off = λ a. refl;
+  csi_zero = λ a. refl;
+  csi_one = λ a. refl;
+  csi_two = λ a. refl;
+}
+
+control_small : (c : ℕ) → Contains control_codes c → c < 128
+control_small c code =
+    let test : nat_lt c 128 ≡ true = All-contains (λ d. nat_lt d 128 ≡ true) control_codes c
+    (AllPass-from_list_all (λ d. nat_lt d 128) control_codes controls_small) code in
+    ltb-true c 128 test
+
+-- a control character that is sent as a key
+abbrev same_sent : KeyCode → KeyCode → KeyCodeEncodeModes → KeyCodeEncodeModes → Type 0
+same_sent key other modes like = map (λ h. enc key (bits h) modes) any_of_four ≡ map (λ h. enc other (bits h) like) any_of_four
+
+backspace_sent : (modes : KeyCodeEncodeModes) → same_sent (Char 8) Backspace modes modes
+unfolding enc_written_out
+backspace_sent modes = refl
+
+delete_sent : (modes : KeyCodeEncodeModes) → same_sent (Char 127) Delete modes modes
+unfolding enc_written_out
+delete_sent modes = refl
+
+-- a key of the keypad sends what its key sends where application cursor keys are off
+abbrev off_modes : KeyCodeEncodeModes → KeyCodeEncodeModes
+off_modes modes = record modes { application_cursor_keys = false }
+
+abbrev number_keys : List KeyCode
+number_keys = Numpad0 ∷ Numpad1 ∷ Numpad2 ∷ Numpad3 ∷ Numpad4 ∷ Numpad5 ∷ Numpad6 ∷ Numpad7 ∷ Numpad8 ∷ Numpad9 ∷ Decimal ∷ []
+
+numpads_sent : (modes : KeyCodeEncodeModes) → map (λ (p : Held). enc p.0 (bits p.1) modes) (pairs number_keys any_of_four)
+    ≡ map (λ (p : Held). enc (edit_key p.0) (bits p.1) (off_modes modes)) (pairs number_keys any_of_four)
+unfolding enc_written_out keypad_text keypad_letter_text keypad_number_text digits
+numpads_sent modes = refl
+
+module _ (reading : Reading) (first : HasFirstSettings reading) (held : ℕ) (modes : KeyCodeEncodeModes) (text : List ℕ)
+    (here : Contains any_of_four held) (some : text ≢ []) where
+  abbrev Spells : KeyCode → Type 0
+  Spells key = enc key (bits held) modes ≡ Some text
+
+  abbrev IsRead : KeyCode → Type 0
+  IsRead key = IsReadAsKey reading text (twin key held modes)
+
+  -- another key that sends the same
+  alike : (key other : KeyCode) (like : KeyCodeEncodeModes) → same_sent key other modes like → Spells key → enc other (bits held) like ≡ Some text
+  alike key other like same sends = sym (same_on (λ h. enc key (bits h) modes) (λ h. enc other (bits h) like) any_of_four held same here) ∙ sends
+
+  numpad_read : (key : KeyCode) → Contains number_keys key → IsCovered (edit_key key) → is_newline (edit_key key) held (off_modes modes) ≡ false
+      → is_position (edit_key key) held ≡ false → Spells key → IsReadAsKey reading text (twin (edit_key key) held (off_modes modes))
+  numpad_read key number covered newline apart sends =
+      by_key (extended reading first) held (off_modes modes) text here (edit_key key) covered newline
+      (ap (λ b. b && is_asking reading) apart) tt
+      (sym (same_on (λ (p : Held). enc p.0 (bits p.1) modes) (λ (p : Held). enc (edit_key p.0) (bits p.1) (off_modes modes))
+      (pairs number_keys any_of_four) (key, held) (numpads_sent modes) (in_pairs number_keys any_of_four key held number here)) ∙ sends) some
+
+  control_read : (c : ℕ) → Contains control_codes c → Spells (Char c) → IsRead (Char c)
+  control_read c code sends =
+      told_in_all_of (extended reading first) asked (in_asked reading first) controls modes (controls_told modes.newline_mode) (Char c) held text
+      (in_pairs (chars control_codes) any_of_four (Char c) held (in_map (λ d. Char d) control_codes c code) here)
+      (rows_of_character c (control_small c code)) sends
+
+  character_is_read : (c : ℕ) → IsSentKey (Char c) → Spells (Char c) → IsRead (Char c)
+  unfolding twin_in
+  character_is_read c sent sends = go (below_or_not 8) (below_or_not 9) (below_or_not 32) (below_or_not 127) (below_or_not 128)
+    where
+      below_or_not : (n : ℕ) → (c < n) ⊎ (n ≤ c)
+      below_or_not n = grind arith
+
+      go : (c < 8) ⊎ (8 ≤ c) → (c < 9) ⊎ (9 ≤ c) → (c < 32) ⊎ (32 ≤ c) → (c < 127) ⊎ (127 ≤ c) → (c < 128) ⊎ (128 ≤ c) → IsRead (Char c)
+      go (inl low) b d e f =
+          control_read c (Contains-append_left (numbers 1 7) (numbers 9 23) c (at_number 1 7 c (let some = sent.1 in grind arith) low)) sends
+      go (inr past) (inl eight) d e f =
+          let same : 8 ≡ c = omega arith in
+          subst (λ n. Spells (Char n) → IsRead (Char n)) same
+          (λ its. by_key (extended reading first) held modes text here Backspace tt refl refl tt
+          (alike (Char 8) Backspace modes (backspace_sent modes) its) some) sends
+      go (inr past) (inr beyond) (inl low) e f =
+          control_read c (Contains-append_right (numbers 1 7) (numbers 9 23) c (at_number 9 23 c beyond low)) sends
+      go (inr past) (inr beyond) (inr printable') (inl small) f =
+          by_key (extended reading first) held modes text here (Char c) (sent.0, printable', (λ del. omega arith)) refl refl tt sends some
+      go (inr past) (inr beyond) (inr printable') (inr high) (inl last) =
+          let same : 127 ≡ c = omega arith in
+          subst (λ n. Spells (Char n) → IsRead (Char n)) same
+          (λ its. by_key (extended reading first) held modes text here Delete tt refl refl tt
+          (alike (Char 127) Delete modes (delete_sent modes) its) some) sends
+      go (inr past) (inr beyond) (inr printable') (inr high) (inr wide) =
+          by_key (extended reading first) held modes text here (Char c) (sent.0, printable', (λ del. omega arith)) refl refl tt sends some
+
+  is_read : (key : KeyCode) → IsSentKey key → is_newline key held modes ≡ false → (is_position key held && is_asking reading) ≡ false
+      → Spells key → IsRead key
+  unfolding twin_in
+  is_read (Char c) sent newline apart sends = character_is_read c sent sends
+  is_read Numpad0 sent newline apart sends = numpad_read Numpad0 (0, lit< tt, refl) tt refl refl sends
+  is_read Numpad1 sent newline apart sends = numpad_read Numpad1 (1, lit< tt, refl) tt refl refl sends
+  is_read Numpad2 sent newline apart sends = numpad_read Numpad2 (2, lit< tt, refl) tt refl refl sends
+  is_read Numpad3 sent newline apart sends = numpad_read Numpad3 (3, lit< tt, refl) tt refl refl sends
+  is_read Numpad4 sent newline apart sends = numpad_read Numpad4 (4, lit< tt, refl) tt refl refl sends
+  is_read Numpad5 sent newline apart sends = numpad_read Numpad5 (5, lit< tt, refl) tt refl refl sends
+  is_read Numpad6 sent newline apart sends = numpad_read Numpad6 (6, lit< tt, refl) tt refl refl sends
+  is_read Numpad7 sent newline apart sends = numpad_read Numpad7 (7, lit< tt, refl) tt refl refl sends
+  is_read Numpad8 sent newline apart sends = numpad_read Numpad8 (8, lit< tt, refl) tt refl refl sends
+  is_read Numpad9 sent newline apart sends = numpad_read Numpad9 (9, lit< tt, refl) tt refl refl sends
+  is_read Decimal sent newline apart sends = numpad_read Decimal (10, lit< tt, refl) tt refl refl sends
+  is_read key sent newline apart sends = by_key (extended reading first) held modes text here key tt newline apart tt sends some
+
+pub presses_of_encoded_keys : PressesOfEncodedKeys
+presses_of_encoded_keys reading key held modes text first sent here newline apart sends some =
+    is_read reading first held modes text here some key sent newline apart sends
 
 no_question : (b : Bool) → (b && false) ≡ false
 no_question true = refl
 no_question false = refl
 
-pub presses_of_encoded_keys : PressesOfEncodedKeys
-presses_of_encoded_keys key held modes text covered here newline sends some =
-    presses_in_every_reading at_first key held modes text covered here newline (no_question (is_position key held)) sends some
+-- the keys of the other laws are among them
+pub covered_sent : (key : KeyCode) → IsCovered key → IsSentKey key
+covered_sent (Char c) covered = (covered.0, (λ zero. omega (arith, covered.1)))
+covered_sent key covered = tt
 
 pub presses_by_port : PressesByPort
 presses_by_port key held modes text covered here newline known sends some =

@@ -13,20 +13,21 @@ use Rattle.termwiz_keys.specs.declared.types.KeyCode.TheVariants.{Char, Enter, T
 use Rattle.termwiz_extended_events.specs.declared.types.KeyReport.{KeyReport}
 use Rattle.termwiz_extended_events.specs.declared.types.ReportedKey.{ReportedKey}
 use Rattle.termwiz_extended_events.specs.declared.types.ReportedKey.TheVariants.{Named, Functional}
-use Rattle.termwiz_extended_events.specs.declared.types.ExtendedEvent.{ExtendedEvent}
+use Rattle.termwiz_extended_events.specs.declared.types.Event.{Event}
 use Rattle.termwiz_extended_events.specs.declared.types.Reading.{Reading}
 use Rattle.termwiz_extended_grammar.specs.ExtendedGrammar.{Means}
 use Rattle.termwiz_kitty.specs.Telling.{is_at_most_shifted, is_bare, is_typed_text, has_control, types, types_character, sends_control}
 use Rattle.termwiz_kitty.specs.KittyTexts.{shown, typed_by, typed_text}
-use Rattle.termwiz_kitty.specs.KittyLaws.{IsKey, pressed, characters_pressed, typed_by_events, typed_events}
+use Rattle.termwiz_kitty.specs.KittyLaws.{IsKey, pressed, read_key, characters_pressed, typed_by_events, typed_events}
 use Rattle.termwiz_kitty.proofs.lemmas.typed.TypedCharacters.{chars_of_one}
 use Rattle.termwiz_kitty.proofs.lemmas.typed.TypedTexts.{IsShown, shown_is, by_itself}
 use Rattle.termwiz_bindings.specs.MainKeys as keys
 use Rattle.termwiz_bindings.specs.Presses as rules
 use Rattle.termwiz_bindings.specs.Letters.{letter_of}
 use Rattle.termwiz_bindings.specs.Presses.{canonical, is_counted_text, is_typed, is_shortcut, without_shift, character_press, typed_character, typed_press, all_but_locks}
-use Rattle.termwiz_binding_laws.specs.EncodedPresses.{press_of_event}
-use Rattle.termwiz_binding_laws.specs.KittyPresses.{takes_text, IsPressed, typed_key, typed_report, IsReadWith}
+use Rattle.termwiz_binding_laws.specs.EncodedPresses.{HasFirstSettings, press_of_event}
+use Rattle.termwiz_binding_laws.specs.KittyPresses.{takes_text, IsPressed, typed_key, typed_report}
+use Rattle.termwiz_binding_laws.proofs.lemmas.ReportsRead.{IsReadWith}
 use Rattle.termwiz_binding_laws.proofs.lemmas.KittyReports.{pressed_with, by_parts, counted_same}
 
 -- without SHIFT nothing is held but the locks
@@ -126,15 +127,19 @@ bare_of true false b e h = h
 bare_of false t b e h = h
 
 -- one event of the press that is told
-abbrev KeepsPress : KeyReport → List ExtendedEvent → Type 0
-KeepsPress r events = (event : ExtendedEvent) × (events ≡ event ∷ []) × (press_of_event event ≡ canonical (typed_report r.key r))
+abbrev KeepsPress : KeyReport → List Event → Type 0
+KeepsPress r events = (event : Event) × (events ≡ event ∷ []) × (press_of_event event ≡ canonical (typed_report r.key r))
+
+-- the byte of Backspace is that key to a parser with its first settings
+backspace_read : (reading : Reading) → HasFirstSettings reading → read_key reading Backspace ≡ Backspace
+backspace_read reading first = rw (first.reads, first.erase) refl
 
 -- a text that means such events is read with that press
-pub kept_read : (reading : Reading) (r : KeyReport) (events : List ExtendedEvent) (text : List ℕ) (more : Bool) → KeepsPress r events
+pub kept_read : (reading : Reading) (r : KeyReport) (events : List Event) (text : List ℕ) (more : Bool) → KeepsPress r events
     → Means reading text more events [] → IsReadWith reading text more (canonical (typed_report r.key r))
 kept_read reading r events text more kept means = (kept.0, subst (λ es. Means reading text more es []) kept.1 means, kept.2)
 
-module _ (r : KeyReport) (is : IsPressed r) where
+module _ (reading : Reading) (first : HasFirstSettings reading) (r : KeyReport) (is : IsPressed r) where
   -- the press of what the text tells, by its parts
   told_parts : canonical (typed_report r.key r)
       ≡ canonical (pressed_with (typed_key r.key r) (without_shift r.modifiers) None r.text)
@@ -206,7 +211,7 @@ module _ (r : KeyReport) (is : IsPressed r) where
       )
 
   by_key : (key : ReportedKey) → r.key ≡ key → types key r ≡ true → is_typed_text r.text ≡ false → r.text ≡ []
-      → (types_character key || sends_control key) ≡ true → KeepsPress r (typed_by_events key (typed_by key r))
+      → (types_character key || sends_control key) ≡ true → KeepsPress r (typed_by_events reading key (typed_by key r))
   by_key (Named (Char c)) same types' typed none e =
       of_character c same none (not-true (is_control c) (without_false (not (is_control c)) e)) (at_most_of (Named (Char c)) r refl types')
   by_key (Named Enter) same types' typed none e =
@@ -214,18 +219,19 @@ module _ (r : KeyReport) (is : IsPressed r) where
   by_key (Named Tab) same types' typed none e =
       of_control Tab same refl none refl (bare_of (is_at_most_shifted r.modifiers) (is_typed_text r.text) (is_bare r.modifiers) typed types')
   by_key (Named Backspace) same types' typed none e =
-      of_control Backspace same refl none refl (bare_of (is_at_most_shifted r.modifiers) (is_typed_text r.text) (is_bare r.modifiers) typed types')
+      subst (λ k. KeepsPress r (pressed k ∷ [])) (sym (backspace_read reading first)) (of_control Backspace same refl none refl
+      (bare_of (is_at_most_shifted r.modifiers) (is_typed_text r.text) (is_bare r.modifiers) typed types'))
   by_key (Named key) same types' typed none e = absurd (cc (e))
   by_key (Functional n) same types' typed none e = absurd (cc (e))
 
-  pub text_keeps : (text : List ℕ) → types r.key r ≡ true → text ≡ typed_text r.key r → KeepsPress r (typed_events r.key r text)
+  pub text_keeps : (text : List ℕ) → types r.key r ≡ true → text ≡ typed_text r.key r → KeepsPress r (typed_events reading r.key r text)
   text_keeps text types' is_text = go (is_typed_text r.text) refl
     where
-      go : (b : Bool) → is_typed_text r.text ≡ b → KeepsPress r (typed_events r.key r text)
+      go : (b : Bool) → is_typed_text r.text ≡ b → KeepsPress r (typed_events reading r.key r text)
       go true typed = rw typed
           (subst (λ t. KeepsPress r (characters_pressed t)) (sym (is_text ∙ typed_alone r.key r typed)) (of_text types' typed))
       go false typed = rw typed
-          (subst (λ t. KeepsPress r (typed_by_events r.key t)) (sym (is_text ∙ typed_by_itself r.key r typed))
+          (subst (λ t. KeepsPress r (typed_by_events reading r.key t)) (sym (is_text ∙ typed_by_itself r.key r typed))
           (by_key r.key refl types' typed (no_text r.text typed is.writable.no_control)
           (by_itself (is_at_most_shifted r.modifiers) (is_typed_text r.text) (types_character r.key) (sends_control r.key)
           (is_bare r.modifiers) typed types')))

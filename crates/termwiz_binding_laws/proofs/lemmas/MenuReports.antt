@@ -10,14 +10,13 @@ use Rattle.termwiz_keys.specs.declared.types.KeyCode.TheVariants.{Function}
 use Rattle.termwiz_grammar.specs.MouseReports.{IsDigit}
 use Rattle.termwiz_grammar.specs.Table.{numbers}
 use Rattle.termwiz_grammar.proofs.lemmas.lists.ListMembers.{same_on}
-use Rattle.termwiz_extended_events.specs.declared.types.ExtendedEvent.TheVariants.{Key}
+use Rattle.termwiz_extended_events.specs.declared.types.Event.TheVariants.{Key}
 use Rattle.termwiz_extended_events.specs.declared.types.KeyEventKind.TheVariants.{Press}
-use Rattle.termwiz_extended_events.specs.declared.types.Protocol.TheVariants.{Kitty}
 use Rattle.termwiz_extended_events.specs.declared.types.Reading.{Reading}
 use Rattle.termwiz_extended_events.specs.Meanings.{event_of}
 use Rattle.termwiz_extended_events.proofs.Examples.{written_out as events_written_out}
 use Rattle.termwiz_extended_grammar.specs.ExtendedGrammar.{Means}
-use Rattle.termwiz_extended_grammar.specs.Readings.{event_in, is_asking}
+use Rattle.termwiz_extended_grammar.specs.Readings.{ReadsMore, event_in, is_asking}
 use Rattle.termwiz_kitty.specs.KittyTexts.{numbered_text, manner_text}
 use Rattle.termwiz_kitty.specs.KittyLaws.{press_of}
 use Rattle.termwiz_kitty.proofs.lemmas.PortKeys.{at_number}
@@ -59,16 +58,16 @@ menu_parameters held small = (
   ),
 )
 
-pub menu_means : (reading : Reading) (held : ℕ) (more : Bool) → 8 ≤ held → held < 64 → reading.protocol ≡ Kitty
+pub menu_means : (reading : Reading) (held : ℕ) (more : Bool) → 8 ≤ held → held < 64 → ReadsMore reading
     → Means reading (numbered_text 29 held Press) more (Key (press_of (Function 16) held) ∷ []) []
-menu_means reading held more past small kitty =
+menu_means reading held more past small reads =
     let here = at_number 8 56 held past small in
     let short : nat_le (length (written (menu_body held) 126)) 256 ≡ true =
     All-contains (λ h. nat_le (length (written (menu_body h) 126)) 256 ≡ true) (numbers 8 56) held
     (AllPass-from_list_all (λ h. nat_le (length (written (menu_body h) 126)) 256) (numbers 8 56) menus_short) here in
     let event = same_on (λ h. event_in reading (written (menu_body h) 126)) (λ h. Key (press_of (Function 16) h)) (numbers 8 56) held
     (menus_read (is_asking reading)) here in
-    let extra = is_extra reading (menu_body held) 126 (Key (press_of (Function 16) held)) kitty (menu_parameters held small)
+    let extra = is_extra reading (menu_body held) 126 (Key (press_of (Function 16) held)) reads (menu_parameters held small)
     (omega arith, omega arith, (λ same. omega arith), (λ same. omega arith)) (grind (arith, nat_tests)) tt event in
     subst (λ t. Means reading t more (Key (press_of (Function 16) held) ∷ []) [])
     (sym (same_on (λ h. numbered_text 29 h Press) (λ h. written (menu_body h) 126) (numbers 8 56) held menus_written here))

@@ -10,26 +10,42 @@ use Rattle.termwiz_laws.proofs.lemmas.further_keys.AlikeModes.{Alike}
 use Rattle.termwiz_laws.proofs.lemmas.further_keys.ComputedReadings.{mode, level}
 use Rattle.termwiz_laws.proofs.lemmas.further_keys.FurtherReadings.{SameLevel, equal_levels, Levels, levels_of, with_level}
 use Rattle.termwiz_laws.proofs.lemmas.further_keys.FurtherReadings.Levels.{off, first, second, other}
-use Rattle.termwiz_extended_events.specs.declared.types.Protocol.{Protocol}
-use Rattle.termwiz_extended_events.specs.declared.types.Protocol.TheVariants.{Legacy, Kitty}
-use Rattle.termwiz_binding_laws.specs.Twins.{shown_twin, twin, twin_in}
+use Rattle.termwiz_extended_events.specs.declared.types.Dialect.{Dialect}
+use Rattle.termwiz_extended_events.specs.declared.types.Dialect.TheVariants.{Extended, Termwiz}
+use Rattle.std.specs.Prelude.{if◌then◌else◌}
+use Rattle.std.specs.Char.{is_ascii_control}
+use Rattle.termwiz_binding_laws.specs.Twins.{shown_twin, control_key_twin, twin_with_super, whole_twin, twin_in}
 
 -- modes that the encoder can't tell apart give a key the same twin
-pub twin_same : (a b : KeyCodeEncodeModes) → Alike a b → (key : KeyCode) (held : ℕ) → twin key held a ≡ twin key held b
-unfolding twin
-twin_same a b alike (Char c) held = rw (alike.csi_u, alike.is_on, alike.two) refl
-twin_same a b alike Tab held = rw alike.is_on refl
-twin_same a b alike Enter held = rw (alike.csi_u, alike.is_on) refl
-twin_same a b alike Escape held = rw (alike.csi_u, alike.is_on, alike.one) refl
-twin_same a b alike Backspace held = rw (alike.csi_u, alike.is_on, alike.one) refl
-twin_same a b alike key held = refl
+twin_same : (dialect : Dialect) (a b : KeyCodeEncodeModes) → Alike a b → (key : KeyCode) (held : ℕ)
+    → twin_with_super dialect key held a ≡ twin_with_super dialect key held b
+twin_same dialect a b alike (Char c) held = rw (alike.csi_u, alike.is_on, alike.two) refl
+twin_same dialect a b alike Tab held = rw alike.is_on refl
+twin_same dialect a b alike Enter held = rw (alike.csi_u, alike.is_on) refl
+twin_same dialect a b alike Escape held = rw (alike.csi_u, alike.is_on, alike.one) refl
+twin_same Extended a b alike Backspace held = rw (alike.csi_u, alike.is_on, alike.one) refl
+twin_same Termwiz a b alike Backspace held = rw (alike.csi_u, alike.is_on, alike.one) refl
+twin_same dialect a b alike key held = refl
 
--- under each protocol
-pub twin_in_same : (protocol : Protocol) (a b : KeyCodeEncodeModes) → Alike a b → (key : KeyCode) (held : ℕ)
-    → twin_in protocol key held a ≡ twin_in protocol key held b
-twin_in_same Legacy a b alike key held = twin_same a b alike key held
-twin_in_same Kitty a b alike Backspace held = rw (alike.csi_u, alike.is_on, alike.one) refl
-twin_in_same Kitty a b alike key held = ap₂ shown_twin alike.csi_u (twin_same a b alike key held)
+-- by each grammar
+pub twin_in_same : (dialect : Dialect) (a b : KeyCodeEncodeModes) → Alike a b → (key : KeyCode) (held : ℕ)
+    → twin_in dialect key held a ≡ twin_in dialect key held b
+unfolding twin_in
+twin_in_same Termwiz a b alike key held = twin_same Termwiz a b alike key held
+twin_in_same Extended a b alike key held = ap₂ shown_twin alike.csi_u (whole_same key)
+  where
+    of_character : (c : ℕ) (control : Bool) → (if control then control_key_twin c held a else twin_with_super Extended (Char c) held a)
+        ≡ (if control then control_key_twin c held b else twin_with_super Extended (Char c) held b)
+    of_character c true = rw (alike.csi_u, alike.is_on, alike.one) refl
+    of_character c false = twin_same Extended a b alike (Char c) held
+
+    whole_same : (k : KeyCode) → whole_twin k held a ≡ whole_twin k held b
+    whole_same (Char c) = of_character c (is_ascii_control c)
+    whole_same Tab = twin_same Extended a b alike Tab held
+    whole_same Enter = twin_same Extended a b alike Enter held
+    whole_same Escape = twin_same Extended a b alike Escape held
+    whole_same Backspace = twin_same Extended a b alike Backspace held
+    whole_same k = refl
 
 -- something holds in modes of each class, with newline mode on or off
 pub record InEveryClass (Q : KeyCodeEncodeModes → Type 0) (n : Bool) : Type 0 where

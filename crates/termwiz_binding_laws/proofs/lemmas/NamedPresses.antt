@@ -11,7 +11,7 @@ use Rattle.termwiz_grammar.proofs.lemmas.lists.ListMembers.{pairs}
 use Rattle.termwiz_laws.specs.FurtherKeys.{shift_or_ctrl}
 use Rattle.termwiz_laws.proofs.lemmas.further_keys.ComputedReadings.{mode, level, Held, enc_written_out}
 use Rattle.termwiz_extended_events.proofs.Examples.{written_out as events_written_out}
-use Rattle.termwiz_binding_laws.specs.Twins.{SUPER, twin}
+use Rattle.termwiz_binding_laws.specs.Twins.{SUPER, twin_in}
 use Rattle.termwiz_binding_laws.specs.EncodedPresses.{any_of_four}
 use Rattle.termwiz_binding_laws.proofs.lemmas.ComputedPresses.{canonical_written_out, AllTold, ToldIn, unasked}
 
@@ -23,7 +23,7 @@ abbrev pub functions : List Held
 functions = pairs function_keys any_of_four ++ pairs (Function 3 ∷ []) (NONE ∷ [])
 
 pub functions_told : (e : KeyboardEncoding) (a n : Bool) (l : Option ℤ) → AllTold (mode e a n l) functions
-unfolding enc_written_out written_out events_written_out canonical_written_out twin digits
+unfolding enc_written_out written_out events_written_out canonical_written_out twin_in digits
 functions_told e a n l = refl
 
 -- F3, whose text with a modifier is a report of the cursor's position while a question for it is open
@@ -31,7 +31,7 @@ abbrev pub thirds : List Held
 thirds = pairs (Function 3 ∷ []) any_of_four
 
 pub thirds_told : (e : KeyboardEncoding) (a n : Bool) (l : Option ℤ) → ToldIn unasked (mode e a n l) thirds
-unfolding enc_written_out written_out events_written_out canonical_written_out twin digits
+unfolding enc_written_out written_out events_written_out canonical_written_out twin_in digits
 thirds_told e a n l = refl
 
 -- keys that send the same text in all modes
@@ -44,7 +44,7 @@ abbrev pub steady : List Held
 steady = pairs steady_keys any_of_four
 
 pub steady_told : (e : KeyboardEncoding) (a n : Bool) (l : Option ℤ) → AllTold (mode e a n l) steady
-unfolding enc_written_out written_out events_written_out canonical_written_out twin digits
+unfolding enc_written_out written_out events_written_out canonical_written_out twin_in digits
 steady_told e a n l = refl
 
 -- those that application cursor keys change
@@ -55,11 +55,11 @@ abbrev pub cursor : List Held
 cursor = pairs cursor_keys any_of_four
 
 pub cursor_on_told : (e : KeyboardEncoding) (n : Bool) (l : Option ℤ) → AllTold (mode e true n l) cursor
-unfolding enc_written_out written_out events_written_out canonical_written_out twin digits
+unfolding enc_written_out written_out events_written_out canonical_written_out twin_in digits
 cursor_on_told e n l = refl
 
 pub cursor_off_told : (e : KeyboardEncoding) (n : Bool) (l : Option ℤ) → AllTold (mode e false n l) cursor
-unfolding enc_written_out written_out events_written_out canonical_written_out twin digits
+unfolding enc_written_out written_out events_written_out canonical_written_out twin_in digits
 cursor_off_told e n l = refl
 
 -- those that may be sent by their codes, in all modes
@@ -81,65 +81,65 @@ abbrev pub enters : List Held
 enters = pairs (Enter ∷ []) without_shift_and_ctrl
 
 pub enters_xterm_off : (a : Bool) → AllTold (mode Xterm a false None) enters
-unfolding enc_written_out written_out events_written_out canonical_written_out twin digits
+unfolding enc_written_out written_out events_written_out canonical_written_out twin_in digits
 enters_xterm_off a = refl
 
 pub enters_xterm_zero : (a : Bool) → AllTold (mode Xterm a false (level 0)) enters
-unfolding enc_written_out written_out events_written_out canonical_written_out twin digits
+unfolding enc_written_out written_out events_written_out canonical_written_out twin_in digits
 enters_xterm_zero a = refl
 
 pub enters_xterm_one : (a : Bool) → AllTold (mode Xterm a false (level 1)) enters
-unfolding enc_written_out written_out events_written_out canonical_written_out twin digits
+unfolding enc_written_out written_out events_written_out canonical_written_out twin_in digits
 enters_xterm_one a = refl
 
 pub enters_xterm_two : (a : Bool) → AllTold (mode Xterm a false (level 2)) enters
-unfolding enc_written_out written_out events_written_out canonical_written_out twin digits
+unfolding enc_written_out written_out events_written_out canonical_written_out twin_in digits
 enters_xterm_two a = refl
 
 pub enters_csi_off : (a : Bool) → AllTold (mode CsiU a false None) enters
-unfolding enc_written_out written_out events_written_out canonical_written_out twin digits
+unfolding enc_written_out written_out events_written_out canonical_written_out twin_in digits
 enters_csi_off a = refl
 
 pub enters_csi_zero : (a : Bool) → AllTold (mode CsiU a false (level 0)) enters
-unfolding enc_written_out written_out events_written_out canonical_written_out twin digits
+unfolding enc_written_out written_out events_written_out canonical_written_out twin_in digits
 enters_csi_zero a = refl
 
 pub enters_csi_one : (a : Bool) → AllTold (mode CsiU a false (level 1)) enters
-unfolding enc_written_out written_out events_written_out canonical_written_out twin digits
+unfolding enc_written_out written_out events_written_out canonical_written_out twin_in digits
 enters_csi_one a = refl
 
 pub enters_csi_two : (a : Bool) → AllTold (mode CsiU a false (level 2)) enters
-unfolding enc_written_out written_out events_written_out canonical_written_out twin digits
+unfolding enc_written_out written_out events_written_out canonical_written_out twin_in digits
 enters_csi_two a = refl
 
 pub coded_xterm_off : (a n : Bool) → AllTold (mode Xterm a n None) coded
-unfolding enc_written_out written_out events_written_out canonical_written_out twin digits
+unfolding enc_written_out written_out events_written_out canonical_written_out twin_in digits
 coded_xterm_off a n = refl
 
 pub coded_xterm_zero : (a n : Bool) → AllTold (mode Xterm a n (level 0)) coded
-unfolding enc_written_out written_out events_written_out canonical_written_out twin digits
+unfolding enc_written_out written_out events_written_out canonical_written_out twin_in digits
 coded_xterm_zero a n = refl
 
 pub coded_xterm_one : (a n : Bool) → AllTold (mode Xterm a n (level 1)) coded
-unfolding enc_written_out written_out events_written_out canonical_written_out twin digits
+unfolding enc_written_out written_out events_written_out canonical_written_out twin_in digits
 coded_xterm_one a n = refl
 
 pub coded_xterm_two : (a n : Bool) → AllTold (mode Xterm a n (level 2)) coded
-unfolding enc_written_out written_out events_written_out canonical_written_out twin digits
+unfolding enc_written_out written_out events_written_out canonical_written_out twin_in digits
 coded_xterm_two a n = refl
 
 pub coded_csi_off : (a n : Bool) → AllTold (mode CsiU a n None) coded
-unfolding enc_written_out written_out events_written_out canonical_written_out twin digits
+unfolding enc_written_out written_out events_written_out canonical_written_out twin_in digits
 coded_csi_off a n = refl
 
 pub coded_csi_zero : (a n : Bool) → AllTold (mode CsiU a n (level 0)) coded
-unfolding enc_written_out written_out events_written_out canonical_written_out twin digits
+unfolding enc_written_out written_out events_written_out canonical_written_out twin_in digits
 coded_csi_zero a n = refl
 
 pub coded_csi_one : (a n : Bool) → AllTold (mode CsiU a n (level 1)) coded
-unfolding enc_written_out written_out events_written_out canonical_written_out twin digits
+unfolding enc_written_out written_out events_written_out canonical_written_out twin_in digits
 coded_csi_one a n = refl
 
 pub coded_csi_two : (a n : Bool) → AllTold (mode CsiU a n (level 2)) coded
-unfolding enc_written_out written_out events_written_out canonical_written_out twin digits
+unfolding enc_written_out written_out events_written_out canonical_written_out twin_in digits
 coded_csi_two a n = refl

@@ -22,7 +22,7 @@ use Rattle.termwiz_extended_events.specs.declared.types.KeyEventKind.TheVariants
 use Rattle.termwiz_extended_events.specs.declared.types.Reading.{Reading}
 use Rattle.termwiz_extended_events.specs.declared.types.ReportedKey.{ReportedKey}
 use Rattle.termwiz_extended_events.specs.declared.types.ReportedKey.TheVariants.{Named}
-use Rattle.termwiz_extended_events.specs.declared.types.ExtendedEvent.TheVariants.{Key}
+use Rattle.termwiz_extended_events.specs.declared.types.Event.TheVariants.{Key}
 use Rattle.termwiz_extended_events.specs.Numbers.{before_end, fields, number, number_within, scalar, is_scalar}
 use Rattle.termwiz_extended_events.specs.ReportedKeys.{no_key, tilde_key}
 use Rattle.termwiz_extended_events.specs.KeyReports.{character_key, lettered_key, numbered_key, is_shifted_by, other_held, other_key, key_report}
@@ -30,7 +30,7 @@ use Rattle.termwiz_extended_events.specs.Meanings.{event_of}
 use Rattle.termwiz_extended_grammar.specs.Forms.IsForm.{control}
 use Rattle.termwiz_extended_grammar.specs.ExtraSequences.{IsFree, IsExtra}
 use Rattle.termwiz_extended_grammar.specs.ExtendedGrammar.{Means}
-use Rattle.termwiz_extended_grammar.specs.Readings.{is_asking}
+use Rattle.termwiz_extended_grammar.specs.Readings.{ReadsMore, is_asking}
 use Rattle.termwiz_kitty.proofs.lemmas.read_back.Decimals.{IsDecimal, decimal_is, number_decimal, in_word, scalar_small, scalar_decimal}
 use Rattle.termwiz_kitty.proofs.lemmas.read_back.FieldSplits.{IsFieldByte, digit_in_field, one_field, more_fields, without_last, before_end_here, before_other_end, last_byte}
 use Rattle.termwiz_kitty.proofs.lemmas.read_back.KeysOfForms.{scalar_is}
@@ -166,13 +166,14 @@ module _ (m c : ℕ) (one : 1 ≤ m) (eight : m ≤ 8) (high : 128 ≤ c) (is : 
       let few_digits : length (decimal c) ≤ 7 = length-decimal-le 7 c (lit< tt) (few_of_seven c few) (in_word c few) in
       omega (arith, length-append (decimal c) (126 ∷ []), few_digits)
 
-  extra : (reading : Reading) → IsExtra reading (written (body m c) 126) (Key report)
-  extra reading = record {
+  extra : (reading : Reading) → ReadsMore reading → IsExtra reading (written (body m c) 126) (Key report)
+  extra reading reads = record {
+    reads = reads;
     is_form = control (is_control (body m c) 126 parameters
         (omega arith, omega arith, (λ same. omega arith), (λ same. omega arith)) short);
     is_free = free reading;
     means = sym (event (is_asking reading));
   }
 
-  pub code_means : (reading : Reading) → Means reading (written (body m c) 126) false (Key report ∷ []) []
-  code_means reading = means_alone reading (written (body m c) 126) false (Key report) (extra reading)
+  pub code_means : (reading : Reading) → ReadsMore reading → Means reading (written (body m c) 126) false (Key report ∷ []) []
+  code_means reading reads = means_alone reading (written (body m c) 126) false (Key report) (extra reading reads)

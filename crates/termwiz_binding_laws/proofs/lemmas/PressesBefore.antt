@@ -1,13 +1,12 @@
 -- What is written as before Kitty's protocol is read as the press of the key, of its twin, or of what a report tells.
-use Rattle.std.proofs.Common.{Contains, ◌≡◌, ◌≢◌, ◌∙◌, ℕ, ◌<◌, Bool, true, false, not, List, [], Option, Some, None, refl, sym, ap, subst, arith, ◌&&◌, nat_le}
+use Rattle.std.proofs.Common.{Contains, ◌≡◌, ◌≢◌, ◌∙◌, ℕ, ◌<◌, Bool, true, false, not, List, [], Option, Some, None, refl, sym, ap, subst, arith, ◌&&◌}
 use Rattle.std.specs.Prelude.{is_some, if◌then◌else◌}
 use Rattle.std.proofs.lemmas.Bool.{and_parts, and_right, not-true}
 use Rattle.std.proofs.lemmas.Nat.{and_le_r}
 use Rattle.termwiz_keys.specs.KeyCodes.{holds}
 use Rattle.termwiz_keys.specs.declared.types.KeyCode.TheVariants.{Char, Tab, Backspace}
 use Rattle.termwiz_extended_events.specs.declared.types.KeyReport.{KeyReport}
-use Rattle.termwiz_extended_events.specs.declared.types.ExtendedEvent.TheVariants.{Key}
-use Rattle.termwiz_extended_events.specs.declared.types.Protocol.TheVariants.{Kitty}
+use Rattle.termwiz_extended_events.specs.declared.types.Event.TheVariants.{Key}
 use Rattle.termwiz_extended_events.specs.declared.types.Reading.{Reading}
 use Rattle.termwiz_extended_events.specs.declared.types.ReportedKey.{ReportedKey}
 use Rattle.termwiz_extended_events.specs.declared.types.ReportedKey.TheVariants.{Named, Functional}
@@ -20,7 +19,9 @@ use Rattle.termwiz_kitty.specs.KittyLaws.{typed_events}
 use Rattle.termwiz_kitty.proofs.lemmas.read_back.SequencesMean.{kitty_read_back}
 use Rattle.termwiz_kitty.proofs.lemmas.typed.TypedTexts.{typed_read_back}
 use Rattle.termwiz_bindings.specs.Presses.{canonical, without_shift}
-use Rattle.termwiz_binding_laws.specs.KittyPresses.{PressesBeforeKitty, IsPressed, IsReadWith, typed_key, typed_report, told_of, held_before, is_in_tables, press_before, is_applications, needs_kitty, presses_that_wait, BeginsLonger}
+use Rattle.termwiz_binding_laws.specs.EncodedPresses.{HasFirstSettings}
+use Rattle.termwiz_binding_laws.specs.KittyPresses.{IsPressed, typed_key, typed_report, told_of, held_before, presses_that_wait}
+use Rattle.termwiz_binding_laws.proofs.lemmas.ReportsRead.{PressesBeforeKitty, IsReadWith, is_listed_before, press_before, BeginsLongerBefore}
 use Rattle.termwiz_binding_laws.specs.LegacyTwins.{legacy_twin}
 use Rattle.termwiz_binding_laws.proofs.lemmas.KittyReports.{report_tells}
 use Rattle.termwiz_binding_laws.proofs.lemmas.KittyTyped.{kept_read, text_keeps}
@@ -59,8 +60,8 @@ typed_press_same : (key k : ReportedKey) (r : KeyReport)
 typed_press_same key k r =
     ap (λ (n : ReportedKey). canonical (record r { key = n; modifiers = without_shift r.modifiers; shifted = None })) (typed_key_same key k r)
 
-module _ (reading : Reading) (r : KeyReport) (flags : ℕ) (text : List ℕ) (more : Bool) (is : IsPressed r) (before : is_legacy flags ≡ true)
-    (kitty : needs_kitty r flags ≡ true → reading.protocol ≡ Kitty) (tables : more ≡ true → ¬ BeginsLonger r flags)
+module _ (reading : Reading) (r : KeyReport) (flags : ℕ) (text : List ℕ) (more : Bool) (first : HasFirstSettings reading) (is : IsPressed r)
+    (before : is_legacy flags ≡ true) (tables : more ≡ true → ¬ BeginsLongerBefore r flags)
     (writes : kitty_text r flags ≡ Some text) (some : text ≢ []) (within : IsWithin r flags text) where
   key_told : told_key r flags ≡ main_key r.key
   key_told = rw before refl
@@ -91,12 +92,12 @@ module _ (reading : Reading) (r : KeyReport) (flags : ℕ) (text : List ℕ) (mo
         let same : typed_text (told_key r flags) r ≡ text = cc (written) in
         let is_text : text ≡ typed_text (main_key r.key) (told r) =
         sym same ∙ ap (λ k. typed_text k r) key_told ∙ typed_text_same (main_key r.key) (main_key r.key) r in
-        let means : Means reading text more (typed_events (main_key r.key) r text) [] =
-        subst (λ k. Means reading text more (typed_events k r text) []) key_told
+        let means : Means reading text more (typed_events reading (main_key r.key) r text) [] =
+        subst (λ k. Means reading text more (typed_events reading k r text) []) key_told
         (typed_read_back reading r flags text more is.report (rw (before, is.kept, sent, types', no_control, not_all) refl) writes) in
         let press : press_before r flags ≡ canonical (typed_report (main_key r.key) r) = rw (before, types') refl in
         subst (IsReadWith reading text more) (typed_press_same (main_key r.key) (main_key r.key) r ∙ sym press)
-        (kept_read reading (told r) (typed_events (main_key r.key) r text) text more (text_keeps (told r) (told_pressed r is) text types' is_text)
+        (kept_read reading (told r) (typed_events reading (main_key r.key) r text) text more (text_keeps reading first (told r) (told_pressed r is) text types' is_text)
         means)
 
     -- what is told is a report, of this press
@@ -109,10 +110,9 @@ module _ (reading : Reading) (r : KeyReport) (flags : ℕ) (text : List ℕ) (mo
     repeated : types (main_key r.key) r ≡ false → is_press (told_kind flags r.kind) ≡ false → Read
     unfolding telling
     repeated types' press =
-        let own : press_before r flags ≡ canonical (told_of r flags) = rw (before, types', press) refl in
-        let needs : needs_kitty r flags ≡ true = rw (before, types', press) refl in (
+        let own : press_before r flags ≡ canonical (told_of r flags) = rw (before, types', press) refl in (
           Key (reported r flags),
-          kitty_read_back reading r flags text more (kitty needs) is.report
+          kitty_read_back reading r flags text more first.reads is.report
               (rw (before, is.kept, sent, types', no_control, press, not_all) refl) writes
               (within (rw (before, is.kept, sent, types', no_control, press, not_all) refl)),
           report_press ∙ sym own,
@@ -124,10 +124,9 @@ module _ (reading : Reading) (r : KeyReport) (flags : ℕ) (text : List ℕ) (mo
       unfolding telling
       without_text e =
           let none = none_is (legacy_text (main_key r.key) (held_before r) r.shifted) e in
-          let own : press_before r flags ≡ canonical (told_of r flags) = rw (before, types', press, none) refl in
-          let needs : needs_kitty r flags ≡ true = rw (before, types', press, none) refl in (
+          let own : press_before r flags ≡ canonical (told_of r flags) = rw (before, types', press, none) refl in (
             Key (reported r flags),
-            kitty_read_back reading r flags text more (kitty needs) is.report
+            kitty_read_back reading r flags text more first.reads is.report
                 (rw (before, is.kept, sent, types', no_control, press, not_all, none) refl) writes
                 (within (rw (before, is.kept, sent, types', no_control, press, not_all, none) refl)),
             report_press ∙ sym own,
@@ -142,12 +141,10 @@ module _ (reading : Reading) (r : KeyReport) (flags : ℕ) (text : List ℕ) (mo
           rw (before, is.kept, sent, types', no_control, press, not_all, found.1) refl in
           let own : press_before r flags ≡ canonical (legacy_twin (main_key r.key) (held_before r) r.shifted) =
           rw (before, types', press, found.1) refl in
-          let needs : needs_kitty r flags ≡ is_applications (main_key r.key) && nat_le 8 (held_before r) =
-          rw (before, types', press, found.1) refl in
-          let listed : is_in_tables r flags ≡ true = rw (before, types', press, found.1) refl in
+          let listed : is_listed_before r flags ≡ true = rw (before, types', press, found.1) refl in
           subst (IsReadWith reading text more) (sym own)
-          (twin_read reading r.shifted text more some (main_key r.key) (held_before r) (main_is_normal r.key is.writable.normal) small
-          is.report.shifted_is (λ told. kitty (needs ∙ told)) (same ∙ writes)
+          (twin_read reading first r.shifted text more some (main_key r.key) (held_before r) (main_is_normal r.key is.writable.normal) small
+          is.report.shifted_is (same ∙ writes)
           (λ comes waits. tables comes (listed, subst (Contains presses_that_wait) (sym own) waits)))
 
     by_kind : (t : Bool) → types (main_key r.key) r ≡ t → (p : Bool) → is_press (told_kind flags r.kind) ≡ p
@@ -166,5 +163,5 @@ module _ (reading : Reading) (r : KeyReport) (flags : ℕ) (text : List ℕ) (mo
   is_read = found (is_silent_modifier r flags) refl
 
 pub presses_before_kitty : PressesBeforeKitty
-presses_before_kitty reading r flags text more is before kitty tables writes some within =
-    is_read reading r flags text more is before kitty tables writes some within
+presses_before_kitty reading r flags text more first is before tables writes some within =
+    is_read reading r flags text more first is before tables writes some within

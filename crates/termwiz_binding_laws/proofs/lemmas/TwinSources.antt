@@ -17,19 +17,18 @@ use Rattle.termwiz_grammar.proofs.lemmas.lists.ListMembers.{pairs}
 use Rattle.termwiz_laws.proofs.lemmas.further_keys.ComputedReadings.{Held, enc_written_out}
 use Rattle.termwiz_laws.proofs.lemmas.further_keys.FurtherReadings.{bits}
 use Rattle.termwiz_laws.proofs.lemmas.further_keys.SingleKey.{among, among_contains}
-use Rattle.termwiz_extended_events.specs.declared.types.Protocol.{Protocol}
-use Rattle.termwiz_extended_events.specs.declared.types.Protocol.TheVariants.{Legacy, Kitty}
 use Rattle.termwiz_extended_events.specs.declared.types.ReportedKey.{ReportedKey}
 use Rattle.termwiz_extended_events.specs.declared.types.ReportedKey.TheVariants.{Named}
 use Rattle.termwiz_kitty.specs.LegacyTexts.{NONE, ALT, CTRL, SHIFT, CTRL_ALT, ctrl_mapped, is_text_key, legacy_text}
 use Rattle.termwiz_kitty.specs.KittyTexts.{legacy_bytes, numbered_text, manner_text}
 use Rattle.termwiz_kitty.proofs.lemmas.PortKeys.{xterm_modes}
+use Rattle.termwiz_bindings.specs.declared.press.KeyPress.{KeyPress}
 use Rattle.termwiz_bindings.specs.Presses.{canonical, uncontrolled}
-use Rattle.termwiz_binding_laws.specs.Twins.{twin, twin_in}
+use Rattle.termwiz_binding_laws.specs.Twins.{twin, port_twin, twin_in}
 use Rattle.termwiz_binding_laws.specs.EncodedPresses.{any_of_four, IsCovered, is_newline, is_position, is_unknown_to_port, press_of_key}
 use Rattle.termwiz_binding_laws.specs.LegacyTwins.{legacy_twin}
 use Rattle.termwiz_binding_laws.proofs.lemmas.ComputedPresses.{canonical_written_out}
-use Rattle.termwiz_binding_laws.proofs.lemmas.TextPresses.{is_replaced}
+use Rattle.termwiz_binding_laws.proofs.lemmas.TextPresses.{is_replaced, if_waiting}
 
 -- what a key sends
 abbrev pub text_before : ReportedKey → ℕ → Option ℕ → Option (List ℕ)
@@ -131,41 +130,41 @@ sourced p e =
 abbrev pub sent_by_port : Held → Option (List ℕ)
 sent_by_port p = enc p.0 (bits p.1) xterm_modes
 
--- the twins of the sources have the presses of the keys' twins
-abbrev pub ArePressed : List Held → Option ℕ → Protocol → Type 0
-ArePressed cases shifted protocol = map (λ p. press_of_key (twin_in protocol (source p).0 (source p).1 xterm_modes)) cases
-    ≡ map (λ p. canonical (legacy_twin (Named p.0) p.1 shifted)) cases
+-- the press of a source to the port, and that which is read of a key
+abbrev pub port_press : Held → Option KeyPress
+port_press p = press_of_key (port_twin (source p).0 (source p).1 xterm_modes)
 
-both : (P : Protocol → Type 0) → P Legacy → P Kitty → (protocol : Protocol) → P protocol
-both P legacy kitty Legacy = legacy
-both P legacy kitty Kitty = kitty
+abbrev pub read_press : Option ℕ → Held → Option KeyPress
+read_press shifted p = canonical (legacy_twin (Named p.0) p.1 shifted)
 
--- Of all these keys: their sources send what they send, and are read as their twins, none of which is that of a broken byte.
+-- Of all these keys: their sources send what they send, and their twins have the press of the keys' twins. To the port each has that press too, if
+-- it waits, and none is that of a broken byte.
 pub record AreSourced (cases : List Held) (shifted : Option ℕ) : Type 0 where
   pub sources : list_all (λ p. is_source (source p)) cases ≡ true
   pub sent : map (λ p. text_before (Named p.0) p.1 shifted) cases ≡ map (λ p. sent_by_port (source p)) cases
-  pub pressed : (protocol : Protocol) → ArePressed cases shifted protocol
-  pub unbroken : list_all (λ p. not (is_replaced (canonical (legacy_twin (Named p.0) p.1 shifted)))) cases ≡ true
+  pub pressed : map (λ p. press_of_key (twin (source p).0 (source p).1 xterm_modes)) cases ≡ map (read_press shifted) cases
+  pub waits : map (λ p. if_waiting (port_press p) (read_press shifted p)) cases ≡ map (read_press shifted) cases
+  pub unbroken : list_all (λ p. not (is_replaced (port_press p))) cases ≡ true
 
 pub controls_sourced : (shifted : Option ℕ) → AreSourced controls shifted
-unfolding enc_written_out canonical_written_out twin legacy_twin legacy_text legacy_bytes numbers
+unfolding enc_written_out canonical_written_out twin_in legacy_twin legacy_text legacy_bytes numbers
 controls_sourced shifted =
-    record { sources = refl; sent = refl; pressed = both (ArePressed controls shifted) refl refl; unbroken = refl }
+    record { sources = refl; sent = refl; pressed = refl; waits = refl; unbroken = refl }
 
 pub texts_sourced : (shifted : Option ℕ) → AreSourced texts shifted
-unfolding enc_written_out canonical_written_out twin legacy_twin legacy_text legacy_bytes numbers
+unfolding enc_written_out canonical_written_out twin_in legacy_twin legacy_text legacy_bytes numbers
 texts_sourced shifted =
-    record { sources = refl; sent = refl; pressed = both (ArePressed texts shifted) refl refl; unbroken = refl }
+    record { sources = refl; sent = refl; pressed = refl; waits = refl; unbroken = refl }
 
 pub functions_sourced : (shifted : Option ℕ) → AreSourced functions shifted
-unfolding enc_written_out canonical_written_out twin legacy_twin legacy_text legacy_bytes numbers
+unfolding enc_written_out canonical_written_out twin_in legacy_twin legacy_text legacy_bytes numbers
 functions_sourced shifted =
-    record { sources = refl; sent = refl; pressed = both (ArePressed functions shifted) refl refl; unbroken = refl }
+    record { sources = refl; sent = refl; pressed = refl; waits = refl; unbroken = refl }
 
 pub menus_sourced : (shifted : Option ℕ) → AreSourced menus shifted
-unfolding enc_written_out canonical_written_out twin legacy_twin legacy_text legacy_bytes numbered_text manner_text numbers digits
+unfolding enc_written_out canonical_written_out twin_in legacy_twin legacy_text legacy_bytes numbered_text manner_text numbers digits
 menus_sourced shifted =
-    record { sources = refl; sent = refl; pressed = both (ArePressed menus shifted) refl refl; unbroken = refl }
+    record { sources = refl; sent = refl; pressed = refl; waits = refl; unbroken = refl }
 
 -- With other modifiers the tables have no text.
 pub controls_none : (shifted : Option ℕ) → map (λ p. text_before (Named p.0) p.1 shifted) (pairs control_keys (numbers 7 57))

@@ -11,10 +11,8 @@ use Rattle.termwiz_keys.specs.declared.types.KeyCode.TheVariants.{Char, Function
 use Rattle.termwiz_grammar.specs.Table.{numbers}
 use Rattle.termwiz_grammar.proofs.lemmas.lists.ListMembers.{pairs, in_map, in_pairs, in_filter, same_on}
 use Rattle.termwiz_laws.proofs.lemmas.further_keys.ComputedReadings.{Held}
-use Rattle.termwiz_extended_events.specs.declared.types.ExtendedEvent.TheVariants.{Key}
+use Rattle.termwiz_extended_events.specs.declared.types.Event.TheVariants.{Key}
 use Rattle.termwiz_extended_events.specs.declared.types.KeyEventKind.TheVariants.{Press}
-use Rattle.termwiz_extended_events.specs.declared.types.Protocol.{Protocol}
-use Rattle.termwiz_extended_events.specs.declared.types.Protocol.TheVariants.{Legacy, Kitty}
 use Rattle.termwiz_extended_events.specs.declared.types.Reading.{Reading}
 use Rattle.termwiz_extended_events.specs.declared.types.ReportedKey.{ReportedKey}
 use Rattle.termwiz_extended_events.specs.declared.types.ReportedKey.TheVariants.{Named, Functional}
@@ -29,15 +27,14 @@ use Rattle.termwiz_kitty.proofs.lemmas.PortKeys.{xterm_modes, at_number}
 use Rattle.termwiz_kitty.proofs.lemmas.typed.TypedTexts.{IsShownOrMissing, with_shift_is}
 use Rattle.termwiz_bindings.specs.declared.press.KeyPress.{KeyPress}
 use Rattle.termwiz_bindings.specs.Presses.{canonical}
-use Rattle.termwiz_binding_laws.specs.Twins.{twin_in}
-use Rattle.termwiz_binding_laws.specs.EncodedPresses.{press_of_key}
-use Rattle.termwiz_binding_laws.specs.KittyPresses.{is_applications}
+use Rattle.termwiz_binding_laws.specs.Twins.{twin}
+use Rattle.termwiz_binding_laws.specs.EncodedPresses.{HasFirstSettings, press_of_key}
 use Rattle.termwiz_binding_laws.specs.LegacyTwins.{legacy_twin}
-use Rattle.termwiz_binding_laws.proofs.lemmas.EncodedKeys.{presses_in_every_reading, presses_by_port}
+use Rattle.termwiz_binding_laws.proofs.lemmas.EncodedKeys.{covered_sent, presses_of_encoded_keys, presses_by_port}
 use Rattle.termwiz_binding_laws.proofs.lemmas.EscapedCharacters.{escaped_read}
 use Rattle.termwiz_binding_laws.proofs.lemmas.MenuReports.{menu_means}
-use Rattle.termwiz_binding_laws.proofs.lemmas.TextPresses.{is_replaced, ReadsAs, reads_as, whole_of}
-use Rattle.termwiz_binding_laws.proofs.lemmas.TwinSources.{text_before, source, control_keys, controls, text_keys, texts, functions, menus, is_source, IsSource, sourced, sent_by_port, AreSourced, controls_sourced, texts_sourced, functions_sourced, menus_sourced, controls_none}
+use Rattle.termwiz_binding_laws.proofs.lemmas.TextPresses.{is_replaced, if_waiting, waits_alike, ReadsAs, reads_as, whole_of}
+use Rattle.termwiz_binding_laws.proofs.lemmas.TwinSources.{text_before, source, control_keys, controls, text_keys, texts, functions, menus, is_source, IsSource, sourced, sent_by_port, port_press, read_press, AreSourced, controls_sourced, texts_sourced, functions_sourced, menus_sourced, controls_none}
 
 -- what a table has a text at is a number of its rows
 some_entry : {K X : Type 0} (f : K → X) (table : List (ℕ × K)) (n : ℕ) (x : X) → option_map f (entry_at table n) ≡ Some x
@@ -50,7 +47,7 @@ some_entry f (row ∷ table) n x e = go (row.0 == n) refl (λ later. some_entry 
     go true same further = (0, omega arith, eqb-true row.0 n same)
     go false other further = (let k = further (rw other at e) in (suc k.0, omega (arith, k.1), k.2))
 
-module _ (reading : Reading) (shifted : Option ℕ) (text : List ℕ) (more : Bool) (some : text ≢ []) where
+module _ (reading : Reading) (first : HasFirstSettings reading) (shifted : Option ℕ) (text : List ℕ) (more : Bool) (some : text ≢ []) where
   -- the text is that of the key, and is read as its twin
   abbrev Sends : ReportedKey → ℕ → Type 0
   Sends key held = text_before key held shifted ≡ Some text
@@ -66,19 +63,22 @@ module _ (reading : Reading) (shifted : Option ℕ) (text : List ℕ) (more : Bo
       (AllPass-from_list_all (λ q. is_source (source q)) cases are.sources) here) in
       let sent : text_before (Named key) held shifted ≡ sent_by_port p =
       same_on (λ q. text_before (Named q.0) q.1 shifted) (λ q. sent_by_port (source q)) cases (key, held) are.sent here in
-      let pressed = λ (protocol : Protocol). same_on (λ q. press_of_key (twin_in protocol (source q).0 (source q).1 xterm_modes))
-      (λ q. canonical (legacy_twin (Named q.0) q.1 shifted)) cases (key, held) (are.pressed protocol) here in
+      let pressed = same_on (λ q. press_of_key (twin (source q).0 (source q).1 xterm_modes)) (read_press shifted) cases (key, held)
+      are.pressed here in
       let sends' : sent_by_port p ≡ Some text = sym sent ∙ sends in
-      let read = presses_in_every_reading reading p.0 p.1 xterm_modes text is.covered is.set is.newline
+      let read = presses_of_encoded_keys reading p.0 p.1 xterm_modes text first (covered_sent p.0 is.covered) is.set is.newline
       (ap (λ b. b && is_asking reading) is.apart) sends' some in
       let by_port = presses_by_port p.0 p.1 xterm_modes text is.covered is.set is.newline is.known sends' some in
       let told : Option KeyPress = canonical (legacy_twin (Named key) held shifted) in
-      let press : press_of_key by_port.2.0 ≡ told = by_port.2.2 ∙ sym by_port.1 ∙ pressed Legacy in
-      let unbroken : is_replaced told ≡ false = not-true (is_replaced told)
-      (All-contains (λ q. not (is_replaced (canonical (legacy_twin (Named q.0) q.1 shifted))) ≡ true) cases (key, held)
-      (AllPass-from_list_all (λ q. not (is_replaced (canonical (legacy_twin (Named q.0) q.1 shifted)))) cases are.unbroken) here) in
-      reads_as reading text more told by_port.2.0 (read.2.0, read.2.1, read.2.2 ∙ sym read.1 ∙ pressed reading.protocol) by_port.2.1 press
-      (whole_of text by_port.2.0 told press unbroken)
+      let its : Option KeyPress = port_press (key, held) in
+      let press : press_of_key by_port.2.0 ≡ its = by_port.2.2 ∙ sym by_port.1 in
+      let unbroken : is_replaced its ≡ false = not-true (is_replaced its)
+      (All-contains (λ q. not (is_replaced (port_press q)) ≡ true) cases (key, held)
+      (AllPass-from_list_all (λ q. not (is_replaced (port_press q))) cases are.unbroken) here) in
+      let alike = waits_alike its told
+      (same_on (λ q. if_waiting (port_press q) (read_press shifted q)) (read_press shifted) cases (key, held) are.waits here) in
+      reads_as reading text more told its by_port.2.0 (read.2.0, read.2.1, read.2.2 ∙ sym read.1 ∙ pressed) by_port.2.1 press alike
+      (whole_of text by_port.2.0 its press unbroken)
 
   control_read : (key : KeyCode) (held : ℕ) → Contains control_keys key → held < 64 → Sends (Named key) held → Read (Named key) held
   control_read key held here small sends = ⊎_elim
@@ -107,22 +107,20 @@ module _ (reading : Reading) (shifted : Option ℕ) (text : List ℕ) (more : Bo
       go false some = cc (rw some at sends)
 
   -- what Applications sends with further modifiers is read as a report
-  menu_read : (held : ℕ) → 8 ≤ held → held < 64 → reading.protocol ≡ Kitty → Sends (Named Applications) held
-      → Read (Named Applications) held
+  menu_read : (held : ℕ) → 8 ≤ held → held < 64 → Sends (Named Applications) held → Read (Named Applications) held
   unfolding legacy_text legacy_bytes legacy_twin
-  menu_read held past small kitty sends apart =
+  menu_read held past small sends apart =
       let same : numbered_text 29 held Press ≡ text = cc (sends) in (
         Key (press_of (Function 16) held),
-        subst (λ t. Means reading t more (Key (press_of (Function 16) held) ∷ []) []) same (menu_means reading held more past small kitty),
+        subst (λ t. Means reading t more (Key (press_of (Function 16) held) ∷ []) []) same (menu_means reading held more past small first.reads),
         refl,
       )
 
-  applications_read : (held : ℕ) → held < 64 → (nat_le 8 held ≡ true → reading.protocol ≡ Kitty) → Sends (Named Applications) held
-      → Read (Named Applications) held
-  applications_read held small kitty sends = go (nat_le 8 held) refl
+  applications_read : (held : ℕ) → held < 64 → Sends (Named Applications) held → Read (Named Applications) held
+  applications_read held small sends = go (nat_le 8 held) refl
     where
       go : (b : Bool) → nat_le 8 held ≡ b → Read (Named Applications) held
-      go true past = menu_read held (grind (arith, nat_tests)) small (kitty past) sends
+      go true past = menu_read held (grind (arith, nat_tests)) small sends
       go false few =
           by_source menus Applications held (menus_sourced shifted)
           (in_pairs (Applications ∷ []) (numbers 0 8) Applications held (0, lit< tt, refl)
@@ -150,7 +148,7 @@ module _ (reading : Reading) (shifted : Option ℕ) (text : List ℕ) (more : Bo
         let told : legacy_twin (Named (Char c)) SHIFT_ALT shifted ≡ press_of (Char d) ALT = rw (other, shows) refl in
         subst (λ h. Read (Named (Char c)) h) (sym both)
         (subst (λ t. ReadsAs reading t more (canonical (legacy_twin (Named (Char c)) SHIFT_ALT shifted))) same
-        (subst (λ q. ReadsAs reading (27 ∷ encode_utf8 d) more (canonical q)) (sym told) (escaped_read reading d shown more)))
+        (subst (λ q. ReadsAs reading (27 ∷ encode_utf8 d) more (canonical q)) (sym told) (escaped_read reading first d shown more)))
 
     by_bits : (a b x y : Bool) → (held == ALT) ≡ a → (held == CTRL) ≡ b → (held == CTRL_ALT) ≡ x → (held == SHIFT_ALT) ≡ y
         → Read (Named (Char c)) held
@@ -189,15 +187,15 @@ module _ (reading : Reading) (shifted : Option ℕ) (text : List ℕ) (more : Bo
       go false other = cc (rw other at sends)
 
   -- what a key sends before the protocol is read as its twin
-  pub twin_read : (key : ReportedKey) (held : ℕ) → normal_key key ≡ key → held < 64 → IsScalarOrMissing shifted
-      → (is_applications key && nat_le 8 held ≡ true → reading.protocol ≡ Kitty) → Sends key held → Read key held
+  pub twin_read : (key : ReportedKey) (held : ℕ) → normal_key key ≡ key → held < 64 → IsScalarOrMissing shifted → Sends key held
+      → Read key held
   unfolding legacy_text
-  twin_read (Named (Char c)) held normal small scalar kitty sends = character_read c held small scalar sends
-  twin_read (Named Enter) held normal small scalar kitty sends = control_read Enter held (0, lit< tt, refl) small sends
-  twin_read (Named Escape) held normal small scalar kitty sends = control_read Escape held (1, lit< tt, refl) small sends
-  twin_read (Named Backspace) held normal small scalar kitty sends = control_read Backspace held (2, lit< tt, refl) small sends
-  twin_read (Named Tab) held normal small scalar kitty sends = control_read Tab held (3, lit< tt, refl) small sends
-  twin_read (Named (Function n)) held normal small scalar kitty sends = function_read n held sends
-  twin_read (Named Applications) held normal small scalar kitty sends = applications_read held small kitty sends
-  twin_read (Named key) held normal small scalar kitty sends = cc (sends)
-  twin_read (Functional n) held normal small scalar kitty sends = absurd (no_number n held normal sends)
+  twin_read (Named (Char c)) held normal small scalar sends = character_read c held small scalar sends
+  twin_read (Named Enter) held normal small scalar sends = control_read Enter held (0, lit< tt, refl) small sends
+  twin_read (Named Escape) held normal small scalar sends = control_read Escape held (1, lit< tt, refl) small sends
+  twin_read (Named Backspace) held normal small scalar sends = control_read Backspace held (2, lit< tt, refl) small sends
+  twin_read (Named Tab) held normal small scalar sends = control_read Tab held (3, lit< tt, refl) small sends
+  twin_read (Named (Function n)) held normal small scalar sends = function_read n held sends
+  twin_read (Named Applications) held normal small scalar sends = applications_read held small sends
+  twin_read (Named key) held normal small scalar sends = cc (sends)
+  twin_read (Functional n) held normal small scalar sends = absurd (no_number n held normal sends)

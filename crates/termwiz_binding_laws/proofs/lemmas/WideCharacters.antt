@@ -13,14 +13,14 @@ use Rattle.termwiz_keys.specs.KeyCodes.{holds, shifted}
 use Rattle.termwiz_laws.proofs.lemmas.further_keys.FurtherReadings.{bits}
 use Rattle.termwiz_extended_events.specs.declared.types.ReportedKey.TheVariants.{Named}
 use Rattle.termwiz_extended_events.specs.declared.types.KeyEventKind.TheVariants.{Press}
-use Rattle.termwiz_extended_events.specs.declared.types.Protocol.{Protocol}
-use Rattle.termwiz_extended_events.specs.declared.types.Protocol.TheVariants.{Legacy, Kitty}
+use Rattle.termwiz_extended_events.specs.declared.types.Dialect.{Dialect}
+use Rattle.termwiz_extended_events.specs.declared.types.Dialect.TheVariants.{Extended, Termwiz}
 use Rattle.termwiz_extended_events.specs.KeyReports.{report_of}
 use Rattle.termwiz_bindings.specs.MainKeys as keys
 use Rattle.termwiz_bindings.specs.Presses as rules
 use Rattle.termwiz_bindings.specs.declared.press.KeyPress.{KeyPress}
 use Rattle.termwiz_bindings.specs.Presses.{canonical, character_press, cased_press, has_shift, without_shift, all_but_locks}
-use Rattle.termwiz_binding_laws.specs.Twins.{SUPER, dropping, only_alt, is_on, twin, twin_in}
+use Rattle.termwiz_binding_laws.specs.Twins.{SUPER, dropping, only_alt, is_on, twin_in}
 use Rattle.termwiz_binding_laws.proofs.lemmas.OtherCodes.{coded_report}
 
 if_same : {A : Type 0} (b : Bool) (x : A) → (if b then x else x) ≡ x
@@ -71,10 +71,10 @@ abbrev pub wide_held : Bool → Bool → ℕ → ℕ
 wide_held on control held =
     if on then (if control then dropping held SUPER else dropping (dropping held SUPER) SHIFT) else only_alt (dropping held SUPER)
 
-pub wide_twin_is : (protocol : Protocol) (c held : ℕ) (modes : KeyCodeEncodeModes) → 128 ≤ c
-    → twin_in protocol (Char c) held modes ≡ key_with (Char c) (wide_held (is_on modes) (is_control c) held)
-unfolding twin
-wide_twin_is protocol c held modes high = go protocol
+pub wide_twin_is : (dialect : Dialect) (c held : ℕ) (modes : KeyCodeEncodeModes) → 128 ≤ c
+    → twin_in dialect (Char c) held modes ≡ key_with (Char c) (wide_held (is_on modes) (is_control c) held)
+unfolding twin_in
+wide_twin_is dialect c held modes high = go dialect
   where
     wide : nat_le 128 c ≡ true
     wide = grind (arith, nat_tests)
@@ -82,9 +82,12 @@ wide_twin_is protocol c held modes high = go protocol
     no_digit : is_ascii_digit c ≡ false
     no_digit = grind (arith, nat_tests)
 
-    go : (p : Protocol) → twin_in p (Char c) held modes ≡ key_with (Char c) (wide_held (is_on modes) (is_control c) held)
-    go Legacy = rw wide refl
-    go Kitty = rw (wide, no_digit) refl
+    no_control : is_ascii_control c ≡ false
+    no_control = grind (arith, nat_tests)
+
+    go : (d : Dialect) → twin_in d (Char c) held modes ≡ key_with (Char c) (wide_held (is_on modes) (is_control c) held)
+    go Termwiz = rw wide refl
+    go Extended = rw (no_control, wide, no_digit) refl
 
 -- what it sends
 

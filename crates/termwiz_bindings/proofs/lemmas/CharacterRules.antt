@@ -1,17 +1,17 @@
 -- Each of the rules changes nothing where it was applied before, and neither do the rules 8 to 10 together.
-use Rattle.std.proofs.Common.{◌≡◌, ◌∙◌, ◌⊎◌, inl, inr, ℕ, ◌+◌, ◌<◌, Bool, true, false, ◌==◌, nat_le, nat_lt, bit_and, bit_or, refl, sym, ap, subst, arith, lit<, Option, Some, None}
+use Rattle.std.proofs.Common.{◌≡◌, ◌∙◌, ◌⊎◌, inl, inr, ℕ, ◌+◌, ◌<◌, Bool, true, false, ◌==◌, nat_le, bit_and, bit_or, refl, sym, ap, subst, arith, lit<, Option, Some, None}
 use Rattle.std.specs.Prelude.{if◌then◌else◌}
 use Rattle.std.specs.List.{AllByRecursion}
 use Rattle.std.specs.Char.{is_ascii_control}
 use Rattle.std.proofs.lemmas.Bool.Decides.{nat_tests}
 use Rattle.termwiz_keys.specs.declared.types.KeyCode.{KeyCode}
-use Rattle.termwiz_keys.specs.declared.types.KeyCode.TheVariants.{Char}
+use Rattle.termwiz_keys.specs.declared.types.KeyCode.TheVariants.{Char, Backspace}
 use Rattle.termwiz_extended_events.specs.declared.types.ReportedKey.{ReportedKey}
 use Rattle.termwiz_extended_events.specs.declared.types.ReportedKey.TheVariants.{Named}
 use Rattle.termwiz_extended_events.specs.ReportedKeys.{entry_at}
 use Rattle.termwiz_bindings.specs.declared.press.KeyPress.{KeyPress}
 use Rattle.termwiz_bindings.specs.Letters.{letter_of, shown_with_shift}
-use Rattle.termwiz_bindings.specs.Presses.{character, character_press, by_character, has_shift, with_shift, without_shift, is_strong, is_told, control_keys, uncontrolled, control_character, control_press, told_press, shown_press, lowered_character, lowered_press, cased_press, main_press}
+use Rattle.termwiz_bindings.specs.Presses.{character, character_press, by_character, has_shift, with_shift, without_shift, is_strong, is_told, control_keys, uncontrolled, key_with_control, control_character, control_press, told_press, shown_press, lowered_character, lowered_press, cased_press, main_press}
 use Rattle.termwiz_bindings.specs.MainKeys.{main_key, main_of_named, main_code, makes_no_press}
 use Rattle.termwiz_bindings.specs.PressLaws.{IsSettled}
 use Rattle.termwiz_bindings.proofs.lemmas.CasedLetters.{letter_is, not_shown, shown_plain}
@@ -47,12 +47,12 @@ IsNoCharacter n None = Unit {0}
 IsNoCharacter n (Some key) = character (Named key) ≡ None
 
 control_rows : AllByRecursion (λ (row : ℕ × KeyCode). IsNoCharacter row.0 (Some row.1)) control_keys
-control_rows = (refl, (refl, (refl, (refl, tt))))
+control_rows = (refl, (refl, (refl, tt)))
 
 control_entry : (n : ℕ) → IsNoCharacter n (entry_at control_keys n)
 control_entry n = entry_is IsNoCharacter control_keys n tt control_rows
 
--- what CTRL makes a control character of is none
+-- what CTRL makes a control character below the space of is none
 low_uncontrolled : (c : ℕ) → c < 32 → is_ascii_control (uncontrolled c) ≡ false
 low_uncontrolled c low = zero (c == 0) refl
   where
@@ -64,16 +64,6 @@ low_uncontrolled c low = zero (c == 0) refl
     zero : (b : Bool) → (c == 0) ≡ b → is_ascii_control (uncontrolled c) ≡ false
     zero true is = rw is refl
     zero false is = rw is (letter (nat_le c 26) refl is)
-
-pub uncontrolled_plain : (c : ℕ) → is_ascii_control c ≡ true → entry_at control_keys c ≡ None
-    → is_ascii_control (uncontrolled c) ≡ false
-uncontrolled_plain c control none = go (nat_lt c 32) refl
-  where
-    go : (b : Bool) → nat_lt c 32 ≡ b → is_ascii_control (uncontrolled c) ≡ false
-    go true is = low_uncontrolled c (grind (arith, nat_tests))
-    go false is =
-        let del : c ≡ 127 = grind (arith, nat_tests) in
-        cc
 
 -- a key that is a character is no control character
 abbrev pub IsPlain : ReportedKey → Type 0
@@ -88,10 +78,19 @@ plain_other : (key : ReportedKey) → character key ≡ None → IsPlain key
 plain_other key none c is = cc
 
 -- what rule 6 makes is plain
-plain_of_control : (c held : ℕ) → is_ascii_control c ≡ true → (entry : Option KeyCode) → entry_at control_keys c ≡ entry
+with_control_plain : (c : ℕ) → is_ascii_control c ≡ true → IsPlain (Named (key_with_control c))
+with_control_plain c control = go (c == 127) refl
+  where
+    go : (b : Bool) → (c == 127) ≡ b → IsPlain (Named (if b then Backspace else Char (uncontrolled c)))
+    go true is = plain_other (Named Backspace) refl
+    go false is =
+        let low : c < 32 = grind (arith, nat_tests) in
+        plain_character (uncontrolled c) (low_uncontrolled c low)
+
+plain_of_control : (c held : ℕ) → is_ascii_control c ≡ true → (entry : Option KeyCode)
     → IsNoCharacter c entry → IsPlain (control_character c held entry).key
-plain_of_control c held control None none is = plain_character (uncontrolled c) (uncontrolled_plain c control none)
-plain_of_control c held control (Some key) some is = plain_other (Named key) is
+plain_of_control c held control None is = with_control_plain c control
+plain_of_control c held control (Some key) is = plain_other (Named key) is
 
 pub control_plain : (p : KeyPress) → IsPlain (control_press p).key
 unfolding control_press
@@ -102,7 +101,7 @@ control_plain = by_key (λ p. IsPlain (control_press p).key)
     characters : (c held : ℕ) (b : Bool) → is_ascii_control c ≡ b
         → IsPlain (if is_ascii_control c then control_character c held (entry_at control_keys c)
         else character_press c held).key
-    characters c held true is = rw is (plain_of_control c held is (entry_at control_keys c) refl (control_entry c))
+    characters c held true is = rw is (plain_of_control c held is (entry_at control_keys c) (control_entry c))
     characters c held false is = rw is (plain_character c is)
 
 -- and what is plain stays
@@ -287,21 +286,26 @@ IsMainCode n (Some key) = (main_key (Named key) ≡ Named key) × (makes_no_pres
 control_main : (n : ℕ) → IsMainCode n (entry_at control_keys n)
 unfolding main_of_named main_code makes_no_press
 control_main n = entry_is IsMainCode control_keys n tt
-    ((refl, refl), ((refl, refl), ((refl, refl), ((refl, refl), tt))))
+    ((refl, refl), ((refl, refl), ((refl, refl), tt)))
 
 -- the rules on characters leave a press a main one
 abbrev KeepsMain : (KeyPress → KeyPress) → Type 0
 KeepsMain rule = (p : KeyPress) → IsMainPress p → IsMainPress (rule p)
 
 control_keeps : KeepsMain control_press
-unfolding control_press
+unfolding control_press main_of_named main_code makes_no_press
 control_keeps = by_key (λ p. IsMainPress p → IsMainPress (control_press p))
     (λ c held is. characters c held is.held (is_ascii_control c))
     (λ p none is. rw none is)
   where
+    with_control : (c held : ℕ) → IsHeld held → (b : Bool)
+        → IsMainPress (record { key = Named (if b then Backspace else Char (uncontrolled c)); held = held })
+    with_control c held is true = record { key = refl; held = is; makes = refl }
+    with_control c held is false = character_is_main (uncontrolled c) held is
+
     named : (c held : ℕ) → IsHeld held → (entry : Option KeyCode) → IsMainCode c entry
         → IsMainPress (control_character c held entry)
-    named c held is None main = character_is_main (uncontrolled c) (bit_or held 4) (more_held held 4 (lit< tt) is)
+    named c held is None main = with_control c (bit_or held 4) (more_held held 4 (lit< tt) is) (c == 127)
     named c held is (Some key) main = record { key = main.0; held = is; makes = main.1 }
 
     characters : (c held : ℕ) → IsHeld held → (b : Bool)

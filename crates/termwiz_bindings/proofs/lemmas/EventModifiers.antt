@@ -8,7 +8,8 @@ use Rattle.termwiz_extended_events.specs.declared.types.KeyEventKind.TheVariants
 use Rattle.termwiz_extended_events.specs.declared.types.ReportedKey.{ReportedKey}
 use Rattle.termwiz_extended_events.specs.declared.types.ReportedKey.TheVariants.{Named}
 use Rattle.termwiz_extended_events.specs.KeyReports.{report_of}
-use Rattle.termwiz_bindings.specs.Presses.{canonical, settled, is_shortcut, typed_press, typed_character, character_press, counted, main_press, plain_press, control_press, told_press, cased_press, all_but_locks, kitty_bits}
+use Rattle.termwiz_bindings.specs.Presses.{canonical, settled, is_shortcut, typed_press, typed_character, character_press, counted, main_press, plain_press, control_press, told_press, cased_press, all_but_locks}
+use Rattle.termwiz_extended_events.specs.PortEvents.{kitty_bits}
 use Rattle.termwiz_bindings.specs.PressLaws.{LocksChangeNothing, NoPressOfRelease, SidesChangeNothing, told_of_event}
 
 -- a release has no press
@@ -58,7 +59,6 @@ locks_change_nothing r bits same =
 
 -- each of the bits that are told is among those of an event
 told_bits : (held : ℕ) → kitty_bits held ≡ kitty_bits (bit_and held told_of_event)
-unfolding kitty_bits
 told_bits held = rw (among held 30 2 refl, among held 30 4 refl, among held 30 8 refl, among held 30 16 refl) refl
 
 pub sides_change_nothing : SidesChangeNothing

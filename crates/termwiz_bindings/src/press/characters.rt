@@ -40,7 +40,6 @@ const CONTROL_KEYS: &[(u32, KeyCode)] = &[
     (9, KeyCode::Tab),
     (13, KeyCode::Enter),
     (27, KeyCode::Escape),
-    (127, KeyCode::Backspace),
 ];
 
 // The key of a control character, if it has one.
@@ -54,19 +53,20 @@ fn control_key(c: char) -> Option<KeyCode>
         .map(|row| row.1)
 }
 
-// The character that CTRL makes this control character of.
-fn uncontrolled(c: char) -> char
+// The key that this control character is with CTRL.
+fn key_with_control(c: char) -> KeyCode
     requires { c < 128 }
-    ensures { result ≡ rules.uncontrolled c }
+    ensures { result ≡ rules.key_with_control c }
 {
     match c as u8 {
-        0 => ' ',
-        letter @ 1..=26 => char::from(96 + letter),
-        other => char::from(64 + other),
+        0 => KeyCode::Char(' '),
+        letter @ 1..=26 => KeyCode::Char(char::from(96 + letter)),
+        127 => KeyCode::Backspace,
+        other => KeyCode::Char(char::from(64 + other)),
     }
 }
 
-// A control character is its key, or CTRL with a character.
+// A control character is Tab, Enter or Escape, or another key with CTRL.
 #[tactic(auto, unfolding(crate::specs::Presses::control_press))]
 pub(super) fn control_press(press: KeyPress) -> KeyPress
     ensures { result ≡ rules.control_press press }
@@ -77,12 +77,13 @@ pub(super) fn control_press(press: KeyPress) -> KeyPress
     if !c.is_ascii_control() {
         return press;
     }
-    match control_key(c) {
-        Some(key) => KeyPress {
-            key: ReportedKey::Named(key),
-            held: press.held,
-        },
-        None => character_press(uncontrolled(c), press.held | CTRL),
+    let (key, held) = match control_key(c) {
+        Some(key) => (key, press.held),
+        None => (key_with_control(c), press.held | CTRL),
+    };
+    KeyPress {
+        key: ReportedKey::Named(key),
+        held,
     }
 }
 

@@ -3,11 +3,11 @@ use Rattle.std.proofs.Common.{◌≡◌, ◌≢◌, ℕ, ◌<◌, ◌≤◌, Boo
 use Rattle.std.specs.List.{AllByRecursion}
 use Rattle.termwiz_keymap.proofs.lemmas.lists.CommonPrefixes.{append-some, true_at_end, true_from}
 use Rattle.termwiz_grammar.specs.Sequences.{Meaning, IsSequence}
-use Rattle.termwiz_extended_events.specs.declared.types.ExtendedEvent.{ExtendedEvent}
+use Rattle.termwiz_extended_events.specs.declared.types.Event.{Event}
 use Rattle.termwiz_extended_events.specs.declared.types.Reading.{Reading}
 use Rattle.termwiz_extended_grammar.specs.ExtendedGrammar.{Means}
 use Rattle.termwiz_extended_grammar.specs.ExtraSequences.{IsFree}
-use Rattle.termwiz_extended_grammar.specs.Readings.{event_in}
+use Rattle.termwiz_extended_grammar.specs.Readings.{ReadsMore, event_in}
 use Rattle.termwiz_extended_grammar.specs.Forms.{IsInner, IsControl, most_control}
 use Rattle.termwiz_extended_grammar.specs.Forms.IsForm.{control}
 use Rattle.termwiz_extended_grammar.proofs.lemmas.forms.ExtraFacts.{free_from_none}
@@ -66,22 +66,22 @@ control_from body last a is clear short = record {
     high = all_append IsHigh body (last ∷ []) (true_from IsParameter IsHigh (λ b p. p.0) body a) (omega (arith, is.0), tt)
 
 -- such a text that is free
-pub free_means : (reading : Reading) (body : List ℕ) (last : ℕ) (e : ExtendedEvent) (more : Bool) → AllByRecursion IsParameter body → IsEnd last
+pub free_means : (reading : Reading) (body : List ℕ) (last : ℕ) (e : Event) (more : Bool) → ReadsMore reading → AllByRecursion IsParameter body → IsEnd last
     → IsClear body last → length (written body last) ≤ most_control → IsFree reading (written body last) → event_in reading (written body last) ≡ e
     → Means reading (written body last) more (e ∷ []) []
-free_means reading body last e more a is clear short free event =
+free_means reading body last e more reads a is clear short free event =
     means_alone reading (written body last) more e
-    (record { is_form = control (control_from body last a is clear short); is_free = free; means = sym event })
+    (record { reads = reads; is_form = control (control_from body last a is clear short); is_free = free; means = sym event })
 
 -- the port reads no such text
 abbrev pub IsUnknown : List ℕ → ℕ → Type 0
 IsUnknown body last = (m : Meaning) → ¬ IsSequence (written body last) m
 
-pub control_means : (reading : Reading) (body : List ℕ) (last : ℕ) (e : ExtendedEvent) (more : Bool) → AllByRecursion IsParameter body
+pub control_means : (reading : Reading) (body : List ℕ) (last : ℕ) (e : Event) (more : Bool) → ReadsMore reading → AllByRecursion IsParameter body
     → IsEnd last → IsClear body last → length (written body last) ≤ most_control → IsUnknown body last → event_in reading (written body last) ≡ e
     → Means reading (written body last) more (e ∷ []) []
-control_means reading body last e more a is clear short none event =
-    free_means reading body last e more a is clear short (free_from_none reading (written body last) none) event
+control_means reading body last e more reads a is clear short none event =
+    free_means reading body last e more reads a is clear short (free_from_none reading (written body last) none) event
 
 -- it reads none with a question mark
 pub no_mark : (body : List ℕ) (last : ℕ) → IsUnknown (63 ∷ body) last

@@ -1,7 +1,7 @@
 -- By which rule the event of a sequence is a key report.
 use Rattle.std.proofs.Common.{◌≡◌, inl, inr, ℕ, List, [], ◌∷◌, ◌++◌, length, subst, Some}
 use Rattle.termwiz_extended_events.specs.declared.types.KeyReport.{KeyReport}
-use Rattle.termwiz_extended_events.specs.declared.types.ExtendedEvent.TheVariants.{Key}
+use Rattle.termwiz_extended_events.specs.declared.types.Event.TheVariants.{Key}
 use Rattle.termwiz_extended_events.specs.KeyReports.{character_key, lettered_key, numbered_key, other_key, key_report}
 use Rattle.termwiz_event_laws.proofs.lemmas.KeyReportsWritten.{IsFromCharacter}
 use Rattle.termwiz_event_laws.proofs.lemmas.KeyReportsCharacters.{character_parts}

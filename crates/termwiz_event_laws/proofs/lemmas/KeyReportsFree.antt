@@ -1,4 +1,4 @@
--- No row of the sequence table is like a written key report, so that every reading reads it as one.
+-- No row of the sequence table is like a written key report, so that it is read as one wherever more than the port's sequences is.
 use Rattle.std.proofs.Common.{◌≡◌, ◌≢◌, ℕ, ◌+◌, ◌<◌, ◌≤◌, Bool, true, false, not, ◌&&◌, ◌||◌, List, [], ◌∷◌, ◌++◌, length, refl, sym, ap, ◌∙◌, arith, nat_lt, nat_le, Some, Contains}
 use Rattle.std.specs.Prelude.{◌==◌, if◌then◌else◌}
 use Rattle.std.specs.List.{AllByRecursion, list_all}
@@ -10,12 +10,12 @@ use Rattle.termwiz_grammar.specs.Sequences.Meaning.{Row, Report}
 use Rattle.termwiz_grammar.specs.Table.{rows, written_out}
 use Rattle.termwiz_grammar.proofs.lemmas.mouse.OneReport.{report_plain}
 use Rattle.termwiz_extended_events.specs.declared.types.KeyReport.{KeyReport}
-use Rattle.termwiz_extended_events.specs.declared.types.ExtendedEvent.TheVariants.{Key}
+use Rattle.termwiz_extended_events.specs.declared.types.Event.TheVariants.{Key}
 use Rattle.termwiz_extended_events.specs.declared.types.Reading.{Reading}
 use Rattle.termwiz_extended_events.specs.KeyReports.{key_report}
 use Rattle.termwiz_extended_grammar.specs.Forms.IsForm.{control}
 use Rattle.termwiz_extended_grammar.specs.ExtendedGrammar.{Means}
-use Rattle.termwiz_extended_grammar.specs.Readings.{is_asking}
+use Rattle.termwiz_extended_grammar.specs.Readings.{ReadsMore, is_asking}
 use Rattle.termwiz_extended_grammar.proofs.lemmas.forms.ExtraFacts.{free_from_none}
 use Rattle.termwiz_kitty.proofs.lemmas.read_back.SequenceForms.{IsParameter, IsKeyEnd, written, is_control}
 use Rattle.termwiz_kitty.proofs.lemmas.read_back.SequencesMean.{means_alone}
@@ -65,11 +65,12 @@ no_sequence body l a end odd (Row k) row = no_row (body ++ l ∷ []) k odd row
 no_sequence body l a end odd (Report r) report =
     (let plain = report_plain (written body l) r report in no_sign body l plain.0 a end (cc (plain.1)))
 
--- so it means its report under every reading
-pub odd_means : (reading : Reading) (body : List ℕ) (l : ℕ) (r : KeyReport) (more : Bool) → AllByRecursion IsParameter body → IsKeyEnd l
+-- so it means its report
+pub odd_means : (reading : Reading) (body : List ℕ) (l : ℕ) (r : KeyReport) (more : Bool) → ReadsMore reading → AllByRecursion IsParameter body → IsKeyEnd l
     → l ≢ 73 → l ≢ 79 → length (written body l) ≤ 256 → is_odd (body ++ l ∷ []) ≡ true → key_report (body ++ l ∷ []) ≡ Some r
     → Means reading (written body l) more (Key r ∷ []) []
-odd_means reading body l r more a end gained lost short odd e = means_alone reading (written body l) more (Key r) (record {
+odd_means reading body l r more reads a end gained lost short odd e = means_alone reading (written body l) more (Key r) (record {
+  reads = reads;
   is_form = control (is_control body l a end short);
   is_free = free_from_none reading (written body l) (no_sequence body l a end odd);
   means = sym (event_back (is_asking reading) body l r gained lost e);

@@ -10,7 +10,7 @@ use Rattle.termwiz_keys.specs.declared.types.KeyCode.TheVariants.{Char}
 use Rattle.termwiz_grammar.specs.MouseReports.{IsDigit}
 use Rattle.termwiz_extended_events.specs.declared.types.KeyEventKind.{KeyEventKind}
 use Rattle.termwiz_extended_events.specs.declared.types.ReportedKey.TheVariants.{Named}
-use Rattle.termwiz_extended_events.specs.declared.types.ExtendedEvent.TheVariants.{Key}
+use Rattle.termwiz_extended_events.specs.declared.types.Event.TheVariants.{Key}
 use Rattle.termwiz_extended_events.specs.declared.types.Reading.{Reading}
 use Rattle.termwiz_extended_events.specs.Numbers.{fields, number_within, is_scalar}
 use Rattle.termwiz_extended_events.specs.ReportedKeys.{is_functional, tilde_key}
@@ -25,6 +25,7 @@ use Rattle.termwiz_kitty.proofs.lemmas.read_back.WrittenReports.{carried, report
 use Rattle.termwiz_kitty.proofs.lemmas.read_back.SequenceForms.{IsParameter, written}
 use Rattle.termwiz_senders.specs.ReportTexts.{is_missing, is_plain_press, short_manner, further_fields, private_report_text}
 use Rattle.termwiz_event_laws.proofs.lemmas.KeyReportsNumbers.{below_power}
+use Rattle.termwiz_extended_grammar.specs.Readings.{ReadsMore}
 use Rattle.termwiz_event_laws.proofs.lemmas.KeyReportsFree.{has_colon, is_odd, colon_within, colon_before, colon_is_odd, fields_are_odd, long_is_odd, odd_means}
 use Rattle.termwiz_event_laws.proofs.lemmas.KeyReportsBack.{digit_bytes, short_bytes, further_left_out, further_none, further_some, character_back}
 use Rattle.termwiz_event_laws.proofs.lemmas.KeyReportsPlainBack.{field_parameters, semicolon_parameter}
@@ -75,14 +76,14 @@ full_odd own shifted base bits kind (c ∷ cs) more =
     subst (λ z. is_odd ((codes_text own shifted base ++ z) ++ 117 ∷ []) ≡ true) (sym (further_some bits kind c cs))
     (fields_are_odd (codes_text own shifted base) (short_manner bits kind) (characters_text (c ∷ cs)))
 
-pub full_means : (reading : Reading) (own : ℕ) (shifted base : Option ℕ) (bits : ℕ) (kind : KeyEventKind) (cs : List ℕ) (more : Bool)
+pub full_means : (reading : Reading) (own : ℕ) (shifted base : Option ℕ) (bits : ℕ) (kind : KeyEventKind) (cs : List ℕ) (more : Bool) → ReadsMore reading
     → is_scalar own ≡ true → IsCharacterOrMissing shifted → IsCharacterOrMissing base → bits < 256 → AreCharacters cs
     → (cs ≡ [] → (is_missing shifted && is_missing base) ≡ false)
     → length (written (codes_text own shifted base ++ further_fields bits kind cs) 117) ≤ 256
     → Means reading (written (codes_text own shifted base ++ further_fields bits kind cs) 117) more
     (Key (carried own shifted base bits kind (encode_utf8_all cs)) ∷ []) []
-full_means reading own shifted base bits kind cs more o s b h a says short =
-    odd_means reading (codes_text own shifted base ++ further_fields bits kind cs) 117 _ more
+full_means reading own shifted base bits kind cs more reads o s b h a says short =
+    odd_means reading (codes_text own shifted base ++ further_fields bits kind cs) 117 _ more reads
     (all_append IsParameter (codes_text own shifted base) (further_fields bits kind cs)
     (field_parameters (codes_text own shifted base) (codes_bytes own shifted base o s b)) (further_parameters bits kind cs h a))
     (omega arith, omega arith, (λ same. omega arith), (λ same. omega arith)) (λ same. omega arith) (λ same. omega arith) short
@@ -196,15 +197,16 @@ module _ (c bits : ℕ) (scalar : is_scalar c ≡ true) (inside : is_functional 
     five_digits c high small,
   )
 
-  private_written_means : (reading : Reading) (more : Bool) → length (written (private_body bits c) 126) ≤ 256
+  private_written_means : (reading : Reading) (more : Bool) → ReadsMore reading → length (written (private_body bits c) 126) ≤ 256
       → Means reading (written (private_body bits c) 126) more (Key (private_report c bits) ∷ []) []
-  private_written_means reading more short =
-      odd_means reading (private_body bits c) 126 (private_report c bits) more parameters
+  private_written_means reading more may short =
+      odd_means reading (private_body bits c) 126 (private_report c bits) more may parameters
       (omega arith, omega arith, (λ same. omega arith), (λ same. omega arith)) (λ same. omega arith) (λ same. omega arith) short
       (long_is_odd (private_body bits c ++ 126 ∷ []) long) reads
 
-pub private_means : (reading : Reading) (c bits : ℕ) (more : Bool) → is_scalar c ≡ true → is_functional c ≡ true → bits < 256
+pub private_means : (reading : Reading) (c bits : ℕ) (more : Bool) → ReadsMore reading → is_scalar c ≡ true → is_functional c ≡ true → bits < 256
     → length (private_report_text c bits) ≤ 256
     → Means reading (private_report_text c bits) more (Key (private_report c bits) ∷ []) []
 unfolding private_report_text
-private_means reading c bits more scalar inside h short = private_written_means c bits scalar inside h reading more short
+private_means reading c bits more may scalar inside h short =
+    private_written_means c bits scalar inside h reading more may short

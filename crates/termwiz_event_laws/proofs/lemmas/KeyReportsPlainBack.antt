@@ -11,7 +11,7 @@ use Rattle.termwiz_keys.specs.declared.types.KeyCode.{KeyCode}
 use Rattle.termwiz_extended_events.specs.declared.types.KeyEventKind.{KeyEventKind}
 use Rattle.termwiz_extended_events.specs.declared.types.ReportedKey.{ReportedKey}
 use Rattle.termwiz_extended_events.specs.declared.types.ReportedKey.TheVariants.{Named}
-use Rattle.termwiz_extended_events.specs.declared.types.ExtendedEvent.TheVariants.{Key}
+use Rattle.termwiz_extended_events.specs.declared.types.Event.TheVariants.{Key}
 use Rattle.termwiz_extended_events.specs.declared.types.Reading.{Reading}
 use Rattle.termwiz_extended_events.specs.Numbers.{fields, is_scalar}
 use Rattle.termwiz_extended_events.specs.ReportedKeys.{entry_at, lettered_keys, key_of, tilde_key}
@@ -28,6 +28,7 @@ use Rattle.termwiz_kitty.proofs.lemmas.read_back.WrittenReports.{bare, report_by
 use Rattle.termwiz_kitty.proofs.lemmas.read_back.KeysOfForms.{key_read, is_sound}
 use Rattle.termwiz_kitty.proofs.lemmas.read_back.SequenceForms.{IsParameter, written}
 use Rattle.termwiz_senders.specs.ReportTexts.{kind_number, told_manner, plain_report_text}
+use Rattle.termwiz_extended_grammar.specs.Readings.{ReadsMore}
 use Rattle.termwiz_event_laws.proofs.lemmas.KeyReportsFree.{has_colon, colon_within, colon_before, colon_after, colon_is_odd, odd_means}
 use Rattle.termwiz_event_laws.proofs.lemmas.KeyReportsBack.{digit_bytes, told_back, told_bytes, by_fields}
 use Rattle.termwiz_event_laws.proofs.lemmas.SomeOptions.{map_some}
@@ -89,11 +90,11 @@ letter_is l sound =
       no_o = grind (arith, nat_tests);
     }
 
-letter_means : (reading : Reading) (l bits : ℕ) (kind : KeyEventKind) (key : KeyCode) (more : Bool) → bits < 256 → IsLetter l
+letter_means : (reading : Reading) (l bits : ℕ) (kind : KeyEventKind) (key : KeyCode) (more : Bool) → ReadsMore reading → bits < 256 → IsLetter l
     → entry_at lettered_keys l ≡ Some key → length (written (49 ∷ 59 ∷ told_manner bits kind) l) ≤ 256
     → Means reading (written (49 ∷ 59 ∷ told_manner bits kind) l) more (Key (bare (Named key) bits kind) ∷ []) []
-letter_means reading l bits kind key more h letter e short =
-    odd_means reading (49 ∷ 59 ∷ told_manner bits kind) l (bare (Named key) bits kind) more
+letter_means reading l bits kind key more reads h letter e short =
+    odd_means reading (49 ∷ 59 ∷ told_manner bits kind) l (bare (Named key) bits kind) more reads
     ((omega arith, omega arith), ((omega arith, omega arith), told_parameters bits kind h))
     (omega (arith, letter.low), omega (arith, letter.high), letter.no_m, (λ same. omega (arith, letter.high, same)))
     letter.no_i letter.no_o short
@@ -131,11 +132,11 @@ module _ (n bits : ℕ) (kind : KeyEventKind) (small : n < 2000000) (h : bits < 
       (colon_after (decimal n ++ 59 ∷ []) (told_manner bits kind) (told_colon bits kind))
 
   -- by a number and a tilde
-  number_means : (reading : Reading) (key : ReportedKey) (more : Bool) → n ≤ 99 → tilde_key n ≡ Some key
+  number_means : (reading : Reading) (key : ReportedKey) (more : Bool) → ReadsMore reading → n ≤ 99 → tilde_key n ≡ Some key
       → length (written (decimal n ++ 59 ∷ [] ++ told_manner bits kind) 126) ≤ 256
       → Means reading (written (decimal n ++ 59 ∷ [] ++ told_manner bits kind) 126) more (Key (bare key bits kind) ∷ []) []
-  number_means reading key more low e short =
-      odd_means reading (decimal n ++ 59 ∷ [] ++ told_manner bits kind) 126 (bare key bits kind) more numbered_parameters
+  number_means reading key more reads low e short =
+      odd_means reading (decimal n ++ 59 ∷ [] ++ told_manner bits kind) 126 (bare key bits kind) more reads numbered_parameters
       (omega arith, omega arith, (λ same. omega arith), (λ same. omega arith)) (λ same. omega arith) (λ same. omega arith) short
       (colon_is_odd ((decimal n ++ 59 ∷ [] ++ told_manner bits kind) ++ 126 ∷ []) (numbered_colon 126))
       (report_by_tilde (decimal n ++ 59 ∷ [] ++ told_manner bits kind) (bare key bits kind) back)
@@ -147,11 +148,11 @@ module _ (n bits : ℕ) (kind : KeyEventKind) (small : n < 2000000) (h : bits < 
           ∙ rw (number_decimal 0 63743 n (omega arith) (omega arith) small, e, told_back bits kind h) refl
 
   -- by a number and the letter u
-  code_means : (reading : Reading) (more : Bool) → is_scalar n ≡ true
+  code_means : (reading : Reading) (more : Bool) → ReadsMore reading → is_scalar n ≡ true
       → length (written (decimal n ++ 59 ∷ [] ++ told_manner bits kind) 117) ≤ 256
       → Means reading (written (decimal n ++ 59 ∷ [] ++ told_manner bits kind) 117) more (Key (bare (key_of n) bits kind) ∷ []) []
-  code_means reading more scalar short =
-      odd_means reading (decimal n ++ 59 ∷ [] ++ told_manner bits kind) 117 (bare (key_of n) bits kind) more numbered_parameters
+  code_means reading more reads scalar short =
+      odd_means reading (decimal n ++ 59 ∷ [] ++ told_manner bits kind) 117 (bare (key_of n) bits kind) more reads numbered_parameters
       (omega arith, omega arith, (λ same. omega arith), (λ same. omega arith)) (λ same. omega arith) (λ same. omega arith) short
       (colon_is_odd ((decimal n ++ 59 ∷ [] ++ told_manner bits kind) ++ 117 ∷ []) (numbered_colon 117))
       (report_by_character ((decimal n ++ 59 ∷ [] ++ told_manner bits kind) ++ 117 ∷ []) (bare (key_of n) bits kind) back)
@@ -163,22 +164,22 @@ module _ (n bits : ℕ) (kind : KeyEventKind) (small : n < 2000000) (h : bits < 
           ∙ rw (own_back n scalar, told_back bits kind h) refl
 
 -- whatever its form
-pub plain_means : (reading : Reading) (form : KeyForm) (key : ReportedKey) (bits : ℕ) (kind : KeyEventKind) (more : Bool) → bits < 256
+pub plain_means : (reading : Reading) (form : KeyForm) (key : ReportedKey) (bits : ℕ) (kind : KeyEventKind) (more : Bool) → ReadsMore reading → bits < 256
     → key_read form ≡ Some key → is_sound form ≡ true → length (plain_report_text form bits kind) ≤ 256
     → Means reading (plain_report_text form bits kind) more (Key (bare key bits kind) ∷ []) []
 unfolding plain_report_text
-plain_means reading (Letter l) key bits kind more h read sound short =
+plain_means reading (Letter l) key bits kind more reads h read sound short =
     let letter = letter_is l sound in
     let ascii = encode_ascii l (omega (arith, letter.high)) in
     let found = map_some Named (entry_at lettered_keys l) key read in
     subst (λ k. Means reading (27 ∷ 91 ∷ 49 ∷ 59 ∷ (told_manner bits kind ++ encode_utf8 l)) more (Key (bare k bits kind) ∷ []) []) found.2
     (subst (λ t. length (27 ∷ 91 ∷ 49 ∷ 59 ∷ (told_manner bits kind ++ t)) ≤ 256
     → Means reading (27 ∷ 91 ∷ 49 ∷ 59 ∷ (told_manner bits kind ++ t)) more (Key (bare (Named found.0) bits kind) ∷ []) [])
-    (sym ascii) (letter_means reading l bits kind found.0 more h letter found.1) short)
-plain_means reading (Number n) key bits kind more h read sound short =
+    (sym ascii) (letter_means reading l bits kind found.0 more reads h letter found.1) short)
+plain_means reading (Number n) key bits kind more reads h read sound short =
     let low : n ≤ 99 = grind (arith, nat_tests) in
-    number_means n bits kind (omega (arith, low)) h reading key more low read short
-plain_means reading (Code n) key bits kind more h read sound short =
+    number_means n bits kind (omega (arith, low)) h reading key more reads low read short
+plain_means reading (Code n) key bits kind more reads h read sound short =
     let same : key_of n ≡ key = cc (read) in
     subst (λ k. Means reading (written (decimal n ++ 59 ∷ [] ++ told_manner bits kind) 117) more (Key (bare k bits kind) ∷ []) []) same
-    (code_means n bits kind (omega (arith, scalar_small n sound)) h reading more sound short)
+    (code_means n bits kind (omega (arith, scalar_small n sound)) h reading more reads sound short)

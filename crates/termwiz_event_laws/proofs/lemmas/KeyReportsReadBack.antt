@@ -12,7 +12,7 @@ use Rattle.termwiz_extended_events.specs.declared.types.KeyEventKind.{KeyEventKi
 use Rattle.termwiz_extended_events.specs.declared.types.KeyEventKind.TheVariants.{Press, Repeat, Release}
 use Rattle.termwiz_extended_events.specs.declared.types.ReportedKey.{ReportedKey}
 use Rattle.termwiz_extended_events.specs.declared.types.ReportedKey.TheVariants.{Named, Functional}
-use Rattle.termwiz_extended_events.specs.declared.types.ExtendedEvent.TheVariants.{Key}
+use Rattle.termwiz_extended_events.specs.declared.types.Event.TheVariants.{Key}
 use Rattle.termwiz_extended_events.specs.declared.types.Reading.{Reading}
 use Rattle.termwiz_extended_events.specs.ReportedKeys.{is_functional, key_of}
 use Rattle.termwiz_extended_events.specs.Numbers.{is_scalar}
@@ -26,7 +26,7 @@ use Rattle.termwiz_kitty.proofs.lemmas.read_back.WrittenFields.{IsCharacterOrMis
 use Rattle.termwiz_kitty.proofs.lemmas.read_back.WrittenReports.{built, bare}
 use Rattle.termwiz_kitty.proofs.lemmas.read_back.KeysOfForms.{Reads, form_reads, scalar_is}
 use Rattle.termwiz_kitty.proofs.lemmas.read_back.SequenceForms.{written}
-use Rattle.termwiz_senders.specs.EventTexts.{IsEventText}
+use Rattle.termwiz_extended_grammar.specs.Readings.{ReadsMore}
 use Rattle.termwiz_senders.specs.ReportTexts.{is_missing, is_empty, says_no_more, plain_report_text, further_fields, full_report_text, own_number, is_own_key, private_character, private_report_text, told_number, is_shifted_as, says_as_xterm, own_report_text, report_text_by, report_text}
 use Rattle.termwiz_event_laws.proofs.lemmas.KeyReportsWritten.{missing}
 use Rattle.termwiz_event_laws.proofs.lemmas.KeyReportsRules.{if_some, private_report}
@@ -109,7 +109,7 @@ as_xterm_is r c key says =
     same_parts (Named (Char c)) r.key r.modifiers Press r.kind (if is_shifted r.modifiers then Some c else None) r.shifted None r.base [] r.text
     (sym key) (press r.kind a.1) (shifted_is c r.modifiers r.shifted d.0) (sym (missing r.base d.1)) (empty r.text b.1)
 
-module _ (reading : Reading) (r : KeyReport) (more : Bool) (is : IsReport r) where
+module _ (reading : Reading) (r : KeyReport) (more : Bool) (may : ReadsMore reading) (is : IsReport r) where
   -- no more than the key, the modifiers and what happened
   plain_back : (form : KeyForm) → is_own_key r.key ≡ true → says_no_more r ≡ true → form_of r.key ≡ Some form
       → length (plain_report_text form r.modifiers r.kind) ≤ most_bytes
@@ -118,7 +118,7 @@ module _ (reading : Reading) (r : KeyReport) (more : Bool) (is : IsReport r) whe
       let back = subst (λ o. Reads o (normal_key r.key)) e (form_reads r.key is.key_is) in
       subst (λ q. Means reading (plain_report_text form r.modifiers r.kind) more (Key q ∷ []) [])
       (bare_is r (normal_key r.key) r.kind (own_is_normal r.key own) refl none)
-      (plain_means reading form (normal_key r.key) r.modifiers r.kind more is.fits back.read back.is_sound short)
+      (plain_means reading form (normal_key r.key) r.modifiers r.kind more may is.fits back.read back.is_sound short)
 
   -- more than that
   full_back : (own : ℕ) → is_own_key r.key ≡ true → says_no_more r ≡ false → own_number r.key ≡ Some own
@@ -133,7 +133,7 @@ module _ (reading : Reading) (r : KeyReport) (more : Bool) (is : IsReport r) whe
       more (Key q ∷ []) [])
       (same_parts (key_of (told_number r own)) r.key r.modifiers r.kind r.kind r.shifted r.shifted r.base r.base
       (encode_utf8_all (chars r.text)) r.text key refl refl refl text)
-      (full_means reading (told_number r own) r.shifted r.base r.modifiers r.kind (chars r.text) more told.1
+      (full_means reading (told_number r own) r.shifted r.base r.modifiers r.kind (chars r.text) more may told.1
       (scalar_or_missing r.shifted is.shifted_is) (scalar_or_missing r.base is.base_is) is.fits
       (characters_from (chars r.text) (scalars-chars r.text is.text_is))
       (λ none. and_more (is_missing r.shifted && is_missing r.base) r.text says (ap encode_utf8_all (sym none) ∙ text)) short)
@@ -146,7 +146,7 @@ module _ (reading : Reading) (r : KeyReport) (more : Bool) (is : IsReport r) whe
       let character : IsKey (Named (Char c)) = subst IsKey key is.key_is in
       subst (λ q. Means reading (private_report_text c r.modifiers) more (Key q ∷ []) [])
       (as_xterm_is r c key says)
-      (private_means reading c r.modifiers more (scalar_is c character) inside is.fits short)
+      (private_means reading c r.modifiers more may (scalar_is c character) inside is.fits short)
 
 private_is : (key : ReportedKey) (c : ℕ) → private_character key ≡ Some c → (key ≡ Named (Char c)) × (is_functional c ≡ true)
 unfolding private_character
@@ -160,9 +160,9 @@ text_by : (r : KeyReport) (o : Option ℕ) → private_character r.key ≡ o →
 unfolding report_text
 text_by r o e = rw e refl
 
-pub key_read_back : (reading : Reading) (r : KeyReport) (bytes : List ℕ) (more : Bool) → IsReport r → report_text r ≡ Some bytes
+pub key_read_back : (reading : Reading) (r : KeyReport) (bytes : List ℕ) (more : Bool) → ReadsMore reading → IsReport r → report_text r ≡ Some bytes
     → length bytes ≤ most_bytes → Means reading bytes more (Key r ∷ []) []
-key_read_back reading r bytes more is writes short = by_private (private_character r.key) refl
+key_read_back reading r bytes more may is writes short = by_private (private_character r.key) refl
   where
     -- what is written is these bytes
     these : (text : List ℕ) → text ≡ bytes → (length text ≤ most_bytes → Means reading text more (Key r ∷ []) [])
@@ -175,11 +175,11 @@ key_read_back reading r bytes more is writes short = by_private (private_charact
     by_says true own none e =
         let plain : option_map (λ form. plain_report_text form r.modifiers r.kind) (form_of r.key) ≡ Some bytes = rw none at e in
         let found = map_some (λ form. plain_report_text form r.modifiers r.kind) (form_of r.key) bytes plain in
-        these (plain_report_text found.0 r.modifiers r.kind) found.2 (λ fits. plain_back reading r more is found.0 own none found.1 fits)
+        these (plain_report_text found.0 r.modifiers r.kind) found.2 (λ fits. plain_back reading r more may is found.0 own none found.1 fits)
     by_says false own says e =
         let full : option_map (λ n. full_report_text (told_number r n) r) (own_number r.key) ≡ Some bytes = rw says at e in
         let found = map_some (λ n. full_report_text (told_number r n) r) (own_number r.key) bytes full in
-        these (full_report_text (told_number r found.0) r) found.2 (λ fits. full_back reading r more is found.0 own says found.1 fits)
+        these (full_report_text (told_number r found.0) r) found.2 (λ fits. full_back reading r more may is found.0 own says found.1 fits)
 
     by_private : (o : Option ℕ) → private_character r.key ≡ o → Means reading bytes more (Key r ∷ []) []
     by_private None e =
@@ -188,10 +188,4 @@ key_read_back reading r bytes more is writes short = by_private (private_charact
     by_private (Some c) e =
         let both = cond_some (says_as_xterm r c) (private_report_text c r.modifiers) bytes (text_by r (Some c) e ∙ writes) in
         let key = private_is r.key c e in
-        these (private_report_text c r.modifiers) both.1 (λ fits. private_back reading r more is c key.0 key.1 both.0 fits)
-
--- the same of the text of the event
-pub key_text_read_back : (reading : Reading) (r : KeyReport) (bytes : List ℕ) (more : Bool) → IsReport r → IsEventText reading (Key r) bytes
-    → Means reading bytes more (Key r ∷ []) []
-unfolding IsEventText
-key_text_read_back reading r bytes more is text = key_read_back reading r bytes more is text.0 text.1
+        these (private_report_text c r.modifiers) both.1 (λ fits. private_back reading r more may is c key.0 key.1 both.0 fits)

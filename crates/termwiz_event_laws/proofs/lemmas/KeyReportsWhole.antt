@@ -7,24 +7,20 @@ use Rattle.std.proofs.lemmas.Bool.Decides.{nat_tests}
 use Rattle.termwiz_grammar.specs.Sequences.{IsSequence}
 use Rattle.termwiz_grammar.proofs.lemmas.table.RowShape.{row_shaped}
 use Rattle.termwiz_extended_events.specs.declared.types.KeyReport.{KeyReport}
-use Rattle.termwiz_extended_events.specs.declared.types.ExtendedEvent.{ExtendedEvent}
-use Rattle.termwiz_extended_events.specs.declared.types.ExtendedEvent.TheVariants.{Key}
+use Rattle.termwiz_extended_events.specs.declared.types.Event.{Event}
+use Rattle.termwiz_extended_events.specs.declared.types.Event.TheVariants.{Key}
 use Rattle.termwiz_extended_events.specs.declared.types.Reading.{Reading}
 use Rattle.termwiz_extended_events.specs.ReportedKeys.{is_functional}
 use Rattle.termwiz_extended_grammar.specs.Forms.{IsForm, IsRxvtNumber, IsKeypadKey}
 use Rattle.termwiz_extended_grammar.specs.Forms.IsForm.{control, x10_report, console_key, keypad_key, modified_key, shifted_key, title}
 use Rattle.termwiz_extended_grammar.specs.ExtraSequences.{IsRow, EndsAsRxvt, IsRxvtFunction, IsLetteredKey, IsBareKey, with_alt}
-use Rattle.termwiz_extended_grammar.specs.ExtendedGrammar.{Stands}
-use Rattle.termwiz_extended_grammar.specs.ExtendedGrammar.Stands.{extra, alt_key, lone_escape, string, usual}
 use Rattle.termwiz_extended_grammar.proofs.lemmas.forms.Unfinished.{one_last}
-use Rattle.termwiz_kitty.specs.KittyTexts.{most_bytes}
 use Rattle.termwiz_kitty.specs.Telling.{is_shifted}
-use Rattle.termwiz_senders.specs.ReportTexts.{private_character, private_report_text, is_shifted_as, says_as_xterm, report_text}
-use Rattle.termwiz_senders.specs.EventTexts.{IsRefused, IsEventText}
-use Rattle.termwiz_event_laws.specs.EventLaws.{Emits}
-use Rattle.termwiz_event_laws.proofs.lemmas.Origins.{FromForm, extra_event, IsOfString, comes_of_string}
+use Rattle.termwiz_senders.specs.ReportTexts.{says_no_more, private_character, private_report_text, is_shifted_as, says_as_xterm, report_text}
+use Rattle.termwiz_event_laws.proofs.lemmas.Origins.{FromForm}
 use Rattle.termwiz_event_laws.proofs.lemmas.KeyReportsNumbers.{at_most_seven}
-use Rattle.termwiz_event_laws.proofs.lemmas.KeyReportsWritten.{IsWritten, plain_written, from_character_written, with_modifiers_written}
+use Rattle.termwiz_event_laws.proofs.lemmas.KeyReportsWritten.{IsFromCharacter, IsWritten, plain_written, from_character_written, with_modifiers_written}
+use Rattle.termwiz_event_laws.proofs.lemmas.KeyReportsKeys.{is_plain_key, key_is}
 use Rattle.termwiz_event_laws.proofs.lemmas.KeyReportsRules.{IsPlain, private_report, IsPrivate}
 use Rattle.termwiz_event_laws.proofs.lemmas.KeyReportsEvents.{IsReportOf, event_told}
 use Rattle.termwiz_event_laws.proofs.lemmas.KeyReportsEvents.Told.{plain, private, shifted, typed}
@@ -84,7 +80,7 @@ typed_long : (text t body : List ℕ) → text ≡ 27 ∷ 91 ∷ t → t ≡ bod
 typed_long text t body e f = omega (arith, ap length e, ap length f, length-append body (117 ∷ []))
 
 -- the event of an extra sequence
-extra_written : {x10_mouse : Bool} (text : List ℕ) (r : KeyReport) → IsForm x10_mouse text → FromForm text (Key r) → IsWritten r
+pub extra_written : {x10_mouse : Bool} (text : List ℕ) (r : KeyReport) → IsForm x10_mouse text → FromForm text (Key r) → IsWritten r
 extra_written text r form told = go (event_told text r told)
   where
     go : IsReportOf text r → IsWritten r
@@ -111,7 +107,8 @@ bare_short reading text t body bare e f = go bare.layout
     lettered (inl (begins, (front, ends))) =
         absurd (let same : 90 ≡ 117 = (one_last front (27 ∷ 91 ∷ body) 90 117 (sym ends ∙ whole)).1 in omega arith)
     lettered (inr (inl (digit, letter, ends, digit_is, letter_is))) = omega (arith, ap length ends)
-    lettered (inr (inr ends)) = omega (arith, ap length ends)
+    lettered (inr (inr (inl ends))) = omega (arith, ap length ends)
+    lettered (inr (inr (inr ends))) = omega (arith, ap length ends)
 
     go : IsRow text ⊎ (IsKeypadKey text ⊎ (EndsAsRxvt text ⊎ (IsRxvtFunction text ⊎ IsLetteredKey text))) → length text < 12
     go (inl row) = row_short text row
@@ -122,7 +119,7 @@ bare_short reading text t body bare e f = go bare.layout
     go (inr (inr (inr (inr key)))) = lettered key
 
 -- the same report with ALT
-abbrev alt_report : KeyReport → KeyReport
+abbrev pub alt_report : KeyReport → KeyReport
 alt_report r = record r { modifiers = bit_or r.modifiers 2 }
 
 alt_fits : (bits : ℕ) → bits < 256 → bit_or bits 2 < 256
@@ -156,26 +153,31 @@ bare_written reading text r bare told = go (event_told text r told)
     go (bracketed t same (typed body ends from)) = with_modifiers_written (length body) r (bit_or r.modifiers 2)
         (omega (arith, typed_long text t body same ends, bare_short reading text t body bare same ends)) (alt_fits r.modifiers from.fits) from
 
-alt_written : (reading : Reading) (text : List ℕ) (event : ExtendedEvent) (r : KeyReport) → IsBareKey reading text → FromForm text event
+pub alt_written : (reading : Reading) (text : List ℕ) (event : Event) (r : KeyReport) → IsBareKey reading text → FromForm text event
     → with_alt event ≡ Key r → IsWritten r
 alt_written reading text (Key report) r bare told e =
     let same : alt_report report ≡ r = cc (e) in subst IsWritten same (bare_written reading text report bare told)
 alt_written reading text event r bare told e = absurd (cc (e))
 
-stands_written : (reading : Reading) (u : List ℕ) (more : Bool) (left : List ℕ) (event : ExtendedEvent) (r : KeyReport)
-    → Stands reading u more left event → event ≡ Key r → IsWritten r
-stands_written reading u more left event r (extra text l e is split) k = extra_written text r is.is_form (subst (FromForm text) k (extra_event reading text e is))
-stands_written reading u more left event r (alt_key text l e is bare split) k = alt_written reading text e r bare (extra_event reading text e is) k
-stands_written reading u more left event r (lone_escape l split apart) k = absurd (cc (k))
-stands_written reading u more left event r (string kind head bytes after l e is comes) k =
-    absurd (subst IsOfString k (comes_of_string kind head bytes after l more e comes))
-stands_written reading u more left event r (usual bytes l e stands split here behind) k = absurd (cc (k))
+-- the same of any key that an extra sequence tells no more of
+pub plain_alt_written : (text : List ℕ) (r : KeyReport) → FromForm text (Key r) → says_no_more r ≡ true → IsWritten (alt_report r)
+plain_alt_written text r told none = go (event_told text r told)
+  where
+    with_key : is_plain_key r.key ≡ true → r.modifiers < 256 → IsWritten (alt_report r)
+    with_key own fits = plain_written (alt_report r) own none (alt_fits r.modifiers fits)
 
-pub key_whole : (reading : Reading) (r : KeyReport) → Emits reading (Key r)
-    → (bytes : List ℕ) × (report_text r ≡ Some bytes) × (length bytes ≤ most_bytes)
-key_whole reading r emits = stands_written reading emits.0 emits.2 emits.1 (Key r) r emits.3 refl
+    from_character : {size : ℕ} → IsFromCharacter size r → IsWritten (alt_report r)
+    from_character p = with_key (rw p.key (key_is p.own p.own_is).plain) p.fits
 
--- so no reading emits one that is refused
-pub key_is_written : (reading : Reading) (r : KeyReport) → Emits reading (Key r) → ¬ IsRefused reading (Key r)
-unfolding IsEventText
-key_is_written reading r emits refused = (let written = key_whole reading r emits in refused written.0 (written.1, written.2))
+    go : IsReportOf text r → IsWritten (alt_report r)
+    go (keypad p) = with_key p.key p.fits
+    go (bracketed t same (plain p)) = with_key p.key p.fits
+    go (bracketed t same (private p)) = private_written (alt_report r) (record {
+      character = p.character;
+      bits = bit_or p.bits 2;
+      is = alt_private p.character p.bits ∙ ap alt_report p.is;
+      functional = p.functional;
+      fits = alt_fits p.bits p.fits;
+    })
+    go (bracketed t same (shifted p)) = from_character p
+    go (bracketed t same (typed body ends p)) = from_character p

@@ -1,47 +1,49 @@
--- Rows and characters that are the whole text are read as their keys.
-use Rattle.std.proofs.Common.{◌≡◌, ◌≢◌, ◌⊎◌, inl, inr, ℕ, zero, suc, ◌<◌, ◌≤◌, Bool, false, List, [], ◌∷◌, ◌++◌, length, refl, sym, ap, ◌∙◌, subst, arith, append_assoc, append-nil, length-append, Contains}
+-- A character that is the whole text is read as its key, and so is a row. So each such key has a text.
+use Rattle.std.proofs.Common.{◌≡◌, ◌≢◌, ◌⊎◌, ⊎_elim, ℕ, zero, suc, ◌<◌, Bool, true, false, List, [], ◌∷◌, ◌++◌, refl, sym, ap, ◌∙◌, subst, arith, append_assoc, append-nil, bytes_eq, Some, None}
+use Rattle.std.specs.Prelude.{◌==◌, option_and_then}
+use Rattle.std.specs.Map.{lookup}
 use Rattle.std.specs.Char.{IsScalar, encode_utf8}
-use Rattle.std.specs.List.{AllByRecursion}
+use Rattle.std.proofs.lemmas.Bool.Decides.{nat_tests}
+use Rattle.std.proofs.lemmas.Map.Views.{Contains-from_lookup}
+use Rattle.std.proofs.lemmas.Slice.Eq.{bytes_eq-Decides}
 use Rattle.termwiz_keymap.specs.Bytes.{Begins}
-use Rattle.termwiz_keymap.proofs.lemmas.lists.CommonPrefixes.{append-some_left}
+use Rattle.termwiz_keymap.proofs.lemmas.lists.CommonPrefixes.{append-some}
 use Rattle.termwiz_keys.specs.Introducers.{ESC, START}
-use Rattle.termwiz_keys.specs.Keys.{plain}
+use Rattle.termwiz_keys.specs.Keys.{NONE, key_with, plain}
+use Rattle.termwiz_keys.specs.declared.types.KeyCode.{KeyCode}
+use Rattle.termwiz_keys.specs.declared.types.KeyCode.TheVariants.{Backspace, Char, Enter}
 use Rattle.termwiz_keys.specs.declared.types.KeyEvent.{KeyEvent}
-use Rattle.termwiz_keys.specs.declared.types.InputEvent.TheVariants.{Key}
-use Rattle.termwiz_grammar.specs.Grammar as port
-use Rattle.termwiz_grammar.specs.Grammar.{Head, IsHead, IsCharacter, IsLongest, IsAfterEscape, replacement}
-use Rattle.termwiz_grammar.specs.Grammar.Head.{Sequence, Character, Broken}
-use Rattle.termwiz_grammar.specs.Grammar.Item.{key, char, broken, mouse, paste, lone_escape, alt}
+use Rattle.termwiz_grammar.specs.Grammar.{IsCharacter, IsBroken, replacement}
+use Rattle.termwiz_grammar.specs.Grammar.Item.{char}
 use Rattle.termwiz_grammar.specs.RowsInOrder.{IsRowAt}
 use Rattle.termwiz_grammar.specs.Sequences.{IsSequence}
 use Rattle.termwiz_grammar.specs.Sequences.Meaning.{Row}
-use Rattle.termwiz_grammar.specs.Table.{rows}
-use Rattle.termwiz_grammar.proofs.lemmas.items.OneHead.{longest_whole}
-use Rattle.termwiz_grammar.proofs.lemmas.mouse.OneReport.{IsPlain}
-use Rattle.termwiz_grammar.proofs.lemmas.table.RowShape.{Bytes}
-use Rattle.termwiz_grammar.proofs.lemmas.table.RowShape.Bytes.{one, more}
-use Rattle.termwiz_grammar.proofs.lemmas.table.SequenceFacts.{sequence_bytes}
+use Rattle.termwiz_grammar.specs.Table.{rows, written_out, numbers}
 use Rattle.termwiz_grammar.proofs.lemmas.table.TableAsMap.{rows_in_order}
+use Rattle.termwiz_laws.proofs.lemmas.first_bytes.EncodedBytes.{IsSeveral, encode_forms}
 use Rattle.termwiz_laws.proofs.lemmas.first_bytes.NoSequence.{none_begins}
-use Rattle.termwiz_extended_events.specs.declared.types.ExtendedEvent.TheVariants.{Input}
-use Rattle.termwiz_extended_events.specs.declared.types.Protocol.{Protocol}
-use Rattle.termwiz_extended_events.specs.declared.types.Protocol.TheVariants.{Legacy, Kitty}
+use Rattle.termwiz_extended_events.specs.declared.types.KeyReport.{KeyReport}
+use Rattle.termwiz_extended_events.specs.declared.types.Dialect.{Dialect}
+use Rattle.termwiz_extended_events.specs.declared.types.Dialect.TheVariants.{Extended, Termwiz}
 use Rattle.termwiz_extended_events.specs.declared.types.Reading.{Reading}
-use Rattle.termwiz_extended_grammar.specs.ExtendedGrammar.{StartsExtended, IsUsual, Stands}
-use Rattle.termwiz_extended_grammar.specs.ExtendedGrammar.Stands.{usual, extra}
-use Rattle.termwiz_extended_grammar.specs.ExtraSequences.{Overrides, StartsWithExtra}
-use Rattle.termwiz_extended_grammar.specs.Forms.{introducer}
-use Rattle.termwiz_extended_grammar.specs.Strings.{StartsWithOpening}
-use Rattle.termwiz_extended_grammar.proofs.lemmas.forms.FormBytes.{IsStringIntroducer, head_some, introducer_shape, mark_shape}
+use Rattle.termwiz_extended_events.specs.declared.types.ReportedKey.TheVariants.{Named}
+use Rattle.termwiz_extended_events.specs.PortEvents.{decided_key, pressed_key, typed_byte, typed_key, with_key}
+use Rattle.termwiz_extended_grammar.specs.ExtendedGrammar.{StartsExtended, IsUsual}
+use Rattle.termwiz_extended_grammar.proofs.lemmas.cuts.PortTold.{decided_none}
+use Rattle.termwiz_extended_grammar.proofs.lemmas.forms.FormBytes.{mark_shape}
 use Rattle.termwiz_extended_grammar.proofs.lemmas.forms.ExtraFacts.{starts_mark}
-use Rattle.termwiz_extended_grammar.proofs.lemmas.forms.PortLayouts.{Layout, sequence_layout}
+use Rattle.termwiz_extended_grammar.proofs.lemmas.forms.PortLayouts.{Layout, Past, sequence_layout}
 use Rattle.termwiz_extended_grammar.proofs.lemmas.forms.PortLayouts.Layout.{alone as single_byte, paired, longer}
-use Rattle.termwiz_extended_grammar.proofs.lemmas.items.ExtendedItems.{starts_shape, starts_longer, stands_once}
-use Rattle.termwiz_extended_grammar.proofs.lemmas.items.ExtraHeads.{extra_is_longest}
-use Rattle.termwiz_extended_grammar.proofs.lemmas.items.ExtendedRests.{empty_is_rest}
-use Rattle.termwiz_kitty.proofs.lemmas.legacy.ReadAsOne.{second_range, no_escape_before}
-use Rattle.termwiz_senders.specs.KeyTexts.{IsReadAsKey, HasRow, IsSentRow, IsPlainKeyText}
+use Rattle.termwiz_extended_grammar.proofs.lemmas.forms.PortLayouts.Past.{lettered, with_dollar}
+use Rattle.termwiz_extended_grammar.proofs.lemmas.items.ExtendedItems.{starts_shape, starts_longer}
+use Rattle.termwiz_kitty.proofs.lemmas.legacy.ReadAsOne.{second_range, no_escape_before, row_is}
+use Rattle.termwiz_senders.specs.KeyTexts.{IsReadAsKey, HasRow, IsSentText, IsPlainKeyText}
 use Rattle.termwiz_senders.specs.KeyTexts.IsPlainKeyText.{by_sending, by_row, by_character}
+use Rattle.termwiz_senders.proofs.lemmas.RowsAlone.{told_key, usual_from, empty_usual, whole_read, row_of, row_read}
+
+-- the key has a text without an ESC before it
+abbrev pub HasPlain : Reading → KeyReport → Type 0
+HasPlain reading r = ((bytes : List ℕ) → ¬ IsPlainKeyText reading r bytes) → ⊥
 
 -- what begins an extra sequence or an opening has three bytes at least
 pub starts_three : (reading : Reading) (x y : ℕ) → StartsExtended reading (x ∷ y ∷ []) → ⊥
@@ -55,65 +57,13 @@ starts_three reading x y h =
     no_rest [] t some e = some refl
     no_rest (z ∷ r) t some e = cc (e)
 
-pub never_open : {u : List ℕ} → port.IsOpen u false → ⊥
-never_open h = cc (h.more_comes)
-
--- a text that no extra sequence and no opening begins
-pub usual_from : (reading : Reading) (u : List ℕ) → ¬ StartsExtended reading u → IsUsual reading u false
-usual_from reading u none = record { none = none; closed = λ h. cc (h.more_comes) }
-
 pub usual_alone : (reading : Reading) (u left : List ℕ) (f : Bool) → IsUsual reading (u ++ left) f → IsUsual reading u false
 usual_alone reading u left f is = usual_from reading u (λ h. is.none (starts_longer reading u left h))
-
--- with another first byte than ESC none begins it
-usual_other : (reading : Reading) (b : ℕ) (u : List ℕ) → b ≢ 27 → IsUsual reading (b ∷ u) false
-usual_other reading b u other =
-    usual_from reading (b ∷ u) (λ h. let s = starts_shape reading (b ∷ u) h in other (cc (s.2)))
 
 -- after an ESC no extra sequence begins with such a byte
 pub usual_behind : (reading : Reading) (b : ℕ) (u : List ℕ) → (b < 79) ⊎ (95 < b) → IsUsual reading (27 ∷ b ∷ u) false
 usual_behind reading b u away = usual_from reading (27 ∷ b ∷ u)
     (λ h. let s = starts_shape reading (27 ∷ b ∷ u) h in let same : b ≡ s.0 = cc (s.2) in omega (arith, second_range s.0 s.3, away))
-
-empty_usual : (reading : Reading) → IsUsual reading [] false
-empty_usual reading = usual_from reading [] (λ h. let s = starts_shape reading [] h in cc (s.2))
-
--- an item of the port that is the whole text
-whole_read : (reading : Reading) (text : List ℕ) (k : KeyEvent) → port.Item text false text (Key k) → IsUsual reading text false
-    → ((v : List ℕ) → text ≡ ESC ++ v → IsUsual reading v false) → IsReadAsKey reading k text
-whole_read reading text k item here after = record {
-  steps = (
-    [],
-    usual text [] (Key k) (record { closed = never_open; item = item }) (sym (append-nil text)) here after,
-    refl,
-  );
-  rest = empty_is_rest reading false;
-}
-
--- A row.
-pub row_of : (text : List ℕ) (k : KeyEvent) → IsSequence text (Row k) → Contains rows (text, k)
-unfolding IsSequence
-row_of text k is = is
-
--- what follows the ESC of a row begins with no ESC
-behind_row : (reading : Reading) (text v : List ℕ) (k : KeyEvent) → IsSequence text (Row k) → text ≡ ESC ++ v → IsUsual reading v false
-behind_row reading text [] k is e = empty_usual reading
-behind_row reading text (b ∷ v) k is e = usual_other reading b v (λ same. go same (sequence_bytes text (Row k) is))
-  where
-    go : b ≡ 27 → Bytes text → ⊥
-    go same (one c l f) = cc (e, f)
-    go same (more t some f all) = let second : t ≡ b ∷ v = cc (e, f) in
-        let first = (subst (λ s. AllByRecursion IsPlain s) second all).0 in
-        omega (arith, same, first)
-
-pub row_read : (reading : Reading) (text : List ℕ) (k : KeyEvent) → IsSequence text (Row k) → text ≢ START → IsUsual reading text false
-    → IsReadAsKey reading k text
-row_read reading text k is other here =
-    whole_read reading text k (key text k (longest_whole text (Row k) is) other (λ e. e)) here (λ v e. behind_row reading text v k is e)
-
-pub row_is_of : (reading : Reading) (text : List ℕ) (k : KeyEvent) → IsSequence text (Row k) → text ≢ START → IsUsual reading text false
-    → HasRow reading k
-row_is_of reading text k is other here = (text, record { row = row_of text k is; read = row_read reading text k is other here })
 
 -- A character.
 begins_whole : (t u left : List ℕ) → Begins t u → Begins t (u ++ left)
@@ -138,7 +88,8 @@ character_behind : (reading : Reading) (c : ℕ) (v : List ℕ) → IsScalar c �
 character_behind reading c [] scalar e = empty_usual reading
 character_behind reading c (b ∷ v) scalar e = absurd (no_escape c scalar b v e)
 
-pub character_read : (reading : Reading) (c : ℕ) → IsCharacter (encode_utf8 c) c → IsReadAsKey reading (plain c) (encode_utf8 c)
+pub character_read : (reading : Reading) (c : ℕ) → IsCharacter (encode_utf8 c) c
+    → IsReadAsKey reading (told_key reading (encode_utf8 c) (plain c)) (encode_utf8 c)
 character_read reading c is =
     whole_read reading (encode_utf8 c) (plain c) (char c is) (character_usual reading c is.scalar)
     (λ v e. character_behind reading c v is.scalar e)
@@ -152,68 +103,113 @@ replacement_is = record {
   begins = ([], refl);
 }
 
--- A row that is read as its key has no extra sequence or opening at its front.
-no_override : (protocol : Protocol) (questions : ℕ) (k : KeyEvent) → Overrides protocol questions (Input (Key k)) → ⊥
-no_override Legacy questions k is = is.1
-no_override Kitty questions k is = is
+-- The rows of the bytes that a reading decides.
+pub row_at : (text : List ℕ) (k : KeyEvent) → lookup (bytes_eq text) rows ≡ Some k → IsSequence text (Row k)
+row_at text k e = row_is text k (Contains-from_lookup (λ (s t : List ℕ) (h : bytes_eq s t ≡ true). (bytes_eq-Decides s t).0 h) text k rows e)
 
-row_no_opening : (v : List ℕ) (j : KeyEvent) → IsSequence v (Row j) → StartsWithOpening v → ⊥
-row_no_opening v j is o = go (sequence_layout v (Row j) is)
+backspace_row : IsSequence (8 ∷ []) (Row (key_with Backspace NONE))
+unfolding written_out numbers
+backspace_row = row_at (8 ∷ []) (key_with Backspace NONE) refl
+
+delete_row : IsSequence (127 ∷ []) (Row (key_with Backspace NONE))
+unfolding written_out numbers
+delete_row = row_at (127 ∷ []) (key_with Backspace NONE) refl
+
+feed_row : IsSequence (10 ∷ []) (Row (key_with Enter NONE))
+unfolding written_out numbers
+feed_row = row_at (10 ∷ []) (key_with Enter NONE) refl
+
+same_told : (reading : Reading) (text : List ℕ) (k : KeyEvent) → typed_key reading.dialect reading text k.key ≡ k.key
+    → told_key reading text k ≡ pressed_key k
+same_told reading text k e = ap (λ c. pressed_key (with_key k c)) e
+
+undecided : (reading : Reading) (text : List ℕ) (k : KeyCode) → option_and_then (decided_key reading) (typed_byte text) ≡ None
+    → typed_key reading.dialect reading text k ≡ k
+undecided reading text k none = go reading.dialect
   where
-    i : (b : ℕ) × (introducer o.kind ≡ 27 ∷ b ∷ []) × IsStringIntroducer b
-    i = introducer_shape o.kind
+    go : (d : Dialect) → typed_key d reading text k ≡ k
+    go Termwiz = refl
+    go Extended = rw none refl
 
-    all : v ≡ 27 ∷ i.0 ∷ (o.head ++ o.begins.0)
-    all = o.begins.1 ∙ ap (λ z. z ++ o.head ++ o.begins.0) i.1
+pub undecided_told : (reading : Reading) (text : List ℕ) (k : KeyEvent) → option_and_then (decided_key reading) (typed_byte text) ≡ None
+    → told_key reading text k ≡ pressed_key k
+undecided_told reading text k none = same_told reading text k (undecided reading text k.key none)
 
-    go : Layout v → ⊥
-    go (single_byte b e) = cc (all, e)
-    go (paired b e l) = append-some_left o.head o.begins.0 (head_some o.kind o.head o.is_head) (cc (all, e))
-    go (longer b r e k p) = let same : b ≡ i.0 = cc (all, e) in omega (arith, i.2)
-
--- a text that begins a row, and is at least as long, is all of it
-same_length : (x rest v : List ℕ) → v ≡ x ++ rest → length v ≤ length x → v ≡ x
-same_length x [] v e short = e ∙ append-nil x
-same_length x (y ∷ rest) v e short = absurd (omega (arith, ap length e, length-append x (y ∷ rest)))
-
-pub row_usual : (reading : Reading) (text : List ℕ) (k : KeyEvent) → IsSequence text (Row k) → IsReadAsKey reading k text
-    → IsUsual reading text false
-row_usual reading text k is read = usual_from reading text none
+-- a row of two bytes has none of these bytes, and a longer one is told as it is
+pub pair_undecided : (reading : Reading) (text : List ℕ) (k : KeyEvent) → IsSequence text (Row k) → (b : ℕ) → text ≡ 27 ∷ b ∷ []
+    → decided_key reading b ≡ None
+pair_undecided reading text k is b e = go (sequence_layout text (Row k) is)
   where
-    stands : Stands reading text false [] (Input (Key k))
-    stands = subst (λ left. Stands reading text false left (Input (Key k))) read.steps.2 read.steps.1
+    no_past : {r : List ℕ} → Past r → r ≡ [] → ⊥
+    no_past (lettered middle last f a l m n) none = append-some middle (last ∷ []) (λ h. cc (h)) (sym f ∙ none)
+    no_past (with_dollar digit f d) none = cc (f, none)
 
-    extra_is : (h : StartsWithExtra reading text) → ⊥
-    extra_is h =
-        let longest = (extra_is_longest reading text h.text h.event h.is_extra h.begins).0 text (Row k) is ([], sym (append-nil text)) in
-        let whole : text ≡ h.text = same_length h.text h.begins.0 text h.begins.1 longest in
-        let here = stands_once reading text false h.begins.0 [] h.event (Input (Key k)) (extra h.text h.begins.0 h.event h.is_extra h.begins.1) stands in
-        let free = h.is_extra.is_free (Row k) (subst (λ t. IsSequence t (Row k)) whole is) in
-        no_override reading.protocol reading.questions k
-        (subst (Overrides reading.protocol reading.questions) (sym h.is_extra.means ∙ here.1) free.2)
+    go : Layout text → decided_key reading b ≡ None
+    go (single_byte c f) = absurd (cc (e, f))
+    go (paired c f l) =
+        let same : c ≡ b = cc (e, f) in
+        decided_none reading b (λ q. omega (arith, same, l, q)) (λ q. omega (arith, same, l, q)) (λ q. omega (arith, same, l, q))
+    go (longer c r f second past) = absurd (no_past past (let gone : r ≡ [] = cc (e, f) in gone))
 
-    none : ¬ StartsExtended reading text
-    none (inl h) = extra_is h
-    none (inr o) = row_no_opening text k is o
+-- a character that begins no row isn't decided
+pub character_undecided : (reading : Reading) (c : ℕ) → IsCharacter (encode_utf8 c) c
+    → option_and_then (decided_key reading) (typed_byte (encode_utf8 c)) ≡ None
+character_undecided reading c is = ⊎_elim
+    (λ (first : (c < 128) × (encode_utf8 c ≡ c ∷ [])).
+    ap (λ t. option_and_then (decided_key reading) (typed_byte t)) first.1
+    ∙ decided_none reading c (other 8 _ first.1 backspace_row) (other 10 _ first.1 feed_row) (other 127 _ first.1 delete_row))
+    (λ (many : IsSeveral (encode_utf8 c)). several (encode_utf8 c) many)
+    (encode_forms c is.scalar)
+  where
+    other : (b : ℕ) (k : KeyEvent) → encode_utf8 c ≡ c ∷ [] → IsSequence (b ∷ []) (Row k) → c ≢ b
+    other b k e row same = is.no_sequence (b ∷ []) (Row k) row ([], e ∙ ap (λ x. x ∷ []) same)
+
+    several : (u : List ℕ) → IsSeveral u → option_and_then (decided_key reading) (typed_byte u) ≡ None
+    several [] many = refl
+    several (x ∷ []) many = absurd (many.2 refl)
+    several (x ∷ y ∷ []) many = let high : (x == 27) ≡ false = grind (arith, nat_tests, many.0) in rw high refl
+    several (x ∷ y ∷ z ∷ u) many = refl
+
+-- nor is a byte that counts as one
+pub broken_undecided : (reading : Reading) (b : ℕ) (v : List ℕ) → IsBroken v b
+    → option_and_then (decided_key reading) (typed_byte (b ∷ [])) ≡ None
+broken_undecided reading b v is = decided_none reading b (other 8 _ backspace_row) (other 10 _ feed_row) (other 127 _ delete_row)
+  where
+    other : (m : ℕ) (k : KeyEvent) → IsSequence (m ∷ []) (Row k) → b ≢ m
+    other m k row same = is.no_sequence (m ∷ []) (Row k) row (is.begins.0, is.begins.1 ∙ ap (λ x. x ∷ is.begins.0) same)
 
 -- Where a key has no plain text, it has no row and is no character.
-module _ (reading : Reading) (k : KeyEvent) (refused : (bytes : List ℕ) → ¬ IsPlainKeyText reading k bytes) where
-  not_sent : (sent : List ℕ) → ¬ IsSentRow reading k sent
+module _ (reading : Reading) (r : KeyReport) (refused : (bytes : List ℕ) → ¬ IsPlainKeyText reading r bytes) where
+  not_sent : (sent : List ℕ) → ¬ IsSentText reading r sent
   not_sent sent is = refused sent (by_sending is)
 
-  none_below : (n place : ℕ) (bytes : List ℕ) → place < n → IsRowAt place bytes k → ¬ IsReadAsKey reading k bytes
-  none_below zero place bytes below here read = omega (arith, below)
-  none_below (suc n) place bytes below here read = refused bytes (by_row not_sent (λ own is. refused own (by_character not_sent is)) (record {
-    place = place;
-    here = here;
-    read = read;
-    first = λ before other earlier at. none_below n before other (omega (arith, earlier, below)) at;
-  }))
+  none_below : (n place : ℕ) (bytes : List ℕ) (k : KeyEvent) → place < n → IsRowAt place bytes k → ¬ IsReadAsKey reading r bytes
+  none_below zero place bytes k below here read = omega (arith, below)
+  none_below (suc n) place bytes k below here read =
+      refused bytes (by_row not_sent (λ own is. refused own (by_character not_sent is)) (record {
+        place = place;
+        key = k;
+        here = here;
+        read = read;
+        first = λ before other its earlier at. none_below n before other its (omega (arith, earlier, below)) at;
+      }))
 
-  pub no_row : ¬ HasRow reading k
+  pub no_row : ¬ HasRow reading r
   no_row (bytes, is) =
-      let at = (rows_in_order.exactly bytes k).0 is.row in none_below (suc at.0) at.0 bytes (omega arith) at.1 is.read
+      let at = (rows_in_order.exactly bytes is.key).0 is.row in none_below (suc at.0) at.0 bytes is.key (omega arith) at.1 is.read
 
-  pub no_character : (c : ℕ) → k ≡ plain c → ¬ IsReadAsKey reading k (encode_utf8 c)
+  pub no_character : (c : ℕ) → r.key ≡ Named (Char c) → ¬ IsReadAsKey reading r (encode_utf8 c)
   no_character c e read = refused (encode_utf8 c)
       (by_character not_sent (record { character = c; key_is = e; bytes_are = refl; read = read }))
+
+-- So a row's key and a character have one.
+pub row_plain : (reading : Reading) (text : List ℕ) (k : KeyEvent) → IsSequence text (Row k) → text ≢ START → IsUsual reading text false
+    → HasPlain reading (told_key reading text k)
+row_plain reading text k is other here refused = no_row reading (told_key reading text k) refused
+    (text, record { key = k; row = row_of text k is; read = row_read reading text k is other here })
+
+pub character_plain : (reading : Reading) (c : ℕ) → IsCharacter (encode_utf8 c) c → HasPlain reading (pressed_key (plain c))
+character_plain reading c is refused =
+    let same = undecided_told reading (encode_utf8 c) (plain c) (character_undecided reading c is) in
+    no_character reading (pressed_key (plain c)) refused c refl
+    (subst (λ r. IsReadAsKey reading r (encode_utf8 c)) same (character_read reading c is))

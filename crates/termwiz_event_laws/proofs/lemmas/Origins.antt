@@ -1,67 +1,33 @@
 -- What an emitted event comes from.
-use Rattle.std.proofs.Common.{◌≡◌, ◌⊎◌, inl, inr, ⊎_elim, ℕ, ◌+◌, ◌-◌, ◌<◌, ◌≤◌, Bool, true, false, nat_le, List, [], ◌∷◌, ◌++◌, refl, sym, ap, ◌∙◌, subst, arith, Option, Some, None, Contains, bit_or}
-use Rattle.std.specs.Prelude.{⊤, codes}
+use Rattle.std.proofs.Common.{◌≡◌, ◌⊎◌, inl, inr, ℕ, ◌+◌, ◌-◌, ◌<◌, ◌≤◌, Bool, true, false, nat_le, List, [], ◌∷◌, ◌++◌, refl, sym, ap, ◌∙◌, subst, arith, Option, Some, None, Contains, bit_or}
+use Rattle.std.specs.Prelude.{codes}
 use Rattle.std.specs.List.{list_all}
-use Rattle.std.specs.Str.Lossy.{utf8_lossy}
 use Rattle.std.proofs.lemmas.Bool.{and_from}
 use Rattle.std.proofs.lemmas.Bool.Decides.{nat_tests}
 use Rattle.std.proofs.lemmas.List.Elements.{All-contains}
 use Rattle.std.proofs.lemmas.List.Sums.{AllPass-from_list_all}
-use Rattle.termwiz_keys.specs.Keys.{escape}
-use Rattle.termwiz_keys.specs.declared.types.KeyEvent.{KeyEvent}
-use Rattle.termwiz_keys.specs.declared.types.InputEvent.{InputEvent}
-use Rattle.termwiz_keys.specs.declared.types.InputEvent.TheVariants as input
-use Rattle.termwiz_grammar.specs.Grammar as port
-use Rattle.termwiz_grammar.specs.Grammar.Item.{key, char, broken, mouse, paste, lone_escape, alt}
-use Rattle.termwiz_grammar.specs.MouseReports.{mouse_event, value_of}
-use Rattle.termwiz_grammar.specs.Sequences.{IsSequence}
-use Rattle.termwiz_grammar.specs.MouseReports.{IsMouseReport}
 use Rattle.termwiz_grammar.specs.Table.{numbers}
 use Rattle.termwiz_grammar.proofs.lemmas.lists.ListMembers.{in_numbers}
-use Rattle.termwiz_keys.specs.declared.types.MouseEvent.{MouseEvent}
-use Rattle.termwiz_extended_events.specs.declared.types.ExtendedEvent.{ExtendedEvent}
-use Rattle.termwiz_extended_events.specs.declared.types.ExtendedEvent.TheVariants.{Input, Key, Csi, Osc, Dcs, Apc, StringPart, StringCut}
+use Rattle.termwiz_extended_events.specs.declared.types.Event.{Event}
+use Rattle.termwiz_extended_events.specs.declared.types.Event.TheVariants.{Key, Csi, Osc}
 use Rattle.termwiz_extended_events.specs.declared.types.KeyEventKind.TheVariants.{Press}
 use Rattle.termwiz_extended_events.specs.declared.types.KeyReport.{KeyReport}
 use Rattle.termwiz_extended_events.specs.declared.types.ReportedKey.{ReportedKey}
 use Rattle.termwiz_extended_events.specs.declared.types.Reading.{Reading}
 use Rattle.termwiz_extended_events.specs.declared.types.StringKind.{StringKind}
-use Rattle.termwiz_extended_events.specs.declared.types.StringKind.TheVariants as kinds
 use Rattle.termwiz_extended_events.specs.KeyReports.{pressed, report_of, keypad_key, modified_report, is_function_letter, modified_keypad_key}
 use Rattle.termwiz_extended_events.specs.Meanings.{keypad_reported, event_after, event_of, IsKey, whole_string}
 use Rattle.termwiz_extended_events.specs.ReportedKeys.{entry_at, keypad_keys, modified_keypad_keys}
-use Rattle.termwiz_extended_grammar.specs.ExtendedGrammar.{Stands}
-use Rattle.termwiz_extended_grammar.specs.ExtendedGrammar.Stands.{extra, alt_key, lone_escape as extended_escape, string, usual}
 use Rattle.termwiz_extended_grammar.specs.ExtraSequences.{IsExtra, with_alt}
-use Rattle.termwiz_extended_grammar.specs.Readings.{is_asking, event_in}
+use Rattle.termwiz_extended_grammar.specs.Readings.{ReadsMore, is_asking, event_in}
 use Rattle.termwiz_extended_grammar.specs.Forms.{IsKeypadLetter, IsModifierDigit, IsModifiedLetter, IsModifiedFront, IsLetterBehind, IsTitle, IsForm, most_string}
 use Rattle.termwiz_extended_grammar.specs.Forms.IsForm.{control, x10_report, console_key, keypad_key as keypad_form, modified_key, shifted_key, title}
-use Rattle.termwiz_extended_grammar.specs.Strings.{IsString, string_length, Ends, Comes}
+use Rattle.termwiz_extended_grammar.specs.Strings.{string_length, Ends, Comes}
 use Rattle.termwiz_extended_grammar.specs.Strings.Ends.{ended, cut, cut_by_two, flushed}
 use Rattle.termwiz_extended_grammar.specs.Strings.Comes.{part, last}
 use Rattle.termwiz_extended_grammar.proofs.lemmas.forms.TitleEvents.{titles_are_commands}
-use Rattle.termwiz_event_laws.specs.EventLaws.{Emits, IsPartOrCut}
+use Rattle.termwiz_event_laws.specs.EventLaws.{IsPartOrCut}
 use Rattle.termwiz_event_laws.proofs.lemmas.ToldEvents.{Told, bracketed_told}
-use Rattle.termwiz_event_laws.proofs.lemmas.ToldEvents.Told.{by_reply, by_key, by_mouse, by_side_button}
-
--- an event of the port
-pub data FromPort (e : InputEvent) : Type 0 where
-  key_event : (k : KeyEvent) → e ≡ input.Key k → FromPort e
-  mouse_report : (code x y last : ℕ) → e ≡ input.Mouse (mouse_event code x y last) → FromPort e
-  paste_of : (body : List ℕ) → port.EndsFirst body → e ≡ input.Paste (utf8_lossy body) → FromPort e
-
-report_numbers : (text : List ℕ) (report : MouseEvent) → IsMouseReport text report → FromPort (input.Mouse report)
-report_numbers text report r = mouse_report (value_of r.code) (value_of r.x) (value_of r.y) r.last (ap (λ m. input.Mouse m) r.means)
-
-item_from : (u bytes : List ℕ) (more : Bool) (e : InputEvent) → port.Item u more bytes e → FromPort e
-unfolding IsSequence
-item_from u bytes more e (key text k is other alone) = key_event k refl
-item_from u bytes more e (char c is) = key_event _ refl
-item_from u bytes more e (broken byte is) = key_event _ refl
-item_from u bytes more e (mouse text report is) = report_numbers text report is.is_sequence
-item_from u bytes more e (paste body begins first) = paste_of body first refl
-item_from u bytes more e (lone_escape v h after is apart) = key_event escape refl
-item_from u bytes more e (alt v h k after is its) = key_event _ refl
 
 -- letters behind ESC O
 
@@ -163,7 +129,7 @@ modified_event front digit letter front_is d is = go front_is
         (made (49 ∷ 59 ∷ digit ∷ letter ∷ []) refl (rw (of_function one) refl))
 
 -- the event of a text of a form: by a rule after ESC [, or the text itself; a key after ESC O; or a title
-pub data FromForm (text : List ℕ) (e : ExtendedEvent) : Type 0 where
+pub data FromForm (text : List ℕ) (e : Event) : Type 0 where
   bracketed : (s : List ℕ) → text ≡ 27 ∷ 91 ∷ s → Told s e ⊎ (e ≡ Csi s) → FromForm text e
   keypad : (s : List ℕ) (r : KeyReport) → KeypadRule s r → e ≡ Key r → FromForm text e
   titled : (t : IsTitle text) → e ≡ Osc (t.letter ∷ t.body) → FromForm text e
@@ -175,97 +141,38 @@ by_bracket reading text s form =
 by_keypad : (reading : Reading) (text s : List ℕ) → text ≡ 27 ∷ 79 ∷ s → IsKeypad s → FromForm text (event_in reading text)
 by_keypad reading text s form is = keypad s is.report is.rule (ap (event_in reading) form ∙ is.event (is_asking reading))
 
-form_event : (reading : Reading) (text : List ℕ) → IsForm reading.x10_mouse text → FromForm text (event_in reading text)
-form_event reading text (control f) = by_bracket reading text _ f.form
-form_event reading text (x10_report on f) = by_bracket reading text _ f.form
-form_event reading text (console_key f) = by_bracket reading text _ f.form
-form_event reading text (keypad_form f) = by_keypad reading text _ f.form (keypad_told f.letter f.letter_is)
-form_event reading text (modified_key f) =
+form_event : (reading : Reading) (text : List ℕ) → ReadsMore reading → IsForm reading.x10_mouse text → FromForm text (event_in reading text)
+form_event reading text reads (control f) = by_bracket reading text _ f.form
+form_event reading text reads (x10_report on f) = by_bracket reading text _ f.form
+form_event reading text reads (console_key f) = by_bracket reading text _ f.form
+form_event reading text reads (keypad_form f) = by_keypad reading text _ f.form (keypad_told f.letter f.letter_is)
+form_event reading text reads (modified_key f) =
     by_keypad reading text _ f.form (modified_event f.front f.digit f.letter f.front_is f.digit_is f.letter_is)
-form_event reading text (shifted_key f) = by_bracket reading text _ f.form
-form_event reading text (title t) = titled t (sym (titles_are_commands reading text t).means)
+form_event reading text reads (shifted_key f) = by_bracket reading text _ f.form
+form_event reading text reads (title t) = titled t (sym (titles_are_commands reading text t reads).means)
 
 -- the event of an extra sequence
-pub extra_event : (reading : Reading) (text : List ℕ) (e : ExtendedEvent) → IsExtra reading text e → FromForm text e
-extra_event reading text e is = subst (FromForm text) (sym is.means) (form_event reading text is.is_form)
-
--- none is a key of the port's events
-pub no_input_key : (text : List ℕ) (k : KeyEvent) → FromForm text (Input (input.Key k)) → ⊥
-no_input_key text k (bracketed s form (inl (by_reply is))) = is
-no_input_key text k (bracketed s form (inl (by_key r rule e))) = cc (e)
-no_input_key text k (bracketed s form (inl (by_mouse m told e))) = cc (e)
-no_input_key text k (bracketed s form (inl (by_side_button b told e))) = cc (e)
-no_input_key text k (bracketed s form (inr e)) = cc (e)
-no_input_key text k (keypad s r rule e) = cc (e)
-no_input_key text k (titled t e) = cc (e)
+pub extra_event : (reading : Reading) (text : List ℕ) (e : Event) → IsExtra reading text e → FromForm text e
+extra_event reading text e is = subst (FromForm text) (sym is.means) (form_event reading text is.reads is.is_form)
 
 -- the event of a bare key after ESC is the report of a key
-pub alt_report : (reading : Reading) (text : List ℕ) (e : ExtendedEvent) → e ≡ event_in reading text → IsKey (event_in reading text)
+pub alt_report : (reading : Reading) (text : List ℕ) (e : Event) → e ≡ event_in reading text → IsKey (event_in reading text)
     → (r : KeyReport) × (with_alt e ≡ Key r)
 alt_report reading text e same is = go e (subst IsKey (sym same) is)
   where
-    go : (d : ExtendedEvent) → IsKey d → (r : KeyReport) × (with_alt d ≡ Key r)
+    go : (d : Event) → IsKey d → (r : KeyReport) × (with_alt d ≡ Key r)
     go (Key r) h = (record r { modifiers = bit_or r.modifiers 2 }, refl)
     go d h = absurd h
 
 -- what comes of a string is its whole, or a part, or a cut
-string_event : (kind : StringKind) (head bytes after left : List ℕ) (more : Bool) (e : ExtendedEvent) → Comes kind head bytes after more left e
+pub string_event : (kind : StringKind) (head bytes after left : List ℕ) (more : Bool) (e : Event) → Comes kind head bytes after more left e
     → IsPartOrCut e ⊎ ((e ≡ whole_string kind (head ++ bytes)) × (string_length kind head bytes < most_string))
 string_event kind head bytes after left more e (part full) = inl tt
 string_event kind head bytes after left more e (last rest event short ends) = go left e ends
   where
-    go : (l : List ℕ) (d : ExtendedEvent) → Ends kind (head ++ bytes) after more l d
+    go : (l : List ℕ) (d : Event) → Ends kind (head ++ bytes) after more l d
         → IsPartOrCut d ⊎ ((d ≡ whole_string kind (head ++ bytes)) × (string_length kind head bytes < most_string))
     go l d (ended end l2 is f) = inr (refl, short)
     go l d (cut b l2 f n o) = inl tt
     go l d (cut_by_two l2 f) = inl tt
     go l d (flushed held f) = inl tt
-
--- an event that only a string has
-abbrev pub IsOfString : ExtendedEvent → Type 0
-IsOfString (Osc t) = ⊤
-IsOfString (Dcs t) = ⊤
-IsOfString (Apc t) = ⊤
-IsOfString (StringPart kind t) = ⊤
-IsOfString (StringCut kind t) = ⊤
-IsOfString e = ⊥
-
-whole_of_string : (kind : StringKind) (t : List ℕ) → IsOfString (whole_string kind t)
-whole_of_string kinds.Osc t = tt
-whole_of_string kinds.Dcs t = tt
-whole_of_string kinds.Apc t = tt
-
-part_of_string : (e : ExtendedEvent) → IsPartOrCut e → IsOfString e
-part_of_string (StringPart kind t) h = tt
-part_of_string (StringCut kind t) h = tt
-part_of_string e h = absurd h
-
-pub comes_of_string : (kind : StringKind) (head bytes after left : List ℕ) (more : Bool) (e : ExtendedEvent)
-    → Comes kind head bytes after more left e → IsOfString e
-comes_of_string kind head bytes after left more e comes = ⊎_elim
-    (part_of_string e)
-    (λ whole. subst IsOfString (sym whole.0) (whole_of_string kind (head ++ bytes)))
-    (string_event kind head bytes after left more e comes)
-
--- what an emitted event comes from
-pub data Origin (reading : Reading) (e : ExtendedEvent) : Type 0 where
-  from_extra : (text : List ℕ) → IsExtra reading text e → FromForm text e → Origin reading e
-  from_alt : (r : KeyReport) → e ≡ Key r → Origin reading e
-  from_string : (u : List ℕ) (kind : StringKind) (head bytes after : List ℕ) → IsString u kind head bytes after
-      → e ≡ whole_string kind (head ++ bytes) → string_length kind head bytes < most_string → Origin reading e
-  from_part : IsPartOrCut e → Origin reading e
-  from_port : (i : InputEvent) → e ≡ Input i → FromPort i → Origin reading e
-
-pub origin : (reading : Reading) (e : ExtendedEvent) → Emits reading e → Origin reading e
-origin reading e (u, left, more, stands) = go left e stands
-  where
-    go : (l : List ℕ) (d : ExtendedEvent) → Stands reading u more l d → Origin reading d
-    go l d (extra text l2 event is split) =
-        from_extra text is (extra_event reading text d is)
-    go l d (alt_key text l2 event is bare split) = (let r = alt_report reading text event is.means bare.is_key in from_alt r.0 r.1)
-    go l d (extended_escape l2 split apart) = from_port (input.Key escape) refl (key_event escape refl)
-    go l d (string kind head bytes after l2 event is comes) = ⊎_elim
-        (λ part. from_part part)
-        (λ whole. from_string u kind head bytes after is whole.0 whole.1)
-        (string_event kind head bytes after l2 more event comes)
-    go l d (usual bytes l2 event port_stands split is after) = from_port event refl (item_from u bytes more event port_stands.item)

@@ -2,14 +2,14 @@
 use Rattle.std.proofs.Common.{◌≡◌, ◌≢◌, ◌⊎◌, inl, inr, ℕ, ◌≤◌, true, false, List, [], ◌∷◌, ◌++◌, length, refl, sym, subst, arith, decimal, None}
 use Rattle.std.specs.Prelude.{flat_map}
 use Rattle.std.specs.List.{AllByRecursion}
-use Rattle.termwiz_extended_events.specs.declared.types.ExtendedEvent.TheVariants.{Csi}
+use Rattle.termwiz_extended_events.specs.declared.types.Event.TheVariants.{Csi}
 use Rattle.termwiz_extended_events.specs.declared.types.Reading.{Reading}
 use Rattle.termwiz_extended_events.specs.Numbers.{after_start}
 use Rattle.termwiz_extended_events.specs.ReportedKeys.{entry_at, lettered_keys}
 use Rattle.termwiz_extended_events.specs.KeyReports.{further_key}
 use Rattle.termwiz_extended_events.specs.Replies.{urxvt_mouse, mouse_report, sgr_side_button, urxvt_side_button, side_button}
 use Rattle.termwiz_extended_grammar.specs.Forms.{most_control}
-use Rattle.termwiz_extended_grammar.specs.Readings.{is_asking}
+use Rattle.termwiz_extended_grammar.specs.Readings.{ReadsMore, is_asking}
 use Rattle.termwiz_keymap.proofs.lemmas.lists.CommonPrefixes.{append-some}
 use Rattle.termwiz_extended_grammar.proofs.lemmas.forms.FormBytes.{all_append}
 use Rattle.termwiz_kitty.proofs.lemmas.read_back.FieldSplits.{before_other_end}
@@ -62,29 +62,29 @@ module _ (body : List ℕ) (last : ℕ) (unread : IsUnread last) where
   ) refl
 
   -- so it is a control sequence
-  reply_means : (reading : Reading) → AllByRecursion IsParameter body → IsEnd last → length (written marked last) ≤ most_control
+  reply_means : (reading : Reading) → ReadsMore reading → AllByRecursion IsParameter body → IsEnd last → length (written marked last) ≤ most_control
       → IsReadAtOnce reading (Csi (marked ++ last ∷ [])) (written marked last)
-  reply_means reading a is short more =
-      control_means reading marked last (Csi (marked ++ last ∷ [])) more ((omega arith, omega arith), a) is (λ h. cc (h)) short (no_mark body last)
+  reply_means reading reads a is short more =
+      control_means reading marked last (Csi (marked ++ last ∷ [])) more reads ((omega arith, omega arith), a) is (λ h. cc (h)) short (no_mark body last)
       (event_by_none (is_asking reading) (marked ++ last ∷ []) is_other no_side (no_console 63 (body ++ last ∷ []) refl) no_further)
 
 -- the colours
 abbrev scheme : ℕ → List ℕ
 scheme x = 63 ∷ 57 ∷ 57 ∷ 55 ∷ 59 ∷ x ∷ 110 ∷ []
 
-scheme_means : (reading : Reading) (x : ℕ) (bytes : List ℕ) → (49 ≤ x) × (x ≤ 50) → 27 ∷ 91 ∷ scheme x ≡ 27 ∷ 91 ∷ bytes
+scheme_means : (reading : Reading) (x : ℕ) (bytes : List ℕ) → ReadsMore reading → (49 ≤ x) × (x ≤ 50) → 27 ∷ 91 ∷ scheme x ≡ 27 ∷ 91 ∷ bytes
     → IsReadAtOnce reading (Csi bytes) (27 ∷ 91 ∷ scheme x)
-scheme_means reading x bytes is e =
+scheme_means reading x bytes reads is e =
     let digits : AllByRecursion IsParameter (57 ∷ 57 ∷ 55 ∷ 59 ∷ x ∷ []) = (
       (omega arith, omega arith),
       ((omega arith, omega arith), ((omega arith, omega arith), ((omega arith, omega arith), ((omega arith, omega arith), tt)))),
     ) in
     subst (λ t. IsReadAtOnce reading (Csi t) (27 ∷ 91 ∷ scheme x)) (let same : scheme x ≡ bytes = cc (e) in same)
-    (reply_means (57 ∷ 57 ∷ 55 ∷ 59 ∷ x ∷ []) 110 (inr refl) reading digits (omega arith, omega arith) (omega arith))
+    (reply_means (57 ∷ 57 ∷ 55 ∷ 59 ∷ x ∷ []) 110 (inr refl) reading reads digits (omega arith, omega arith) (omega arith))
 
 pub schemes_read_back : SchemesReadBack
-schemes_read_back reading true bytes e = scheme_means reading 49 bytes (omega arith, omega arith) e
-schemes_read_back reading false bytes e = scheme_means reading 50 bytes (omega arith, omega arith) e
+schemes_read_back reading true bytes reads e = scheme_means reading 49 bytes reads (omega arith, omega arith) e
+schemes_read_back reading false bytes reads e = scheme_means reading 50 bytes reads (omega arith, omega arith) e
 
 -- attributes
 further_parameters : (ns : List ℕ) → AllByRecursion IsWord ns → AllByRecursion IsParameter (flat_map further_number ns)
@@ -99,7 +99,7 @@ numbers_parameters (n ∷ ns) a =
 
 pub attributes_read_back : AttributesReadBack
 unfolding attributes_text
-attributes_read_back reading ns bytes a e short =
+attributes_read_back reading ns bytes reads a e short =
     subst (λ t. IsReadAtOnce reading (Csi t) (written (63 ∷ numbers_parted ns) 99))
     (let same : 63 ∷ numbers_parted ns ++ 99 ∷ [] ≡ bytes = cc (e) in same)
-    (reply_means (numbers_parted ns) 99 (inl refl) reading (numbers_parameters ns a) (omega arith, omega arith) short)
+    (reply_means (numbers_parted ns) 99 (inl refl) reading reads (numbers_parameters ns a) (omega arith, omega arith) short)

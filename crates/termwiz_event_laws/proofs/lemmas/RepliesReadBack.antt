@@ -1,4 +1,4 @@
--- The focus, positions, sizes and flags are read back at once, by every reading.
+-- The focus, positions, sizes and flags are read back at once, where more than the port's sequences is read.
 use Rattle.std.proofs.Common.{◌≡◌, ◌≢◌, ◌⊎◌, inl, inr, ℕ, ◌+◌, ◌-◌, ◌^◌, ◌<◌, ◌≤◌, Bool, true, false, ◌&&◌, nat_le, nat_lt, List, [], ◌∷◌, ◌++◌, length, refl, sym, ap, ◌∙◌, subst, arith, append_assoc, append-nil, length-append, decimal, Option, Some, None}
 use Rattle.std.specs.Prelude.{codes, ◌==◌, option_map, if◌then◌else◌}
 use Rattle.std.specs.Fmt.{digits}
@@ -7,15 +7,15 @@ use Rattle.std.proofs.lemmas.Bool.Decides.{nat_tests}
 use Rattle.termwiz_grammar.specs.MouseReports.{value_of}
 use Rattle.termwiz_keys.specs.declared.types.KeyCode.TheVariants.{Function}
 use Rattle.termwiz_keys.specs.Introducers.{CSI}
-use Rattle.termwiz_keys.specs.declared.types.KeyEvent.{KeyEvent}
-use Rattle.termwiz_grammar.specs.Sequences.Meaning.{Row}
-use Rattle.termwiz_extended_events.specs.declared.types.ExtendedEvent.{ExtendedEvent}
-use Rattle.termwiz_extended_events.specs.declared.types.ExtendedEvent.TheVariants.{Key, FocusGained, FocusLost, CursorPosition, Resize, KeyboardFlags}
+use Rattle.termwiz_extended_events.specs.declared.types.Event.{Event}
+use Rattle.termwiz_extended_events.specs.declared.types.Event.TheVariants.{Key, FocusGained, FocusLost, CursorPosition, Resize, KeyboardFlags}
 use Rattle.termwiz_extended_events.specs.declared.types.KeyEventKind.TheVariants.{Press}
 use Rattle.termwiz_extended_events.specs.declared.types.KeyReport.{KeyReport}
 use Rattle.termwiz_extended_events.specs.declared.types.Manner.{Manner}
-use Rattle.termwiz_extended_events.specs.declared.types.Protocol.{Protocol}
-use Rattle.termwiz_extended_events.specs.declared.types.Protocol.TheVariants.{Legacy, Kitty}
+use Rattle.termwiz_extended_events.specs.Meanings.{IsKeyOrPosition}
+use Rattle.termwiz_extended_events.specs.PortEvents.{told}
+use Rattle.termwiz_keys.specs.declared.types.InputEvent.{InputEvent}
+use Rattle.termwiz_keys.specs.declared.types.InputEvent.TheVariants as input
 use Rattle.termwiz_extended_events.specs.declared.types.Reading.{Reading}
 use Rattle.termwiz_extended_events.specs.declared.types.ReportedKey.TheVariants.{Named}
 use Rattle.termwiz_extended_events.specs.KeyReports.{modifiers_of, manner_of, report_of, codes_of, character_key, is_one_or_missing, third_function_key}
@@ -24,34 +24,35 @@ use Rattle.termwiz_extended_events.specs.Numbers.{fields, after_start, is_digits
 use Rattle.termwiz_extended_events.specs.Replies.{focus, position_of_fields, marked_position_of_fields, cursor_position, keyboard_flags, size_of_fields, resize, reply}
 use Rattle.termwiz_extended_grammar.specs.ExtendedGrammar.{Stands}
 use Rattle.termwiz_extended_grammar.specs.ExtendedGrammar.Stands.{extra, alt_key, lone_escape, string, usual}
-use Rattle.termwiz_extended_grammar.specs.ExtraSequences.{Overrides, IsFree}
-use Rattle.termwiz_extended_grammar.specs.Readings.{is_asking, event_in}
+use Rattle.termwiz_extended_grammar.specs.ExtraSequences.{IsFree}
+use Rattle.termwiz_extended_grammar.specs.Readings.{ReadsMore, is_asking, event_in}
 use Rattle.termwiz_kitty.proofs.lemmas.read_back.FieldSplits.{before_end_here, one_field, one_part}
 use Rattle.termwiz_senders.specs.EventTexts.{position_text, size_text, flags_text, IsReadAtOnce}
 use Rattle.termwiz_senders.proofs.lemmas.WrittenNumbers.{digits_of, field_of, number_back}
+use Rattle.termwiz_senders.proofs.lemmas.StringsAlone.{IsOfString, comes_of_string}
 use Rattle.termwiz_event_laws.specs.EventLaws.{IsPlace, IsToldPlainly, PositionsReadBack}
 use Rattle.termwiz_event_laws.proofs.lemmas.ControlTexts.{written, IsParameter, IsEnd, IsClear, IsUnknown, free_means, control_means, no_mark}
 use Rattle.termwiz_event_laws.proofs.lemmas.ReportRows.{IsUnsigned, no_report_end, low_position}
 use Rattle.termwiz_event_laws.proofs.lemmas.UnreadEnds.{and_false, no_number, no_focus, no_character, no_key, no_cursor, no_flags, no_third, unasked_none, event_by_reply, event_by_third}
 use Rattle.termwiz_event_laws.proofs.lemmas.KeyReportsBack.{modifiers_back}
-use Rattle.termwiz_event_laws.proofs.lemmas.Origins.{alt_report, IsOfString, comes_of_string}
+use Rattle.termwiz_event_laws.proofs.lemmas.Origins.{alt_report}
 use Rattle.termwiz_event_laws.proofs.lemmas.WrittenWords.{word_parameters, word_short, word_back, place_back, followed, followed_parameters, followed_short, unsigned, unmarked, two_fields, four_fields}
 
 -- the focus
 
-focus_means : (reading : Reading) (last : ℕ) (e : ExtendedEvent) → IsEnd last → IsClear [] last → IsUnknown [] last
+focus_means : (reading : Reading) (last : ℕ) (e : Event) → ReadsMore reading → IsEnd last → IsClear [] last → IsUnknown [] last
     → event_in reading (written [] last) ≡ e
     → IsReadAtOnce reading e (written [] last)
-focus_means reading last e is clear unknown means more = control_means reading [] last e more tt is clear (omega arith) unknown means
+focus_means reading last e reads is clear unknown means more = control_means reading [] last e more reads tt is clear (omega arith) unknown means
 
-pub focus_gained : (reading : Reading) → IsReadAtOnce reading FocusGained (CSI ++ codes "I")
+pub focus_gained : (reading : Reading) → ReadsMore reading → IsReadAtOnce reading FocusGained (CSI ++ codes "I")
 unfolding event_of event_after reported focus
-focus_gained reading = focus_means reading 73 FocusGained (omega arith, omega arith) (λ h. ((λ e. omega arith), (λ e. omega arith)))
+focus_gained reading reads = focus_means reading 73 FocusGained reads (omega arith, omega arith) (λ h. ((λ e. omega arith), (λ e. omega arith)))
     (no_report_end [] 73 refl (λ t e. (let same : ◌≡◌ {A = ℕ} 73 60 = cc (e) in omega arith))) refl
 
-pub focus_lost : (reading : Reading) → IsReadAtOnce reading FocusLost (CSI ++ codes "O")
+pub focus_lost : (reading : Reading) → ReadsMore reading → IsReadAtOnce reading FocusLost (CSI ++ codes "O")
 unfolding event_of event_after reported focus
-focus_lost reading = focus_means reading 79 FocusLost (omega arith, omega arith) (λ h. ((λ e. omega arith), (λ e. omega arith)))
+focus_lost reading reads = focus_means reading 79 FocusLost reads (omega arith, omega arith) (λ h. ((λ e. omega arith), (λ e. omega arith)))
     (no_report_end [] 79 refl (λ t e. (let same : ◌≡◌ {A = ℕ} 79 60 = cc (e) in omega arith))) refl
 
 -- what has numbers is clear
@@ -64,8 +65,17 @@ followed_some text n = omega (arith, length-append (text ++ 59 ∷ []) (decimal 
 length_written : (body : List ℕ) (last : ℕ) → length (written body last) ≡ length body + 3
 length_written body last = omega (arith, length-append body (last ∷ []))
 
+-- no event of the port is told as a position
+told_no_position : (reading : Reading) (bytes : List ℕ) (event : InputEvent) (row column : ℕ) → told reading bytes event ≡ CursorPosition row column → ⊥
+told_no_position reading bytes (input.Key k) row column e = cc (e)
+told_no_position reading bytes (input.Mouse event) row column e = cc (e)
+told_no_position reading bytes (input.PixelMouse event) row column e = cc (e)
+told_no_position reading bytes (input.Resized c r) row column e = cc (e)
+told_no_position reading bytes (input.Paste text) row column e = cc (e)
+told_no_position reading bytes input.Wake row column e = cc (e)
+
 -- a text whose event is a key is no position alone
-no_position : (reading : Reading) (u left : List ℕ) (more : Bool) (e : ExtendedEvent) (row column : ℕ) (r : KeyReport)
+no_position : (reading : Reading) (u left : List ℕ) (more : Bool) (e : Event) (row column : ℕ) (r : KeyReport)
     → Stands reading u more left e → e ≡ CursorPosition row column → left ≡ [] → event_in reading u ≡ Key r → ⊥
 no_position reading u left more e row column r (extra text l d is split) same none told =
     let whole : u ≡ text = split ∙ ap (λ z. text ++ z) none ∙ append-nil text in
@@ -77,9 +87,10 @@ no_position reading u left more e row column r (alt_key text l d is bare split) 
     let both : Key key.0 ≡ CursorPosition row column = sym key.1 ∙ same in
     cc (both)
 no_position reading u left more e row column r (lone_escape l split apart) same none told = cc (same)
-no_position reading u left more e row column r (string kind head bytes after l d is comes) same none told =
+no_position reading u left more e row column r (string kind head bytes after l d reads is comes) same none told =
     subst IsOfString same (comes_of_string kind head bytes after l more d comes)
-no_position reading u left more e row column r (usual bytes l d stands split here behind) same none told = cc (same)
+no_position reading u left more e row column r (usual bytes l d stands split here behind) same none answer =
+    told_no_position reading bytes d row column same
 
 -- F3 has a 1 before its modifiers, or nothing, and its modifiers are 1 to 256
 
@@ -190,11 +201,11 @@ module _ (row column : ℕ) (above : IsPlace row) (beside : IsPlace column) wher
   plain_unasked reading (inl asked) = (let asks : is_asking reading ≡ true = grind (arith, nat_tests) in rw asks refl)
   plain_unasked reading (inr place) = unasked_none (is_asking reading) (followed (decimal row) column ++ 82 ∷ []) (plain_no_third place)
 
-  pub private_position : (reading : Reading) → IsReadAtOnce reading (CursorPosition row column) (position_text row column true)
+  pub private_position : (reading : Reading) → ReadsMore reading → IsReadAtOnce reading (CursorPosition row column) (position_text row column true)
   unfolding position_text
-  private_position reading more =
+  private_position reading reads more =
       let body = 63 ∷ followed (decimal row) column in
-      control_means reading body 82 (CursorPosition row column) more ((omega arith, omega arith), parameters) (omega arith, omega arith)
+      control_means reading body 82 (CursorPosition row column) more reads ((omega arith, omega arith), parameters) (omega arith, omega arith)
       (clear_from body 82 (omega arith)) (omega (arith, length_written body 82, short)) (no_mark (followed (decimal row) column) 82)
       (position_is reading body (unasked_none (is_asking reading) (body ++ 82 ∷ []) private_no_third) private_back)
 
@@ -203,38 +214,20 @@ module _ (row column : ℕ) (above : IsPlace row) (beside : IsPlace column) wher
   unsigned_place t e =
       unsigned row (59 ∷ decimal column) 82 f t (ap (λ u. u ++ 82 ∷ []) (sym (append_assoc (decimal row) (59 ∷ []) (decimal column))) ∙ e)
 
-  overrides : (protocol : Protocol) (questions : ℕ) (e : ExtendedEvent) → CursorPosition row column ≡ e → 0 < questions
-      → Overrides protocol questions e
-  overrides protocol questions e same some = subst (Overrides protocol questions) same (go protocol)
-    where
-      go : (p : Protocol) → Overrides p questions (CursorPosition row column)
-      go Kitty = tt
-      go Legacy = (some, tt)
-
   plain_free : (reading : Reading) → IsToldPlainly reading row column → IsFree reading (written (followed (decimal row) column) 82)
-  plain_free reading told m is = go told
-    where
-      found : (k : KeyEvent) × (m ≡ Row k) × (row ≡ 1) × (1 ≤ column) × (column ≤ 16)
-      found = low_position (followed (decimal row) column) row column m unsigned_place plain_back is
-
-      go : IsToldPlainly reading row column
-          → (k : KeyEvent) × (m ≡ Row k)
-          × Overrides reading.protocol reading.questions (event_in reading (written (followed (decimal row) column) 82))
-      go (inl asked) = (
+  plain_free reading told m is =
+      let found = low_position (followed (decimal row) column) row column m unsigned_place plain_back is in (
         found.0,
         found.1,
-        overrides reading.protocol reading.questions _
-            (sym (position_is reading (followed (decimal row) column) (plain_unasked reading told) plain_back)) asked,
+        subst IsKeyOrPosition (sym (position_is reading (followed (decimal row) column) (plain_unasked reading told) plain_back)) tt,
       )
-      go (inr (inl other)) = absurd (other found.2)
-      go (inr (inr far)) = absurd (omega (arith, far, found.4))
 
-  pub plain_position : (reading : Reading) → IsToldPlainly reading row column
+  pub plain_position : (reading : Reading) → ReadsMore reading → IsToldPlainly reading row column
       → IsReadAtOnce reading (CursorPosition row column) (position_text row column false)
   unfolding position_text
-  plain_position reading told more =
+  plain_position reading reads told more =
       let body = followed (decimal row) column in
-      free_means reading body 82 (CursorPosition row column) more parameters (omega arith, omega arith)
+      free_means reading body 82 (CursorPosition row column) more reads parameters (omega arith, omega arith)
       (clear_from body 82 (followed_some (decimal row) column)) (omega (arith, length_written body 82, short)) (plain_free reading told)
       (position_is reading body (plain_unasked reading told) plain_back)
 
@@ -277,9 +270,9 @@ module _ (row column : ℕ) (above : IsPlace row) (beside : IsPlace column) wher
           once.steps.2 key.1)
 
 pub positions_read_back : PositionsReadBack
-positions_read_back reading row column above beside = (
-  private_position row column above beside reading,
-  (plain_position row column above beside reading, told_plainly row column above beside reading),
+positions_read_back reading row column reads above beside = (
+  private_position row column above beside reading reads,
+  (plain_position row column above beside reading reads, told_plainly row column above beside reading),
 )
 
 -- sizes
@@ -321,10 +314,10 @@ module _ (rows columns height width : ℕ) (a : rows < 2 ^ 16) (b : columns < 2 
       (unasked_none (is_asking reading) (size_body ++ 116 ∷ []) (no_third size_body 116 (λ e. omega arith)))
       (rw (no_cursor size_body 116 (λ e. omega arith), no_flags size_body 116 (λ e. omega arith), resize_back) refl)
 
-  pub size_read_back : (reading : Reading) → IsReadAtOnce reading (Resize rows columns height width) (size_text rows columns height width)
+  pub size_read_back : (reading : Reading) → ReadsMore reading → IsReadAtOnce reading (Resize rows columns height width) (size_text rows columns height width)
   unfolding size_text
-  size_read_back reading more =
-      control_means reading size_body 116 (Resize rows columns height width) more size_parameters (omega arith, omega arith)
+  size_read_back reading reads more =
+      control_means reading size_body 116 (Resize rows columns height width) more reads size_parameters (omega arith, omega arith)
       (clear_from size_body 116 (omega arith)) (omega (arith, length_written size_body 116, size_short))
       (no_report_end size_body 116 refl (λ t e. (let same : ◌≡◌ {A = ℕ} 52 60 = cc (e) in omega arith))) (size_is reading)
 
@@ -359,10 +352,10 @@ module _ (flags : ℕ) (small : flags < 2 ^ 8) where
       (unasked_none (is_asking reading) (body ++ 117 ∷ []) (no_third body 117 (λ e. omega arith)))
       (rw (no_cursor body 117 (λ e. omega arith), flags_back) refl)
 
-  pub flags_read_back : (reading : Reading) → IsReadAtOnce reading (KeyboardFlags flags) (flags_text flags)
+  pub flags_read_back : (reading : Reading) → ReadsMore reading → IsReadAtOnce reading (KeyboardFlags flags) (flags_text flags)
   unfolding flags_text
-  flags_read_back reading more =
+  flags_read_back reading reads more =
       let body = 63 ∷ decimal flags in
-      control_means reading body 117 (KeyboardFlags flags) more ((omega arith, omega arith), word_parameters flags word) (omega arith, omega arith)
+      control_means reading body 117 (KeyboardFlags flags) more reads ((omega arith, omega arith), word_parameters flags word) (omega arith, omega arith)
       (clear_from body 117 (omega arith)) (omega (arith, length_written body 117, word_short flags word)) (no_mark (decimal flags) 117)
       (flags_is reading)

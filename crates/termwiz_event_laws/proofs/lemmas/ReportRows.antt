@@ -11,8 +11,8 @@ use Rattle.termwiz_grammar.specs.Sequences.{Meaning, IsSequence}
 use Rattle.termwiz_grammar.specs.Sequences.Meaning.{Row, Report}
 use Rattle.termwiz_grammar.specs.Table.{TableRow, rows, written_out}
 use Rattle.termwiz_grammar.proofs.lemmas.mouse.OneReport.{report_plain}
-use Rattle.termwiz_extended_events.specs.declared.types.ExtendedEvent.{ExtendedEvent}
-use Rattle.termwiz_extended_events.specs.declared.types.ExtendedEvent.TheVariants.{CursorPosition}
+use Rattle.termwiz_extended_events.specs.declared.types.Event.{Event}
+use Rattle.termwiz_extended_events.specs.declared.types.Event.TheVariants.{CursorPosition}
 use Rattle.termwiz_extended_events.specs.Numbers.{before_end, after_start, number_within}
 use Rattle.termwiz_extended_events.specs.Replies.{cursor_position}
 use Rattle.termwiz_event_laws.proofs.lemmas.ControlTexts.{written, IsUnknown}
@@ -64,7 +64,7 @@ no_report_end body last e other m is =
 
 -- a row that ends in R is F3 with modifiers: a position in row 1 and the columns 1 to 16
 
-abbrev is_low : Option ExtendedEvent → Bool
+abbrev is_low : Option Event → Bool
 is_low (Some (CursorPosition row column)) = (row == 1) && (nat_le 1 column && nat_le column 16)
 is_low _ = true
 

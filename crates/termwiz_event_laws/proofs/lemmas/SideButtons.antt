@@ -4,17 +4,18 @@ use Rattle.std.specs.Prelude.{◌==◌, option_and_then, if◌then◌else◌}
 use Rattle.std.proofs.lemmas.Bool.Decides.{nat_tests}
 use Rattle.std.proofs.lemmas.Option.{option_and_then_some}
 use Rattle.termwiz_base.specs.Mouse.{modifiers_of}
-use Rattle.termwiz_base.specs.declared.modifiers.Modifiers.{Modifiers}
-use Rattle.termwiz_extended_events.specs.declared.types.ExtendedEvent.TheVariants.{SideButton}
+use Rattle.termwiz_extended_events.specs.declared.types.Event.TheVariants.{Mouse}
 use Rattle.termwiz_extended_events.specs.declared.types.Reading.{Reading}
-use Rattle.termwiz_extended_events.specs.declared.types.SideButtonEvent.{SideButtonEvent}
-use Rattle.termwiz_extended_events.specs.declared.types.SideButtonKind.{SideButtonKind}
-use Rattle.termwiz_extended_events.specs.declared.types.SideButtonKind.TheVariants.{Press, Release, Drag}
+use Rattle.termwiz_extended_events.specs.declared.types.MouseReport.{MouseReport}
+use Rattle.termwiz_extended_events.specs.declared.types.MouseKind.{MouseKind}
+use Rattle.termwiz_extended_events.specs.declared.types.MouseKind.TheVariants.{Press, Release, Drag}
+use Rattle.termwiz_extended_events.specs.MouseReports.{side_report}
+use Rattle.termwiz_extended_grammar.specs.Readings.{ReadsMore}
 use Rattle.termwiz_extended_events.specs.Numbers.{fields, after_start, before_end, first_some, number_within, short_number}
 use Rattle.termwiz_extended_events.specs.ReportedKeys.{entry_at}
-use Rattle.termwiz_extended_events.specs.Replies.{side_event, side_button_kind, side_held, side_at, side_of_fields, sgr_side_button, urxvt_side_button, x10_side_button, side_button}
+use Rattle.termwiz_extended_events.specs.Replies.{side_held, side_at, side_of_fields, sgr_side_button, urxvt_side_button, x10_side_button, side_button}
 use Rattle.termwiz_senders.specs.declared.mouse.MouseTracking.TheVariants.{Any}
-use Rattle.termwiz_senders.specs.EventTexts.{tells_modifiers, side_codes, side_move, side_last, side_text_by, side_button_text, IsReadAtOnce}
+use Rattle.termwiz_senders.specs.EventTexts.{tells_modifiers, side_codes, side_move, side_last, side_text, side_event_text, further_mouse_text, IsReadAtOnce}
 use Rattle.termwiz_senders.specs.MouseTexts.{sgr_text}
 use Rattle.termwiz_senders.proofs.lemmas.MouseCodes.{bits, held_bits}
 use Rattle.termwiz_event_laws.proofs.lemmas.SideReports.{told_by, side_report_means}
@@ -56,21 +57,43 @@ side_of n code e =
       ),
     ) e
 
+-- what happens to them
+pub data Happens : Type 0 where
+  pressed : Happens
+  released : Happens
+  dragged : Happens
+
+abbrev pub kind_at : Happens → MouseKind
+kind_at pressed = Press
+kind_at released = Release
+kind_at dragged = Drag
+
 -- the code of a report
-abbrev code_of : Side → SideButtonKind → Bool → Bool → Bool → ℕ
+abbrev code_of : Side → MouseKind → Bool → Bool → Bool → ℕ
 code_of b kind s a c = first_code b + side_move kind + bits 4 8 16 s a c
 
 -- whether a code is within its limits, and what it tells
 abbrev Said : Type 0
-Said = Bool × Bool × (ℕ → ℕ → SideButtonEvent)
+Said = Bool × Bool × (ℕ → ℕ → MouseReport)
 
-abbrev said : SideButtonKind → ℕ → Said
+abbrev said : MouseKind → ℕ → Said
 said kind code = (nat_le 128 code, nat_le code 191, told_by kind (code - 128))
 
 -- it tells the button, what happened, and the modifiers
-abbrev Tells : Side → SideButtonKind → Bool → Bool → Bool → Type 0
+abbrev Tells : Side → MouseKind → Bool → Bool → Bool → Type 0
 Tells b kind s a c = said kind (code_of b kind s a c)
-    ≡ (true, true, λ x y. record { number = number_of b; kind = kind; x = x; y = y; modifiers = record { 0 = bits 2 4 8 s a c } })
+    ≡ (
+      true,
+      true,
+      λ x y. record {
+        x = x;
+        y = y;
+        modifiers = record { 0 = bits 2 4 8 s a c };
+        buttons = record { 0 = 0 };
+        kind = kind;
+        button = Some (number_of b);
+      },
+    )
 
 each_bit : (P : Bool → Bool → Bool → Type 0) → P true true true → P true true false → P true false true → P true false false
     → P false true true → P false true false → P false false true → P false false false → (s a c : Bool) → P s a c
@@ -83,55 +106,27 @@ each_bit P p q r t u v w x false true false = v
 each_bit P p q r t u v w x false false true = w
 each_bit P p q r t u v w x false false false = x
 
-tells : (b : Side) (kind : SideButtonKind) (s a c : Bool) → Tells b kind s a c
+tells : (b : Side) (h : Happens) (s a c : Bool) → Tells b (kind_at h) s a c
 unfolding modifiers_of
-tells eight Press = each_bit (Tells eight Press) refl refl refl refl refl refl refl refl
-tells eight Release = each_bit (Tells eight Release) refl refl refl refl refl refl refl refl
-tells eight Drag = each_bit (Tells eight Drag) refl refl refl refl refl refl refl refl
-tells nine Press = each_bit (Tells nine Press) refl refl refl refl refl refl refl refl
-tells nine Release = each_bit (Tells nine Release) refl refl refl refl refl refl refl refl
-tells nine Drag = each_bit (Tells nine Drag) refl refl refl refl refl refl refl refl
-tells ten Press = each_bit (Tells ten Press) refl refl refl refl refl refl refl refl
-tells ten Release = each_bit (Tells ten Release) refl refl refl refl refl refl refl refl
-tells ten Drag = each_bit (Tells ten Drag) refl refl refl refl refl refl refl refl
-tells eleven Press = each_bit (Tells eleven Press) refl refl refl refl refl refl refl refl
-tells eleven Release = each_bit (Tells eleven Release) refl refl refl refl refl refl refl refl
-tells eleven Drag = each_bit (Tells eleven Drag) refl refl refl refl refl refl refl refl
+tells eight pressed = each_bit (Tells eight Press) refl refl refl refl refl refl refl refl
+tells eight released = each_bit (Tells eight Release) refl refl refl refl refl refl refl refl
+tells eight dragged = each_bit (Tells eight Drag) refl refl refl refl refl refl refl refl
+tells nine pressed = each_bit (Tells nine Press) refl refl refl refl refl refl refl refl
+tells nine released = each_bit (Tells nine Release) refl refl refl refl refl refl refl refl
+tells nine dragged = each_bit (Tells nine Drag) refl refl refl refl refl refl refl refl
+tells ten pressed = each_bit (Tells ten Press) refl refl refl refl refl refl refl refl
+tells ten released = each_bit (Tells ten Release) refl refl refl refl refl refl refl refl
+tells ten dragged = each_bit (Tells ten Drag) refl refl refl refl refl refl refl refl
+tells eleven pressed = each_bit (Tells eleven Press) refl refl refl refl refl refl refl refl
+tells eleven released = each_bit (Tells eleven Release) refl refl refl refl refl refl refl refl
+tells eleven dragged = each_bit (Tells eleven Drag) refl refl refl refl refl refl refl refl
 
--- what is written of an event, in parts
-record IsWritten (e : SideButtonEvent) (bytes : List ℕ) : Type 0 where
-  code : ℕ
-  found : entry_at side_codes e.number ≡ Some code
-  told : tells_modifiers e.modifiers ≡ true
-  sent : side_text_by e code ≡ bytes
-
-written_parts : (e : SideButtonEvent) (bytes : List ℕ) → side_button_text e ≡ Some bytes → IsWritten e bytes
-unfolding side_button_text
-written_parts e bytes is = go (tells_modifiers e.modifiers) refl
-  where
-    go : (v : Bool) → tells_modifiers e.modifiers ≡ v → IsWritten e bytes
-    go true told =
-        option_and_then_some (λ code. Some (side_text_by e code)) (entry_at side_codes e.number) bytes (rw told at is)
-        (λ code found sent. record { code = code; found = found; told = told; sent = cc (sent) })
-    go false told = absurd (let none : None ≡ Some bytes = rw told at is in cc (none))
-
-pub side_read_back : (reading : Reading) (e : SideButtonEvent) (bytes : List ℕ) → e.x < 2 ^ 16 → e.y < 2 ^ 16 → side_button_text e ≡ Some bytes
-    → IsReadAtOnce reading (SideButton e) bytes
-side_read_back reading e bytes f g is =
-    let w = written_parts e bytes is in
-    let side = side_of e.number w.code w.found in
-    let h = held_bits Any e.modifiers.0 in
-    let t = tells side.side e.kind h.s h.a h.c in
-    let code = code_of side.side e.kind h.s h.a h.c in
-    let low : 128 ≤ code = at_least code (ap (λ v. v.0) t) in
-    let high : code ≤ 191 = at_most code (ap (λ v. v.1) t) in
-    let held : record { 0 = bits 2 4 8 h.s h.a h.c } ≡ e.modifiers = ap (λ n. record { 0 = n }) (sym (h.counts 2 4 8) ∙ told_again e.modifiers w.told) in
-    let its : told_by e.kind (code - 128) e.x e.y ≡ e = ap (λ v. v.2 e.x e.y) t ∙ same_event side.number held in
-    let text : sgr_text code e.x e.y (side_last e.kind) ≡ bytes =
-    ap (λ n. sgr_text n e.x e.y (side_last e.kind)) (same_code side.coded (sym (h.counts 4 8 16))) ∙ w.sent in
-    subst (IsReadAtOnce reading (SideButton e)) text
-    (subst (λ d. IsReadAtOnce reading (SideButton d) (sgr_text code e.x e.y (side_last e.kind))) its
-    (side_report_means reading e.kind code e.x e.y low high f g))
+-- what is written of a side button is read back
+pub side_read_back : (reading : Reading) (e : MouseReport) (n : ℕ) (h : Happens) (bytes : List ℕ) → ReadsMore reading → e.x < 2 ^ 16
+    → e.y < 2 ^ 16 → tells_modifiers e.modifiers ≡ true → e.buttons.0 ≡ 0 → e.kind ≡ kind_at h → e.button ≡ Some n
+    → side_event_text e n ≡ Some bytes → IsReadAtOnce reading (Mouse e) bytes
+side_read_back reading e n h bytes reads f g modifiers down kind named is =
+    option_and_then_some (λ code. Some (side_text e code)) (entry_at side_codes n) bytes is by_code
   where
     at_least : (n : ℕ) → nat_le 128 n ≡ true → 128 ≤ n
     at_least n k = grind (arith, nat_tests)
@@ -139,16 +134,33 @@ side_read_back reading e bytes f g is =
     at_most : (n : ℕ) → nat_le n 191 ≡ true → n ≤ 191
     at_most n k = grind (arith, nat_tests)
 
-    same_code : {n m k l : ℕ} → n ≡ m → k ≡ l → n + side_move e.kind + k ≡ m + side_move e.kind + l
-    same_code p q = cc (p, q)
-
-    same_event : {n : ℕ} {m : Modifiers} → n ≡ e.number → m ≡ e.modifiers
-        → record { number = n; kind = e.kind; x = e.x; y = e.y; modifiers = m } ≡ e
-    same_event p q = ap₂ (λ n m. record { number = n; kind = e.kind; x = e.x; y = e.y; modifiers = m }) p q
+    by_code : (code : ℕ) → entry_at side_codes n ≡ Some code → Some (side_text e code) ≡ Some bytes → IsReadAtOnce reading (Mouse e) bytes
+    by_code coded found sent =
+        let side = side_of n coded found in
+        let held = held_bits Any e.modifiers.0 in
+        let t = tells side.side h held.s held.a held.c in
+        let code = code_of side.side (kind_at h) held.s held.a held.c in
+        let low : 128 ≤ code = at_least code (ap (λ v. v.0) t) in
+        let high : code ≤ 191 = at_most code (ap (λ v. v.1) t) in
+        let its : record { 0 = bits 2 4 8 held.s held.a held.c } ≡ e.modifiers =
+        ap (λ n. record { 0 = n }) (sym (held.counts 2 4 8) ∙ told_again e.modifiers modifiers) in
+        let number : Some (number_of side.side) ≡ e.button = ap (λ n. Some n) side.number ∙ sym named in
+        let same : told_by (kind_at h) (code - 128) e.x e.y ≡ e =
+        ap (λ v. v.2 e.x e.y) t
+        ∙ ap₂ (λ m b. record { x = e.x; y = e.y; modifiers = m; buttons = record { 0 = 0 }; kind = kind_at h; button = b }) its number
+        ∙ ap₂ (λ n k. record { x = e.x; y = e.y; modifiers = e.modifiers; buttons = record { 0 = n }; kind = k; button = e.button }) (sym down) (sym kind) in
+        let text : sgr_text code e.x e.y (side_last (kind_at h)) ≡ bytes =
+        ap₂ (λ n k. sgr_text n e.x e.y (side_last k)) (same_code side.coded (sym (held.counts 4 8 16))) (sym kind) ∙ cc (sent) in
+        subst (IsReadAtOnce reading (Mouse e)) text
+        (subst (λ d. IsReadAtOnce reading (Mouse d) (sgr_text code e.x e.y (side_last (kind_at h)))) same
+        (side_report_means reading (kind_at h) code e.x e.y reads low high f g))
+      where
+        same_code : {n m k l : ℕ} → n ≡ m → k ≡ l → n + side_move (kind_at h) + k ≡ m + side_move e.kind + l
+        same_code p q = cc (p, q, kind)
 
 -- what a report of a side button tells
-abbrev pub IsOfSide : SideButtonEvent → Type 0
-IsOfSide e = (kind : SideButtonKind) × (low : ℕ) × (x : ℕ) × (y : ℕ) × (e ≡ side_event kind low x y)
+abbrev pub IsOfSide : MouseReport → Type 0
+IsOfSide e = (h : Happens) × (low : ℕ) × (x : ℕ) × (y : ℕ) × (e ≡ side_report (kind_at h) low x y)
 
 -- one of four numbers
 number_there : (low : ℕ) → (code : ℕ) × (entry_at side_codes (8 + low % 4) ≡ Some code)
@@ -161,15 +173,22 @@ number_there low = go (low % 4) (omega arith)
     go (suc (suc (suc zero))) h = (131, refl)
     go (suc (suc (suc (suc n)))) h = absurd (omega arith)
 
-pub side_whole : (e : SideButtonEvent) → IsOfSide e → (bytes : List ℕ) × (side_button_text e ≡ Some bytes)
-unfolding side_button_text
-side_whole e (kind, low, x, y, is) =
+pub side_whole : (e : MouseReport) → IsOfSide e → (bytes : List ℕ) × (further_mouse_text e ≡ Some bytes)
+unfolding further_mouse_text
+side_whole e (h, low, x, y, is) =
     let n = number_there low in
-    (side_text_by (side_event kind low x y) n.0, ap side_button_text is ∙ rw (code_tells low, n.1) refl)
+    let report = side_report (kind_at h) low x y in
+    (side_text report n.0, ap further_mouse_text is ∙ by_kind h n.0 n.1)
+  where
+    by_kind : (h : Happens) (code : ℕ) → entry_at side_codes (8 + low % 4) ≡ Some code
+        → further_mouse_text (side_report (kind_at h) low x y) ≡ Some (side_text (side_report (kind_at h) low x y) code)
+    by_kind pressed code found = rw (code_tells low, found) refl
+    by_kind released code found = rw (code_tells low, found) refl
+    by_kind dragged code found = rw (code_tells low, found) refl
 
 -- each rule tells a side button
 
-at_side : (told : ℕ → ℕ → ℕ → SideButtonEvent) (first : ℕ) (code x y : Option ℕ) (e : SideButtonEvent)
+at_side : (told : ℕ → ℕ → ℕ → MouseReport) (first : ℕ) (code x y : Option ℕ) (e : MouseReport)
     → ((low x y : ℕ) → IsOfSide (told low x y)) → side_at told first code x y ≡ Some e → IsOfSide e
 at_side told first (Some code) (Some x) (Some y) e each is =
     subst IsOfSide (let same : told (code - first) x y ≡ e = cc (is) in same) (each (code - first) x y)
@@ -177,7 +196,7 @@ at_side told first None x y e each is = absurd (cc (is))
 at_side told first (Some code) None y e each is = absurd (cc (is))
 at_side told first (Some code) (Some x) None e each is = absurd (cc (is))
 
-fields_side : (told : ℕ → ℕ → ℕ → SideButtonEvent) (first : ℕ) (fs : List (List ℕ)) (e : SideButtonEvent)
+fields_side : (told : ℕ → ℕ → ℕ → MouseReport) (first : ℕ) (fs : List (List ℕ)) (e : MouseReport)
     → ((low x y : ℕ) → IsOfSide (told low x y)) → side_of_fields told first fs ≡ Some e → IsOfSide e
 fields_side told first [] e each is = absurd (cc (is))
 fields_side told first (a ∷ []) e each is = absurd (cc (is))
@@ -187,37 +206,41 @@ fields_side told first (a ∷ b ∷ c ∷ []) e each is =
 fields_side told first (a ∷ b ∷ c ∷ d ∷ fs) e each is = absurd (cc (is))
 
 held_each : (low x y : ℕ) → IsOfSide (side_held low x y)
-held_each low x y = (side_button_kind low, low, x, y, refl)
+held_each low x y = go (nat_le 32 low) refl
+  where
+    go : (b : Bool) → nat_le 32 low ≡ b → IsOfSide (side_held low x y)
+    go true e = (dragged, low, x, y, rw e refl)
+    go false e = (pressed, low, x, y, rw e refl)
 
-released_each : (low x y : ℕ) → IsOfSide (side_event Release low x y)
-released_each low x y = (Release, low, x, y, refl)
+released_each : (low x y : ℕ) → IsOfSide (side_report Release low x y)
+released_each low x y = (released, low, x, y, refl)
 
-before_side : (told : ℕ → ℕ → ℕ → SideButtonEvent) (first : ℕ) (o : Option (List ℕ)) (e : SideButtonEvent)
+before_side : (told : ℕ → ℕ → ℕ → MouseReport) (first : ℕ) (o : Option (List ℕ)) (e : MouseReport)
     → ((low x y : ℕ) → IsOfSide (told low x y)) → option_and_then (λ body. side_of_fields told first (fields body)) o ≡ Some e → IsOfSide e
 before_side told first o e each is =
     option_and_then_some (λ body. side_of_fields told first (fields body)) o e is (λ body found side. fields_side told first (fields body) e each side)
 
 -- the two ends of SGR's form
-abbrev by_end : List ℕ → List (Option SideButtonEvent)
+abbrev by_end : List ℕ → List (Option MouseReport)
 by_end t =
     option_and_then (λ body. side_of_fields side_held 128 (fields body)) (before_end (77 ∷ []) t)
-    ∷ option_and_then (λ body. side_of_fields (side_event Release) 128 (fields body)) (before_end (109 ∷ []) t) ∷ []
+    ∷ option_and_then (λ body. side_of_fields (side_report Release) 128 (fields body)) (before_end (109 ∷ []) t) ∷ []
 
-ended_side : (t : List ℕ) (e : SideButtonEvent) → IsAmong (by_end t) e → IsOfSide e
+ended_side : (t : List ℕ) (e : MouseReport) → IsAmong (by_end t) e → IsOfSide e
 ended_side t e (inl f) = before_side side_held 128 (before_end (77 ∷ []) t) e held_each f
-ended_side t e (inr (inl f)) = before_side (side_event Release) 128 (before_end (109 ∷ []) t) e released_each f
+ended_side t e (inr (inl f)) = before_side (side_report Release) 128 (before_end (109 ∷ []) t) e released_each f
 ended_side t e (inr (inr f)) = absurd f
 
-sgr_side : (s : List ℕ) (e : SideButtonEvent) → sgr_side_button s ≡ Some e → IsOfSide e
+sgr_side : (s : List ℕ) (e : MouseReport) → sgr_side_button s ≡ Some e → IsOfSide e
 unfolding sgr_side_button
 sgr_side s e is =
     option_and_then_some (λ t. first_some (by_end t)) (after_start (60 ∷ []) s) e is (λ t found side. ended_side t e (among (by_end t) e side))
 
-urxvt_side : (s : List ℕ) (e : SideButtonEvent) → urxvt_side_button s ≡ Some e → IsOfSide e
+urxvt_side : (s : List ℕ) (e : MouseReport) → urxvt_side_button s ≡ Some e → IsOfSide e
 unfolding urxvt_side_button
 urxvt_side s e is = before_side side_held 160 (before_end (77 ∷ []) s) e held_each is
 
-x10_side : (s : List ℕ) (e : SideButtonEvent) → x10_side_button s ≡ Some e → IsOfSide e
+x10_side : (s : List ℕ) (e : MouseReport) → x10_side_button s ≡ Some e → IsOfSide e
 unfolding x10_side_button
 x10_side [] e is = absurd (cc (is))
 x10_side (a ∷ []) e is = absurd (cc (is))
@@ -230,7 +253,7 @@ x10_side (a ∷ b ∷ x ∷ y ∷ []) e is = go ((a == 77) && nat_le 160 b && na
     go false h = absurd (cc (h))
 x10_side (a ∷ b ∷ x ∷ y ∷ z ∷ s) e is = absurd (cc (is))
 
-pub side_told : (s : List ℕ) (e : SideButtonEvent) → side_button s ≡ Some e → IsOfSide e
+pub side_told : (s : List ℕ) (e : MouseReport) → side_button s ≡ Some e → IsOfSide e
 unfolding side_button
 side_told s e is = go (among (sgr_side_button s ∷ urxvt_side_button s ∷ x10_side_button s ∷ []) e is)
   where

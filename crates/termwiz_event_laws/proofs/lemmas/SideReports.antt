@@ -7,14 +7,15 @@ use Rattle.termwiz_grammar.specs.Sequences.Meaning.{Row, Report}
 use Rattle.termwiz_grammar.proofs.lemmas.mouse.OneReport.{layout, semicolon_no_digit}
 use Rattle.termwiz_grammar.proofs.lemmas.mouse.ReportNumbers.{digits_end}
 use Rattle.termwiz_grammar.proofs.lemmas.table.RowShape.{row_shaped, no_report_shape}
-use Rattle.termwiz_extended_events.specs.declared.types.ExtendedEvent.TheVariants.{SideButton}
+use Rattle.termwiz_extended_events.specs.declared.types.Event.TheVariants.{Mouse}
 use Rattle.termwiz_extended_events.specs.declared.types.Reading.{Reading}
-use Rattle.termwiz_extended_grammar.specs.Readings.{is_asking}
-use Rattle.termwiz_extended_events.specs.declared.types.SideButtonEvent.{SideButtonEvent}
-use Rattle.termwiz_extended_events.specs.declared.types.SideButtonKind.{SideButtonKind}
-use Rattle.termwiz_extended_events.specs.declared.types.SideButtonKind.TheVariants.{Press, Release, Drag}
+use Rattle.termwiz_extended_grammar.specs.Readings.{ReadsMore, is_asking}
+use Rattle.termwiz_extended_events.specs.declared.types.MouseReport.{MouseReport}
+use Rattle.termwiz_extended_events.specs.declared.types.MouseKind.{MouseKind}
+use Rattle.termwiz_extended_events.specs.declared.types.MouseKind.TheVariants.{Release}
+use Rattle.termwiz_extended_events.specs.MouseReports.{side_report}
 use Rattle.termwiz_extended_events.specs.Numbers.{fields, after_start}
-use Rattle.termwiz_extended_events.specs.Replies.{side_event, side_held, urxvt_mouse, mouse_report, sgr_side_button, side_button}
+use Rattle.termwiz_extended_events.specs.Replies.{side_held, urxvt_mouse, mouse_report, sgr_side_button, side_button}
 use Rattle.termwiz_kitty.proofs.lemmas.read_back.FieldSplits.{before_end_here, before_other_end}
 use Rattle.termwiz_senders.specs.EventTexts.{side_last, IsReadAtOnce}
 use Rattle.termwiz_senders.specs.MouseTexts.{sgr_text}
@@ -24,8 +25,8 @@ use Rattle.termwiz_event_laws.proofs.lemmas.UnreadEnds.{no_number, no_focus, no_
 use Rattle.termwiz_event_laws.proofs.lemmas.WrittenWords.{word_parameters, word_short, word_back, followed, followed_parameters, followed_short, three_fields}
 
 -- what a code without the first one tells, where this happened
-abbrev pub told_by : SideButtonKind → ℕ → ℕ → ℕ → SideButtonEvent
-told_by Release = side_event Release
+abbrev pub told_by : MouseKind → ℕ → ℕ → ℕ → MouseReport
+told_by Release = side_report Release
 told_by kind = side_held
 
 module _ (code x y : ℕ) (low : 128 ≤ code) (high : code ≤ 191) (f : x < 2 ^ 16) (g : y < 2 ^ 16) where
@@ -87,7 +88,7 @@ module _ (code x y : ℕ) (low : 128 ≤ code) (high : code ≤ 191) (f : x < 2 
   unfolding mouse_report urxvt_mouse
   no_mouse_l = rw (before_other_end body 109 77 (λ e. omega arith), no_x10 60 (three ++ 109 ∷ []) refl) refl
 
-  side_l : side_button (body ++ 109 ∷ []) ≡ Some (side_event Release (code - 128) x y)
+  side_l : side_button (body ++ 109 ∷ []) ≡ Some (side_report Release (code - 128) x y)
   unfolding side_button sgr_side_button after_start
   side_l =
       rw (
@@ -109,19 +110,18 @@ module _ (code x y : ℕ) (low : 128 ≤ code) (high : code ≤ 191) (f : x < 2 
     mouse_is = no_mouse_l;
   }
 
-  at_once : (reading : Reading) (last : ℕ) (e : SideButtonEvent) → IsEnd last → IsOther (body ++ last ∷ [])
+  at_once : (reading : Reading) (last : ℕ) (e : MouseReport) → ReadsMore reading → IsEnd last → IsOther (body ++ last ∷ [])
       → side_button (body ++ last ∷ []) ≡ Some e
-      → IsReadAtOnce reading (SideButton e) (sgr_text code x y last)
-  at_once reading last e end other is more =
-      control_means reading body last (SideButton e) more parameters end (λ h. cc (h))
+      → IsReadAtOnce reading (Mouse e) (sgr_text code x y last)
+  at_once reading last e reads end other is more =
+      control_means reading body last (Mouse e) more reads parameters end (λ h. cc (h))
       (omega (arith, length-append body (last ∷ []), short)) (unknown last) (event_by_side_button (is_asking reading) (body ++ last ∷ []) e other is)
 
-  means : (reading : Reading) (kind : SideButtonKind)
-      → IsReadAtOnce reading (SideButton (told_by kind (code - 128) x y)) (sgr_text code x y (side_last kind))
-  means reading Press = at_once reading 77 (side_held (code - 128) x y) (omega arith, omega arith) other_m side_m
-  means reading Release = at_once reading 109 (side_event Release (code - 128) x y) (omega arith, omega arith) other_l side_l
-  means reading Drag = at_once reading 77 (side_held (code - 128) x y) (omega arith, omega arith) other_m side_m
+  means : (reading : Reading) (kind : MouseKind) → ReadsMore reading
+      → IsReadAtOnce reading (Mouse (told_by kind (code - 128) x y)) (sgr_text code x y (side_last kind))
+  means reading Release reads = at_once reading 109 (side_report Release (code - 128) x y) reads (omega arith, omega arith) other_l side_l
+  means reading kind reads = at_once reading 77 (side_held (code - 128) x y) reads (omega arith, omega arith) other_m side_m
 
-pub side_report_means : (reading : Reading) (kind : SideButtonKind) (code x y : ℕ) → 128 ≤ code → code ≤ 191 → x < 2 ^ 16 → y < 2 ^ 16
-    → IsReadAtOnce reading (SideButton (told_by kind (code - 128) x y)) (sgr_text code x y (side_last kind))
-side_report_means reading kind code x y low high f g = means code x y low high f g reading kind
+pub side_report_means : (reading : Reading) (kind : MouseKind) (code x y : ℕ) → ReadsMore reading → 128 ≤ code → code ≤ 191 → x < 2 ^ 16
+    → y < 2 ^ 16 → IsReadAtOnce reading (Mouse (told_by kind (code - 128) x y)) (sgr_text code x y (side_last kind))
+side_report_means reading kind code x y reads low high f g = means code x y low high f g reading kind reads

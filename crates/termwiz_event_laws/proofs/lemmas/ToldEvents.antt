@@ -2,21 +2,19 @@
 use Rattle.std.proofs.Common.{◌≡◌, ◌⊎◌, inl, inr, ℕ, ◌<◌, ◌==◌, Bool, true, false, List, [], ◌∷◌, refl, sym, ap, subst, Option, Some, None}
 use Rattle.std.specs.Prelude.{⊤, option_map, unwrap_or, if◌then◌else◌, bytes_eq}
 use Rattle.std.proofs.lemmas.Option.{option_and_then_some}
-use Rattle.termwiz_keys.specs.declared.types.MouseEvent.{MouseEvent}
-use Rattle.termwiz_keys.specs.declared.types.InputEvent.TheVariants.{Mouse}
+use Rattle.termwiz_extended_events.specs.declared.types.MouseReport.{MouseReport}
 use Rattle.termwiz_extended_events.specs.declared.types.KeyReport.{KeyReport}
-use Rattle.termwiz_extended_events.specs.declared.types.ExtendedEvent.{ExtendedEvent}
-use Rattle.termwiz_extended_events.specs.declared.types.ExtendedEvent.TheVariants.{Input, Key, FocusGained, FocusLost, CursorPosition, Resize, KeyboardFlags, SideButton, Csi}
-use Rattle.termwiz_extended_events.specs.declared.types.SideButtonEvent.{SideButtonEvent}
+use Rattle.termwiz_extended_events.specs.declared.types.Event.{Event}
+use Rattle.termwiz_extended_events.specs.declared.types.Event.TheVariants.{Key, Mouse, FocusGained, FocusLost, CursorPosition, Resize, KeyboardFlags, Csi}
 use Rattle.termwiz_extended_events.specs.Numbers.{fields, before_end, after_start, place_number, short_number}
 use Rattle.termwiz_extended_events.specs.KeyReports.{key_report, third_function_key, rxvt_key, console_key, further_key}
 use Rattle.termwiz_extended_events.specs.Replies.{focus, position_at, position_on, position_of_fields, marked_position_of_fields, position_of, cursor_position, keyboard_flags, size_at, size_of_fields, numbered_size, resize, reply, mouse_report, side_button}
-use Rattle.termwiz_extended_events.specs.Meanings.{mouse, unasked_key, reported, event_after, event_of}
+use Rattle.termwiz_extended_events.specs.Meanings.{unasked_key, reported, event_after, event_of}
 use Rattle.termwiz_event_laws.proofs.lemmas.KeyReportsNumbers.{number_parts}
 use Rattle.termwiz_event_laws.proofs.lemmas.SomeOptions.{map_some, IsAmong, among}
 
 -- an event that tells the focus, a position, flags or a size
-abbrev pub IsReply : ExtendedEvent → Type 0
+abbrev pub IsReply : Event → Type 0
 IsReply FocusGained = ⊤
 IsReply FocusLost = ⊤
 IsReply (CursorPosition row column) = (0 < row) × (0 < column)
@@ -33,15 +31,15 @@ pub data KeyRule (s : List ℕ) (r : KeyReport) : Type 0 where
   by_further : further_key s ≡ Some r → KeyRule s r
 
 -- what gives the event of what follows ESC [
-pub data Told (s : List ℕ) (e : ExtendedEvent) : Type 0 where
+pub data Told (s : List ℕ) (e : Event) : Type 0 where
   by_reply : IsReply e → Told s e
   by_key : (r : KeyReport) → KeyRule s r → e ≡ Key r → Told s e
-  by_mouse : (m : MouseEvent) → mouse_report s ≡ Some m → e ≡ Input (Mouse m) → Told s e
-  by_side_button : (b : SideButtonEvent) → side_button s ≡ Some b → e ≡ SideButton b → Told s e
+  by_mouse : (m : MouseReport) → mouse_report s ≡ Some m → e ≡ Mouse m → Told s e
+  by_side_button : (b : MouseReport) → side_button s ≡ Some b → e ≡ Mouse b → Told s e
 
 -- the replies
 
-focus_told : (s : List ℕ) (e : ExtendedEvent) → focus s ≡ Some e → IsReply e
+focus_told : (s : List ℕ) (e : Event) → focus s ≡ Some e → IsReply e
 unfolding focus
 focus_told [] e is = absurd (cc (is))
 focus_told (b ∷ []) e is = go (b == 73) (b == 79) is
@@ -59,24 +57,24 @@ IsPlaceIfTold place = (n : ℕ) → place ≡ Some n → 0 < n
 place_told : (digits : List ℕ) → IsPlaceIfTold (place_number digits)
 place_told digits n e = (number_parts 5 1 65535 digits n e).low
 
-at_told : (row column : Option ℕ) (e : ExtendedEvent) → IsPlaceIfTold row → IsPlaceIfTold column → position_at row column ≡ Some e → IsReply e
+at_told : (row column : Option ℕ) (e : Event) → IsPlaceIfTold row → IsPlaceIfTold column → position_at row column ≡ Some e → IsReply e
 at_told (Some row) (Some column) e first second is =
     subst IsReply (let same : CursorPosition row column ≡ e = cc (is) in same) (first row refl, second column refl)
 at_told (Some row) None e first second is = absurd (cc (is))
 at_told None column e first second is = absurd (cc (is))
 
-on_told : (row column page : Option ℕ) (e : ExtendedEvent) → IsPlaceIfTold row → IsPlaceIfTold column → position_on row column page ≡ Some e
+on_told : (row column page : Option ℕ) (e : Event) → IsPlaceIfTold row → IsPlaceIfTold column → position_on row column page ≡ Some e
     → IsReply e
 on_told row column (Some page) e first second is = at_told row column e first second is
 on_told row column None e first second is = absurd (cc (is))
 
-fields_told : (fs : List (List ℕ)) (e : ExtendedEvent) → position_of_fields fs ≡ Some e → IsReply e
+fields_told : (fs : List (List ℕ)) (e : Event) → position_of_fields fs ≡ Some e → IsReply e
 fields_told [] e is = absurd (cc (is))
 fields_told (row ∷ []) e is = absurd (cc (is))
 fields_told (row ∷ column ∷ []) e is = at_told (place_number row) (place_number column) e (place_told row) (place_told column) is
 fields_told (row ∷ column ∷ page ∷ fs) e is = absurd (cc (is))
 
-marked_told : (fs : List (List ℕ)) (e : ExtendedEvent) → marked_position_of_fields fs ≡ Some e → IsReply e
+marked_told : (fs : List (List ℕ)) (e : Event) → marked_position_of_fields fs ≡ Some e → IsReply e
 marked_told [] e is = fields_told [] e is
 marked_told (row ∷ []) e is = fields_told (row ∷ []) e is
 marked_told (row ∷ column ∷ []) e is = fields_told (row ∷ column ∷ []) e is
@@ -84,21 +82,21 @@ marked_told (row ∷ column ∷ page ∷ []) e is =
     on_told (place_number row) (place_number column) (short_number page) e (place_told row) (place_told column) is
 marked_told (row ∷ column ∷ page ∷ f ∷ fs) e is = fields_told (row ∷ column ∷ page ∷ f ∷ fs) e is
 
-position_told : (body : List ℕ) (marked : Option (List ℕ)) (e : ExtendedEvent) → position_of body marked ≡ Some e → IsReply e
+position_told : (body : List ℕ) (marked : Option (List ℕ)) (e : Event) → position_of body marked ≡ Some e → IsReply e
 position_told body None e is = fields_told (fields body) e is
 position_told body (Some marked) e is = marked_told (fields marked) e is
 
-cursor_told : (s : List ℕ) (e : ExtendedEvent) → cursor_position s ≡ Some e → IsReply e
+cursor_told : (s : List ℕ) (e : Event) → cursor_position s ≡ Some e → IsReply e
 unfolding cursor_position
 cursor_told s e is =
     option_and_then_some (λ body. position_of body (after_start (63 ∷ []) body)) (before_end (82 ∷ []) s) e is
     (λ body found position. position_told body (after_start (63 ∷ []) body) e position)
 
-flags_told : (s : List ℕ) (e : ExtendedEvent) → keyboard_flags s ≡ Some e → IsReply e
+flags_told : (s : List ℕ) (e : Event) → keyboard_flags s ≡ Some e → IsReply e
 unfolding keyboard_flags
 flags_told s e is = (let h = map_some KeyboardFlags _ e is in subst IsReply h.2 tt)
 
-size_told : (rows columns height width : Option ℕ) (e : ExtendedEvent) → size_at rows columns height width ≡ Some e → IsReply e
+size_told : (rows columns height width : Option ℕ) (e : Event) → size_at rows columns height width ≡ Some e → IsReply e
 size_told (Some rows) (Some columns) (Some height) (Some width) e is =
     subst IsReply (let same : Resize rows columns height width ≡ e = cc (is) in same) tt
 size_told None columns height width e is = absurd (cc (is))
@@ -106,7 +104,7 @@ size_told (Some rows) None height width e is = absurd (cc (is))
 size_told (Some rows) (Some columns) None width e is = absurd (cc (is))
 size_told (Some rows) (Some columns) (Some height) None e is = absurd (cc (is))
 
-sizes_told : (fs : List (List ℕ)) (e : ExtendedEvent) → size_of_fields fs ≡ Some e → IsReply e
+sizes_told : (fs : List (List ℕ)) (e : Event) → size_of_fields fs ≡ Some e → IsReply e
 sizes_told [] e is = absurd (cc (is))
 sizes_told (rows ∷ []) e is = absurd (cc (is))
 sizes_told (rows ∷ columns ∷ []) e is = absurd (cc (is))
@@ -115,7 +113,7 @@ sizes_told (rows ∷ columns ∷ height ∷ width ∷ []) e is =
     size_told (short_number rows) (short_number columns) (short_number height) (short_number width) e is
 sizes_told (rows ∷ columns ∷ height ∷ width ∷ f ∷ fs) e is = absurd (cc (is))
 
-numbered_told : (fs : List (List ℕ)) (e : ExtendedEvent) → numbered_size fs ≡ Some e → IsReply e
+numbered_told : (fs : List (List ℕ)) (e : Event) → numbered_size fs ≡ Some e → IsReply e
 numbered_told [] e is = absurd (cc (is))
 numbered_told (front ∷ more) e is = go (bytes_eq front (52 ∷ 56 ∷ [])) is
   where
@@ -123,12 +121,12 @@ numbered_told (front ∷ more) e is = go (bytes_eq front (52 ∷ 56 ∷ [])) is
     go true h = sizes_told more e h
     go false h = absurd (cc (h))
 
-resize_told : (s : List ℕ) (e : ExtendedEvent) → resize s ≡ Some e → IsReply e
+resize_told : (s : List ℕ) (e : Event) → resize s ≡ Some e → IsReply e
 unfolding resize
 resize_told s e is =
     option_and_then_some (λ body. numbered_size (fields body)) (before_end (116 ∷ []) s) e is (λ body found size. numbered_told (fields body) e size)
 
-reply_told : (s : List ℕ) (e : ExtendedEvent) → reply s ≡ Some e → IsReply e
+reply_told : (s : List ℕ) (e : Event) → reply s ≡ Some e → IsReply e
 unfolding reply
 reply_told s e is = go (among (cursor_position s ∷ keyboard_flags s ∷ resize s ∷ []) e is)
   where
@@ -139,24 +137,24 @@ reply_told s e is = go (among (cursor_position s ∷ keyboard_flags s ∷ resize
     go (inr (inr (inr f))) = absurd f
 
 -- a key
-key_told : (s : List ℕ) (o : Option KeyReport) (e : ExtendedEvent) → ((r : KeyReport) → o ≡ Some r → KeyRule s r) → option_map Key o ≡ Some e
+key_told : (s : List ℕ) (o : Option KeyReport) (e : Event) → ((r : KeyReport) → o ≡ Some r → KeyRule s r) → option_map Key o ≡ Some e
     → Told s e
 key_told s o e rule is = (let h = map_some Key o e is in by_key h.0 (rule h.0 h.1) (sym h.2))
 
 -- F3 where no question is open
-unasked_told : (asks : Bool) (s : List ℕ) (e : ExtendedEvent) → option_map Key (unasked_key asks s) ≡ Some e → Told s e
+unasked_told : (asks : Bool) (s : List ℕ) (e : Event) → option_map Key (unasked_key asks s) ≡ Some e → Told s e
 unasked_told true s e is = absurd (cc (is))
 unasked_told false s e is = key_told s (third_function_key s) e (λ r g. by_third g) is
 
 -- the rules for what follows ESC [
-abbrev pub rules : Bool → List ℕ → List (Option ExtendedEvent)
+abbrev pub rules : Bool → List ℕ → List (Option Event)
 rules asks s =
     focus s ∷ option_map Key (key_report s) ∷ option_map Key (unasked_key asks s) ∷ reply s ∷ option_map Key (third_function_key s)
-    ∷ option_map Key (rxvt_key s) ∷ option_map mouse (mouse_report s) ∷ option_map SideButton (side_button s)
+    ∷ option_map Key (rxvt_key s) ∷ option_map Mouse (mouse_report s) ∷ option_map Mouse (side_button s)
     ∷ option_map Key (console_key s) ∷ option_map Key (further_key s) ∷ []
 
 -- the event, if a rule gives one
-reported_told : (asks : Bool) (s : List ℕ) (e : ExtendedEvent) → reported asks s ≡ Some e → Told s e
+reported_told : (asks : Bool) (s : List ℕ) (e : Event) → reported asks s ≡ Some e → Told s e
 unfolding reported
 reported_told asks s e is = go (among (rules asks s) e is)
   where
@@ -167,9 +165,9 @@ reported_told asks s e is = go (among (rules asks s) e is)
     go (inr (inr (inr (inl f)))) = by_reply (reply_told s e f)
     go (inr (inr (inr (inr (inl f))))) = key_told s (third_function_key s) e (λ r g. by_third g) f
     go (inr (inr (inr (inr (inr (inl f)))))) = key_told s (rxvt_key s) e (λ r g. by_rxvt g) f
-    go (inr (inr (inr (inr (inr (inr (inl f))))))) = (let m = map_some mouse (mouse_report s) e f in by_mouse m.0 m.1 (sym m.2))
+    go (inr (inr (inr (inr (inr (inr (inl f))))))) = (let m = map_some Mouse (mouse_report s) e f in by_mouse m.0 m.1 (sym m.2))
     go (inr (inr (inr (inr (inr (inr (inr (inl f)))))))) =
-        (let b = map_some SideButton (side_button s) e f in by_side_button b.0 b.1 (sym b.2))
+        (let b = map_some Mouse (side_button s) e f in by_side_button b.0 b.1 (sym b.2))
     go (inr (inr (inr (inr (inr (inr (inr (inr (inl f))))))))) = key_told s (console_key s) e (λ r g. by_console g) f
     go (inr (inr (inr (inr (inr (inr (inr (inr (inr (inl f)))))))))) = key_told s (further_key s) e (λ r g. by_further g) f
     go (inr (inr (inr (inr (inr (inr (inr (inr (inr (inr f)))))))))) = absurd f
@@ -179,7 +177,7 @@ pub bracketed_told : (asks : Bool) (s : List ℕ) → Told s (event_of asks (27 
 unfolding event_of event_after
 bracketed_told asks s = go (reported asks s) refl
   where
-    go : (o : Option ExtendedEvent) → reported asks s ≡ o
+    go : (o : Option Event) → reported asks s ≡ o
         → Told s (unwrap_or (reported asks s) (Csi s)) ⊎ (unwrap_or (reported asks s) (Csi s) ≡ Csi s)
     go None e = inr (ap (λ o. unwrap_or o (Csi s)) e)
     go (Some x) e = inl (subst (Told s) (sym (ap (λ o. unwrap_or o (Csi s)) e)) (reported_told asks s x e))

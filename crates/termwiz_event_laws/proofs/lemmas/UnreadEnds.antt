@@ -3,10 +3,10 @@ use Rattle.std.proofs.Common.{◌≡◌, ◌≢◌, ℕ, ◌&&◌, Bool, true, f
 use Rattle.std.specs.Prelude.{◌==◌, option_and_then}
 use Rattle.std.specs.Char.{is_ascii_digit}
 use Rattle.std.proofs.lemmas.Bool.Decides.{nat_tests}
-use Rattle.termwiz_extended_events.specs.declared.types.ExtendedEvent.{ExtendedEvent}
-use Rattle.termwiz_extended_events.specs.declared.types.ExtendedEvent.TheVariants.{Key, SideButton, Csi}
+use Rattle.termwiz_extended_events.specs.declared.types.Event.{Event}
+use Rattle.termwiz_extended_events.specs.declared.types.Event.TheVariants.{Key, Mouse, Csi}
 use Rattle.termwiz_extended_events.specs.declared.types.KeyReport.{KeyReport}
-use Rattle.termwiz_extended_events.specs.declared.types.SideButtonEvent.{SideButtonEvent}
+use Rattle.termwiz_extended_events.specs.declared.types.MouseReport.{MouseReport}
 use Rattle.termwiz_extended_events.specs.Numbers.{fields, is_digits, number_within}
 use Rattle.termwiz_extended_events.specs.ReportedKeys.{entry_at, lettered_keys}
 use Rattle.termwiz_extended_events.specs.KeyReports.{character_key, lettered_of_fields, lettered_key, numbered_key, other_held, other_key, key_report, third_function_key, rxvt_key, console_key, back_tab, short_key, middle_key, further_key}
@@ -126,7 +126,7 @@ unasked_none true s none = refl
 unasked_none false s none = none
 
 -- a reply, where no key is read
-pub event_by_reply : (asks : Bool) (s : List ℕ) (e : ExtendedEvent) → focus s ≡ None → key_report s ≡ None → unasked_key asks s ≡ None
+pub event_by_reply : (asks : Bool) (s : List ℕ) (e : Event) → focus s ≡ None → key_report s ≡ None → unasked_key asks s ≡ None
     → reply s ≡ Some e → event_of asks (27 ∷ 91 ∷ s) ≡ e
 unfolding event_of event_after reported
 event_by_reply true s e a b none c = rw (a, b, c) refl
@@ -147,8 +147,8 @@ pub record IsOther (s : List ℕ) : Type 0 where
   pub rxvt_is : rxvt_key s ≡ None
   pub mouse_is : mouse_report s ≡ None
 
-pub event_by_side_button : (asks : Bool) (s : List ℕ) (b : SideButtonEvent) → IsOther s → side_button s ≡ Some b
-    → event_of asks (27 ∷ 91 ∷ s) ≡ SideButton b
+pub event_by_side_button : (asks : Bool) (s : List ℕ) (b : MouseReport) → IsOther s → side_button s ≡ Some b
+    → event_of asks (27 ∷ 91 ∷ s) ≡ Mouse b
 unfolding event_of event_after reported
 event_by_side_button true s b o e = rw (o.focus_is, o.key_is, o.reply_is, o.third_is, o.rxvt_is, o.mouse_is, e) refl
 event_by_side_button false s b o e = rw (o.focus_is, o.key_is, o.third_is, o.reply_is, o.rxvt_is, o.mouse_is, e) refl

@@ -1,120 +1,126 @@
 -- The laws of written events, by the kind of event.
-use Rattle.std.proofs.Common.{◌≡◌, inl, inr, ℕ, Bool, true, false, List, [], ◌∷◌, ◌++◌, refl, sym, ap, ◌∙◌, subst}
+use Rattle.std.proofs.Common.{◌≡◌, ◌⊎◌, inl, inr, ⊎_elim, ℕ, Bool, true, false, List, [], ◌∷◌, ◌++◌, Some, Contains, refl, sym, subst}
 use Rattle.std.specs.Prelude.{codes}
 use Rattle.std.specs.Str.Lossy.{utf8_lossy}
 use Rattle.termwiz_keys.specs.Introducers.{CSI}
-use Rattle.termwiz_keys.specs.declared.types.KeyEvent.{KeyEvent}
 use Rattle.termwiz_keys.specs.declared.types.InputEvent.{InputEvent}
-use Rattle.termwiz_keys.specs.declared.types.InputEvent.TheVariants as input
+use Rattle.termwiz_grammar.specs.Grammar as port
 use Rattle.termwiz_grammar.specs.Grammar.{EndsFirst}
-use Rattle.termwiz_grammar.specs.MouseReports.{mouse_event}
+use Rattle.termwiz_grammar.specs.Grammar.Item.{key, char, broken, mouse, paste, lone_escape, alt}
+use Rattle.termwiz_grammar.specs.Sequences.{IsSequence}
 use Rattle.termwiz_laws.specs.PasteEvents.{pasted}
-use Rattle.termwiz_extended_events.specs.declared.types.ExtendedEvent.{ExtendedEvent}
-use Rattle.termwiz_extended_events.specs.declared.types.ExtendedEvent.TheVariants.{Input, Key, FocusGained, FocusLost, CursorPosition, Resize, KeyboardFlags, SideButton, Csi, Osc, Dcs, Apc, StringPart, StringCut}
+use Rattle.termwiz_extended_events.specs.declared.types.Event.{Event}
+use Rattle.termwiz_extended_events.specs.declared.types.Event.TheVariants.{Key, Mouse, Paste, FocusGained, FocusLost, CursorPosition, Resize, KeyboardFlags, Csi, Osc, Dcs, Apc, StringPart, StringCut}
 use Rattle.termwiz_extended_events.specs.declared.types.KeyReport.{KeyReport}
+use Rattle.termwiz_extended_events.specs.declared.types.MouseReport.{MouseReport}
 use Rattle.termwiz_extended_events.specs.declared.types.Reading.{Reading}
-use Rattle.termwiz_extended_events.specs.declared.types.SideButtonEvent.{SideButtonEvent}
 use Rattle.termwiz_extended_events.specs.declared.types.StringKind.{StringKind}
 use Rattle.termwiz_extended_events.specs.declared.types.StringKind.TheVariants as kinds
 use Rattle.termwiz_extended_events.specs.Meanings.{whole_string}
-use Rattle.termwiz_extended_grammar.specs.ExtendedGrammar.{Means}
+use Rattle.termwiz_extended_events.specs.PortEvents.{told}
+use Rattle.termwiz_extended_grammar.specs.ExtendedGrammar.{Means, Stands}
+use Rattle.termwiz_extended_grammar.specs.ExtendedGrammar.Stands.{extra, alt_key, lone_escape as lone, string, usual}
 use Rattle.termwiz_extended_grammar.specs.ExtraSequences.{IsExtra}
-use Rattle.termwiz_senders.specs.EventTexts.{IsReadAtOnce, position_text, size_text, flags_text, string_sent, IsEventText, IsRefused}
-use Rattle.termwiz_event_laws.specs.EventLaws.{ReadBack, Emits, IsPartOrCut, Whole}
-use Rattle.termwiz_event_laws.proofs.lemmas.InputKeys.{input_key_read_back, input_key_whole}
+use Rattle.termwiz_extended_grammar.specs.Readings.{ReadsMore}
+use Rattle.termwiz_senders.specs.EventTexts.{IsMouseText, IsReadAtOnce, further_mouse_text, sgr_event_text, position_text, size_text, flags_text, string_sent, IsEventText, IsRefused}
+use Rattle.termwiz_senders.specs.KeyTexts.{IsKeyText}
+use Rattle.termwiz_senders.specs.KeyTexts.IsKeyText.{typed, reported}
+use Rattle.termwiz_event_laws.specs.EventLaws.{ReadBack, Emits, IsPartOrCut, Whole, waiting_texts}
+use Rattle.termwiz_kitty.specs.KittyLaws.{IsReport}
+use Rattle.termwiz_event_laws.proofs.lemmas.TypedKeys.{typed_read_back, key_whole}
 use Rattle.termwiz_event_laws.proofs.lemmas.KeyReportsReadBack.{key_read_back}
-use Rattle.termwiz_event_laws.proofs.lemmas.KeyReportsWhole.{key_whole}
-use Rattle.termwiz_event_laws.proofs.lemmas.MouseEvents.{mouse_read_back, mouse_whole, report_told}
-use Rattle.termwiz_event_laws.proofs.lemmas.Origins.{FromPort, FromForm, Origin, origin}
-use Rattle.termwiz_event_laws.proofs.lemmas.Origins.FromPort.{key_event, mouse_report, paste_of}
+use Rattle.termwiz_event_laws.proofs.lemmas.KeysAtOnce.{typed_at_once}
+use Rattle.termwiz_event_laws.proofs.lemmas.MouseEvents.{HasText, mouse_read_back, report_told, sgr_whole}
+use Rattle.termwiz_event_laws.proofs.lemmas.Origins.{FromForm, alt_report, extra_event, string_event}
 use Rattle.termwiz_event_laws.proofs.lemmas.Origins.FromForm.{bracketed, keypad, titled}
-use Rattle.termwiz_event_laws.proofs.lemmas.Origins.Origin.{from_extra, from_alt, from_string, from_part, from_port}
 use Rattle.termwiz_event_laws.proofs.lemmas.PasteEvents.{paste_read_back, paste_whole}
 use Rattle.termwiz_event_laws.proofs.lemmas.RepliesReadBack.{focus_gained, focus_lost, private_position, size_read_back, flags_read_back}
-use Rattle.termwiz_event_laws.proofs.lemmas.SideButtons.{IsOfSide, side_read_back, side_told, side_whole}
+use Rattle.termwiz_event_laws.proofs.lemmas.SideButtons.{side_told, side_whole}
 use Rattle.termwiz_event_laws.proofs.lemmas.StringEvents.{extra_at_once, title_at_once, string_at_once}
 use Rattle.termwiz_event_laws.proofs.lemmas.ToldEvents.{IsReply, Told}
 use Rattle.termwiz_event_laws.proofs.lemmas.ToldEvents.Told.{by_reply, by_key, by_mouse, by_side_button}
 
 -- what is written of the event is there
-abbrev IsWritten : Reading → ExtendedEvent → Type 0
+abbrev IsWritten : Reading → Event → Type 0
 IsWritten reading e = (bytes : List ℕ) × IsEventText reading e bytes
 
 -- read back
 
-at_same : (reading : Reading) (e : ExtendedEvent) (text bytes : List ℕ) (more : Bool) → bytes ≡ text → IsReadAtOnce reading e text
+at_same : (reading : Reading) (e : Event) (text bytes : List ℕ) (more : Bool) → bytes ≡ text → IsReadAtOnce reading e text
     → Means reading bytes more (e ∷ []) []
 at_same reading e text bytes more same is = subst (λ t. Means reading t more (e ∷ []) []) (sym same) (is more)
 
-flushed : (reading : Reading) (e : ExtendedEvent) (bytes : List ℕ) (more : Bool) → (more ≡ true → ⊥) → Means reading bytes false (e ∷ []) []
-    → Means reading bytes more (e ∷ []) []
-flushed reading e bytes true never is = absurd (never refl)
-flushed reading e bytes false never is = is
+key_back : (reading : Reading) (r : KeyReport) (bytes : List ℕ) (more : Bool) → IsReport r → IsKeyText reading r bytes
+    → (more ≡ true → ¬ Contains waiting_texts bytes) → Means reading bytes more (Key r ∷ []) []
+key_back reading r bytes true is (typed text) closed = typed_at_once reading r is bytes text (closed refl)
+key_back reading r bytes false is (typed text) closed = typed_read_back reading r bytes text
+key_back reading r bytes more is (reported none text) closed = key_read_back reading r bytes more text.reads is text.is_text text.short
 
 pub read_back : ReadBack
 unfolding IsEventText
-read_back reading (Input (input.Key k)) bytes more typed is closed =
-    flushed reading (Input (input.Key k)) bytes more (λ on. closed on tt) (input_key_read_back reading k bytes is)
-read_back reading (Input (input.Mouse e)) bytes more typed is closed = mouse_read_back reading e bytes typed.0 typed.1 is more
-read_back reading (Input (input.Paste text)) bytes more typed is closed =
-    at_same reading (Input (input.Paste text)) (pasted text) bytes more is.0 (paste_read_back reading text typed is.1)
-read_back reading (Input event) bytes more typed is closed = absurd is
-read_back reading (Key r) bytes more typed is closed = key_read_back reading r bytes more typed is.0 is.1
-read_back reading FocusGained bytes more typed is closed = at_same reading FocusGained _ bytes more is (focus_gained reading)
-read_back reading FocusLost bytes more typed is closed = at_same reading FocusLost _ bytes more is (focus_lost reading)
-read_back reading (CursorPosition row column) bytes more typed is closed =
-    at_same reading (CursorPosition row column) _ bytes more is.2 (private_position row column (is.0, typed.0) (is.1, typed.1) reading)
-read_back reading (Resize rows columns height width) bytes more typed is closed =
-    at_same reading (Resize rows columns height width) _ bytes more is (size_read_back rows columns height width typed.0 typed.1 typed.2 typed.3 reading)
-read_back reading (KeyboardFlags flags) bytes more typed is closed =
-    at_same reading (KeyboardFlags flags) _ bytes more is (flags_read_back flags typed reading)
-read_back reading (SideButton e) bytes more typed is closed = side_read_back reading e bytes typed.0 typed.1 is more
-read_back reading (Csi t) bytes more typed is closed = is.1 more
-read_back reading (Osc t) bytes more typed is closed = is.1 more
-read_back reading (Dcs t) bytes more typed is closed = is.1 more
-read_back reading (Apc t) bytes more typed is closed = is.1 more
-read_back reading (StringPart kind t) bytes more typed is closed = absurd is
-read_back reading (StringCut kind t) bytes more typed is closed = absurd is
+read_back reading (Key r) bytes more values is closed = key_back reading r bytes more values is closed
+read_back reading (Mouse e) bytes more values is closed = mouse_read_back reading e bytes values.0 values.1 is more
+read_back reading (Paste text) bytes more values is closed =
+    at_same reading (Paste text) (pasted text) bytes more is.0 (paste_read_back reading text values is.1)
+read_back reading FocusGained bytes more values is closed = at_same reading FocusGained _ bytes more is.1 (focus_gained reading is.0)
+read_back reading FocusLost bytes more values is closed = at_same reading FocusLost _ bytes more is.1 (focus_lost reading is.0)
+read_back reading (CursorPosition row column) bytes more values is closed =
+    at_same reading (CursorPosition row column) _ bytes more is.3 (private_position row column (is.1, values.0) (is.2, values.1) reading is.0)
+read_back reading (Resize rows columns height width) bytes more values is closed =
+    at_same reading (Resize rows columns height width) _ bytes more is.1
+    (size_read_back rows columns height width values.0 values.1 values.2 values.3 reading is.0)
+read_back reading (KeyboardFlags flags) bytes more values is closed =
+    at_same reading (KeyboardFlags flags) _ bytes more is.1 (flags_read_back flags values reading is.0)
+read_back reading (Csi t) bytes more values is closed = is.1 more
+read_back reading (Osc t) bytes more values is closed = is.1 more
+read_back reading (Dcs t) bytes more values is closed = is.1 more
+read_back reading (Apc t) bytes more values is closed = is.1 more
+read_back reading (StringPart kind t) bytes more values is closed = absurd is
+read_back reading (StringCut kind t) bytes more values is closed = absurd is
 
 -- whole
 
 -- what is written isn't refused
-not_refused : (reading : Reading) (e : ExtendedEvent) → IsWritten reading e → ¬ IsRefused reading e
+not_refused : (reading : Reading) (e : Event) → IsWritten reading e → ¬ IsRefused reading e
 not_refused reading e is = λ refused. refused is.0 is.1
 
 -- whatever the event comes from, it isn't refused
 module _ (reading : Reading) where
-  report_written : (r : KeyReport) (e : ExtendedEvent) → e ≡ Key r → Emits reading e → IsWritten reading e
+  key_not_refused : (r : KeyReport) (e : Event) → e ≡ Key r → Emits reading e → ¬ IsRefused reading e
   unfolding IsEventText
-  report_written r e is emits =
-      let found = key_whole reading r (subst (Emits reading) is emits) in
-      subst (IsWritten reading) (sym is) (found.0, (found.1, found.2))
+  key_not_refused r e is emits refused =
+      key_whole reading r emits.0 emits.1 emits.2 (subst (Stands reading emits.0 emits.2 emits.1) is emits.3)
+      (subst (IsRefused reading) is refused)
 
-  mouse_written : (code x y last : ℕ) (e : ExtendedEvent) → e ≡ Input (input.Mouse (mouse_event code x y last)) → IsWritten reading e
+  mouse_written : (m : MouseReport) (e : Event) → e ≡ Mouse m → ReadsMore reading → HasText m → IsWritten reading e
   unfolding IsEventText
-  mouse_written code x y last e is = subst (IsWritten reading) (sym is) (mouse_whole code x y last)
+  mouse_written m e is reads text = subst (IsWritten reading) (sym is) (text.0, go text.1)
+    where
+      go : (sgr_event_text m ≡ Some text.0) ⊎ (further_mouse_text m ≡ Some text.0) → IsMouseText reading m text.0
+      go (inl sgr) = inl sgr
+      go (inr further) = inr (reads, further)
 
-  side_written : (b : SideButtonEvent) → IsOfSide b → IsWritten reading (SideButton b)
+  sgr_written : (m : MouseReport) → (bytes : List ℕ) × (sgr_event_text m ≡ Some bytes) → IsWritten reading (Mouse m)
   unfolding IsEventText
-  side_written b is = side_whole b is
+  sgr_written m text = (text.0, inl text.1)
 
-  reply_written : (e : ExtendedEvent) → IsReply e → IsWritten reading e
+  reply_written : (e : Event) → ReadsMore reading → IsReply e → IsWritten reading e
   unfolding IsEventText
-  reply_written FocusGained h = (CSI ++ codes "I", refl)
-  reply_written FocusLost h = (CSI ++ codes "O", refl)
-  reply_written (CursorPosition row column) h = (position_text row column true, (h.0, h.1, refl))
-  reply_written (KeyboardFlags flags) h = (flags_text flags, refl)
-  reply_written (Resize rows columns height width) h = (size_text rows columns height width, refl)
-  reply_written e h = absurd h
+  reply_written FocusGained reads h = (CSI ++ codes "I", (reads, refl))
+  reply_written FocusLost reads h = (CSI ++ codes "O", (reads, refl))
+  reply_written (CursorPosition row column) reads h = (position_text row column true, (reads, h.0, h.1, refl))
+  reply_written (KeyboardFlags flags) reads h = (flags_text flags, (reads, refl))
+  reply_written (Resize rows columns height width) reads h = (size_text rows columns height width, (reads, refl))
+  reply_written e reads h = absurd h
 
-  told_written : (s : List ℕ) (e : ExtendedEvent) → Told s e → Emits reading e → IsWritten reading e
-  told_written s e (by_reply is) emits = reply_written e is
-  told_written s e (by_key r rule is) emits = report_written r e is emits
-  told_written s e (by_mouse m told is) emits =
-      let n = report_told s m told in mouse_written n.0 n.1 n.2 n.3 e (is ∙ ap (λ d. Input (input.Mouse d)) n.4)
-  told_written s e (by_side_button b told is) emits = subst (IsWritten reading) (sym is) (side_written b (side_told s b told))
+  told_not_refused : (s : List ℕ) (e : Event) → ReadsMore reading → Told s e → Emits reading e → ¬ IsRefused reading e
+  told_not_refused s e reads (by_reply is) emits = not_refused reading e (reply_written e reads is)
+  told_not_refused s e reads (by_key r rule is) emits = key_not_refused r e is emits
+  told_not_refused s e reads (by_mouse m told is) emits = not_refused reading e (mouse_written m e is reads (report_told s m told))
+  told_not_refused s e reads (by_side_button b told is) emits =
+      let text = side_whole b (side_told s b told) in not_refused reading e (mouse_written b e is reads (text.0, inr text.1))
 
-  paste_written : (body : List ℕ) → EndsFirst body → IsWritten reading (Input (input.Paste (utf8_lossy body)))
+  paste_written : (body : List ℕ) → EndsFirst body → IsWritten reading (Paste (utf8_lossy body))
   unfolding IsEventText
   paste_written body first = (pasted (utf8_lossy body), (refl, paste_whole body first))
 
@@ -125,40 +131,43 @@ module _ (reading : Reading) where
   string_written kinds.Dcs t is = (string_sent kinds.Dcs t, (refl, is))
   string_written kinds.Apc t is = (string_sent kinds.Apc t, (refl, is))
 
-  control_written : (text s : List ℕ) (e : ExtendedEvent) → text ≡ 27 ∷ 91 ∷ s → e ≡ Csi s → IsExtra reading text e → IsWritten reading e
+  control_written : (text s : List ℕ) (e : Event) → text ≡ 27 ∷ 91 ∷ s → e ≡ Csi s → IsExtra reading text e → IsWritten reading e
   unfolding IsEventText
   control_written text s e form itself is =
       let its : IsExtra reading (27 ∷ 91 ∷ s) (Csi s) = subst (λ t. IsExtra reading t (Csi s)) form (subst (IsExtra reading text) itself is) in
       subst (IsWritten reading) (sym itself) (27 ∷ 91 ∷ s, (refl, extra_at_once reading (27 ∷ 91 ∷ s) (Csi s) its))
 
-  form_written : (text : List ℕ) (e : ExtendedEvent) → IsExtra reading text e → FromForm text e → Emits reading e → IsWritten reading e
-  form_written text e is (bracketed s form (inl told)) emits = told_written s e told emits
-  form_written text e is (bracketed s form (inr itself)) emits = control_written text s e form itself is
-  form_written text e is (keypad s r rule same) emits = report_written r e same emits
-  form_written text e is (titled t same) emits =
-      subst (IsWritten reading) (sym same) (string_written kinds.Osc (t.letter ∷ t.body) (title_at_once reading text t))
+  form_not_refused : (text : List ℕ) (e : Event) → IsExtra reading text e → FromForm text e → Emits reading e → ¬ IsRefused reading e
+  form_not_refused text e is (bracketed s form (inl told)) emits = told_not_refused s e is.reads told emits
+  form_not_refused text e is (bracketed s form (inr itself)) emits = not_refused reading e (control_written text s e form itself is)
+  form_not_refused text e is (keypad s r rule same) emits = key_not_refused r e same emits
+  form_not_refused text e is (titled t same) emits = not_refused reading e
+      (subst (IsWritten reading) (sym same) (string_written kinds.Osc (t.letter ∷ t.body) (title_at_once reading text t is.reads)))
 
-  key_not_refused : (k : KeyEvent) → Emits reading (Input (input.Key k)) → ¬ IsRefused reading (Input (input.Key k))
-  unfolding IsEventText
-  key_not_refused k emits = λ refused. input_key_whole reading k emits.0 emits.1 emits.2 emits.3 refused
+  item_not_refused : (u bytes : List ℕ) (more : Bool) (i : InputEvent) → port.Item u more bytes i → Emits reading (told reading bytes i)
+      → ¬ IsRefused reading (told reading bytes i)
+  unfolding IsSequence
+  item_not_refused u bytes more i (key text k is other single) emits = key_not_refused _ _ refl emits
+  item_not_refused u bytes more i (char c is) emits = key_not_refused _ _ refl emits
+  item_not_refused u bytes more i (broken b is) emits = key_not_refused _ _ refl emits
+  item_not_refused u bytes more i (mouse text report is) emits =
+      not_refused reading _ (sgr_written _ (sgr_whole text report is.is_sequence))
+  item_not_refused u bytes more i (paste body begins first) emits = not_refused reading _ (paste_written body first)
+  item_not_refused u bytes more i (lone_escape v h after is apart) emits = key_not_refused _ _ refl emits
+  item_not_refused u bytes more i (alt v h j after is near) emits = key_not_refused _ _ refl emits
 
-  port_not_refused : (e : ExtendedEvent) (i : InputEvent) → e ≡ Input i → FromPort i → Emits reading e → ¬ IsRefused reading e
-  port_not_refused e i same (key_event k is) emits =
-      let its : e ≡ Input (input.Key k) = same ∙ ap (λ j. Input j) is in
-      subst (λ d. ¬ IsRefused reading d) (sym its) (key_not_refused k (subst (Emits reading) its emits))
-  port_not_refused e i same (mouse_report code x y last is) emits =
-      not_refused reading e (mouse_written code x y last e (same ∙ ap (λ j. Input j) is))
-  port_not_refused e i same (paste_of body first is) emits =
-      not_refused reading e (subst (IsWritten reading) (sym (same ∙ ap (λ j. Input j) is)) (paste_written body first))
-
-  origin_not_refused : (e : ExtendedEvent) → Origin reading e → Emits reading e → ¬ IsPartOrCut e → ¬ IsRefused reading e
-  origin_not_refused e (from_extra text is form) emits other = not_refused reading e (form_written text e is form emits)
-  origin_not_refused e (from_alt r same) emits other = not_refused reading e (report_written r e same emits)
-  origin_not_refused e (from_string u kind head bytes after is same short) emits other =
-      not_refused reading e (subst (IsWritten reading) (sym same)
-      (string_written kind (head ++ bytes) (string_at_once reading kind head bytes is.is_head is.each short)))
-  origin_not_refused e (from_part part) emits other = absurd (other part)
-  origin_not_refused e (from_port i same port) emits other = port_not_refused e i same port emits
+  stands_not_refused : (u left : List ℕ) (more : Bool) (e : Event) → Stands reading u more left e → Emits reading e → ¬ IsPartOrCut e
+      → ¬ IsRefused reading e
+  stands_not_refused u left more e (extra text l d is split) emits other = form_not_refused text e is (extra_event reading text e is) emits
+  stands_not_refused u left more e (alt_key text l d is bare split) emits other =
+      let r = alt_report reading text d is.means bare.is_key in key_not_refused r.0 e r.1 emits
+  stands_not_refused u left more e (lone l split apart) emits other = key_not_refused _ e refl emits
+  stands_not_refused u left more e (string kind head bytes after l d reads is comes) emits other = ⊎_elim
+      (λ (part : IsPartOrCut e). absurd (other part))
+      (λ whole. not_refused reading e (subst (IsWritten reading) (sym whole.0)
+      (string_written kind (head ++ bytes) (string_at_once reading kind head bytes reads is.is_head is.each whole.1))))
+      (string_event kind head bytes after l more e comes)
+  stands_not_refused u left more e (usual bytes l i stands split here after) emits other = item_not_refused u bytes more i stands.item emits
 
 pub whole : Whole
-whole reading e emits other = origin_not_refused reading e (origin reading e emits) emits other
+whole reading e emits other = stands_not_refused reading emits.0 emits.1 emits.2 e emits.3 emits other

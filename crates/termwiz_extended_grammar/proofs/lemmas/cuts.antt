@@ -4,6 +4,7 @@ pub mod ExtendedStreams
 pub mod SequencesStand
 pub mod StringsStand
 pub mod PastesStand
+pub mod PortTold
 pub mod SameAsPort
 pub mod PartsOfPastes
 pub mod QuestionsMoveNothing

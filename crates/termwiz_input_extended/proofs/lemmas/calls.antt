@@ -1,2 +1,2 @@
 pub mod EventCalls
-pub mod ProtocolKept
+pub mod DialectKept

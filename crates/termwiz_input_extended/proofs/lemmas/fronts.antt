@@ -12,4 +12,5 @@ pub mod OpeningFronts
 pub mod ScannedPlaces
 pub mod StoredItems
 pub mod StringSteps
+pub mod ToldByFront
 pub mod WholeRows

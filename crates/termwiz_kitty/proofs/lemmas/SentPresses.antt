@@ -2,10 +2,10 @@
 use Rattle.std.proofs.Common.{◌≡◌, ◌≢◌, ◌∙◌, ℕ, Bool, true, false, not, List, [], ◌∷◌, Option, Some, None, refl, sym, ap, subst, ◌&&◌}
 use Rattle.std.specs.Prelude.{if◌then◌else◌}
 use Rattle.termwiz_extended_events.specs.declared.types.KeyReport.{KeyReport}
-use Rattle.termwiz_extended_events.specs.declared.types.ExtendedEvent.TheVariants.{Key}
-use Rattle.termwiz_extended_events.specs.declared.types.Protocol.TheVariants.{Kitty}
+use Rattle.termwiz_extended_events.specs.declared.types.Event.TheVariants.{Key}
 use Rattle.termwiz_extended_events.specs.declared.types.Reading.{Reading}
 use Rattle.termwiz_extended_grammar.specs.ExtendedGrammar.{Means}
+use Rattle.termwiz_extended_grammar.specs.Readings.{ReadsMore}
 use Rattle.termwiz_kitty.specs.declared.legacy.LegacyText.{LegacyText}
 use Rattle.termwiz_kitty.specs.declared.telling.Telling.{Telling}
 use Rattle.termwiz_kitty.specs.declared.telling.Telling.TheVariants.{Nothing, Typed, Legacy, Reported}
@@ -47,11 +47,11 @@ typed_by_rule false false false d t sent e = refl
 -- the text that a key types, or its report; with all keys it is always the report
 pub data Sent (reading : Reading) (r : KeyReport) (flags : ℕ) (text : List ℕ) (more : Bool) : Type 0 where
   as_text : tells_all_keys flags ≡ false → types r.key r ≡ true → text ≡ typed_text r.key r
-      → Means reading text more (typed_events r.key r text) [] → Sent reading r flags text more
+      → Means reading text more (typed_events reading r.key r text) [] → Sent reading r flags text more
   as_report : (tells_all_keys flags ≡ false → types r.key r ≡ false) → Means reading text more (Key (reported r flags) ∷ []) []
       → Sent reading r flags text more
 
-module _ (reading : Reading) (r : KeyReport) (flags : ℕ) (text : List ℕ) (more : Bool) (kitty : reading.protocol ≡ Kitty)
+module _ (reading : Reading) (r : KeyReport) (flags : ℕ) (text : List ℕ) (more : Bool) (reads : ReadsMore reading)
     (is : IsReport r) (kept : is_release r.kind ≡ false) (reports : is_legacy flags ≡ false) (writes : kitty_text r flags ≡ Some text)
     (some : text ≢ []) (within : IsWithin r flags text) where
   own_key : told_key r flags ≡ r.key
@@ -96,8 +96,8 @@ module _ (reading : Reading) (r : KeyReport) (flags : ℕ) (text : List ℕ) (mo
           as_text (is_typed e) (subst (λ k. types k r ≡ true) own_key (types_it r flags e))
           (let s : Some (typed_text (told_key r flags) r) ≡ Some text = written Typed e in
           let same : typed_text (told_key r flags) r ≡ text = cc (s) in sym same ∙ ap (λ k. typed_text k r) own_key)
-          (subst (λ k. Means reading text more (typed_events k r text) []) own_key
+          (subst (λ k. Means reading text more (typed_events reading k r text) []) own_key
           (typed_read_back reading r flags text more is e writes))
       go Reported e =
           as_report (λ all. subst (λ k. types k r ≡ false) own_key (is_untyped e all))
-          (kitty_read_back reading r flags text more kitty is e writes (within e))
+          (kitty_read_back reading r flags text more reads is e writes (within e))

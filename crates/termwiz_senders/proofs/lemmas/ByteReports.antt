@@ -1,4 +1,4 @@
--- A mouse report in three bytes is read back under every reading that reads X10 mouse reports.
+-- A mouse report in three bytes is read back where more than the port's sequences is read, and X10 mouse reports are.
 use Rattle.std.proofs.Common.{◌≡◌, ℕ, ◌+◌, ◌-◌, ◌≤◌, Bool, true, false, ◌&&◌, nat_lt, nat_le, List, [], ◌∷◌, length, refl, sym, ap, ◌∙◌, subst, arith, Option, Some, None}
 use Rattle.std.specs.Prelude.{◌==◌, option_and_then, option_map, if◌then◌else◌}
 use Rattle.std.specs.List.{slice_split}
@@ -7,7 +7,6 @@ use Rattle.termwiz_base.specs.Mouse.{final_press, button_of}
 use Rattle.termwiz_keys.specs.Buttons.{buttons_of}
 use Rattle.termwiz_keys.specs.declared.types.KeyCode.{KeyCode}
 use Rattle.termwiz_keys.specs.declared.types.KeyCode.TheVariants.{Function}
-use Rattle.termwiz_keys.specs.declared.types.InputEvent.TheVariants.{Mouse}
 use Rattle.termwiz_grammar.specs.MouseReports.{mouse_event}
 use Rattle.termwiz_grammar.specs.Sequences.{Meaning, IsSequence}
 use Rattle.termwiz_extended_events.specs.Numbers.{fields, is_digits, before_end, after_start, number_within, scalar}
@@ -15,8 +14,9 @@ use Rattle.termwiz_extended_events.specs.ReportedKeys.{entry_at, last_functional
 use Rattle.termwiz_extended_events.specs.KeyReports.{codes_of, codes_of_parts, character_of_fields, character_key, is_one_or_missing, lettered_of_fields, lettered_key, numbered_of_fields, numbered_key, other_of_fields, other_held, other_report, other_key, key_report, third_function_key, rxvt_number, rxvt_key}
 use Rattle.termwiz_extended_events.specs.Replies.{focus, position_of_fields, position_of, cursor_position, keyboard_flags, numbered_size, resize, reply, mouse_of_fields, urxvt_mouse, x10_mouse, mouse_report}
 use Rattle.termwiz_extended_events.specs.Meanings.{reported, event_after, event_of}
-use Rattle.termwiz_extended_grammar.specs.Readings.{is_asking}
-use Rattle.termwiz_extended_events.specs.declared.types.ExtendedEvent.TheVariants.{Input}
+use Rattle.termwiz_extended_grammar.specs.Readings.{ReadsMore, is_asking}
+use Rattle.termwiz_extended_events.specs.MouseReports.{byte_kind_of, byte_report, named_button}
+use Rattle.termwiz_extended_events.specs.declared.types.Event.TheVariants.{Mouse}
 use Rattle.termwiz_extended_events.specs.declared.types.Reading.{Reading}
 use Rattle.termwiz_extended_grammar.specs.Forms.IsForm.{x10_report}
 use Rattle.termwiz_extended_grammar.specs.ExtraSequences.{IsExtra}
@@ -30,8 +30,8 @@ use Rattle.termwiz_senders.specs.declared.mouse.MouseEncoding.TheVariants.{Defau
 use Rattle.termwiz_senders.specs.declared.mouse.MouseTracking.{MouseTracking}
 use Rattle.termwiz_senders.specs.declared.mouse.Told.{Told}
 use Rattle.termwiz_senders.specs.MouseTexts.{told_by, code_of, default_text, largest_place, text_with, mouse_text}
-use Rattle.termwiz_senders.specs.MouseLaws.{event_told, DefaultReadBack}
-use Rattle.termwiz_senders.proofs.lemmas.MouseCodes.{held_bits, code_is, modifiers_are, default_tells, small_is, told_event, event_is}
+use Rattle.termwiz_senders.specs.MouseLaws.{report_told, DefaultReadBack}
+use Rattle.termwiz_senders.proofs.lemmas.MouseCodes.{held_bits, code_is, modifiers_are, default_tells, small_is, told_event, event_is, report_is}
 
 -- no number begins with M
 and_false : (a : Bool) → (a && false) ≡ false
@@ -187,7 +187,7 @@ module _ (b x y : ℕ) where
 
   -- so it is a mouse report, if the bytes are within limits
   reported_event : (asks : Bool) → (32 ≤ b) × (b ≤ 127) → 32 ≤ x → 32 ≤ y
-      → event_of asks (27 ∷ 91 ∷ text) ≡ Input (Mouse (mouse_event (b - 32) (x - 32) (y - 32) final_press))
+      → event_of asks (27 ∷ 91 ∷ text) ≡ Mouse (byte_report (b - 32) (x - 32) (y - 32))
   unfolding event_of event_after reported focus mouse_report x10_mouse
   reported_event asks button f g = go asks
     where
@@ -203,7 +203,7 @@ module _ (b x y : ℕ) where
       top : nat_le 32 y ≡ true
       top = grind (arith, nat_tests)
 
-      go : (asks : Bool) → event_of asks (27 ∷ 91 ∷ text) ≡ Input (Mouse (mouse_event (b - 32) (x - 32) (y - 32) final_press))
+      go : (asks : Bool) → event_of asks (27 ∷ 91 ∷ text) ≡ Mouse (byte_report (b - 32) (x - 32) (y - 32))
       go true = rw (no_key, no_reply, no_third, no_rxvt, no_urxvt, low, high, left, top) refl
       go false = rw (no_key, no_reply, no_third, no_rxvt, no_urxvt, low, high, left, top) refl
 
@@ -235,15 +235,24 @@ module _ (tracking : MouseTracking) (t : Told) where
       (ap (λ n. buttons_of (button_of n final_press)) (code_is tracking Default t h) ∙ tells.buttons)
       (modifiers_are tracking Default t h tells.modifiers)
 
-  default_extra : (reading : Reading) → reading.x10_mouse ≡ true → t.x ≤ 223 → t.y ≤ 223
-      → IsExtra reading (default_text (code_of tracking Default t) t.x t.y) (Input (Mouse (told_event tracking t)))
-  default_extra reading on left top =
+  default_told : Mouse (byte_report (code_of tracking Default t) t.x t.y) ≡ report_told Default tracking t
+  default_told =
+      let h = held_bits tracking t.modifiers.0 in
+      let tells = default_tells t.button h.s h.a h.c in
+      let is = code_is tracking Default t h in
+      report_is Default tracking t (code_of tracking Default t) default_event (ap named_button is ∙ tells.named)
+      (ap (λ n. byte_kind_of n (named_button n)) is ∙ tells.kind)
+
+  default_extra : (reading : Reading) → ReadsMore reading → reading.x10_mouse ≡ true → t.x ≤ 223 → t.y ≤ 223
+      → IsExtra reading (default_text (code_of tracking Default t) t.x t.y) (report_told Default tracking t)
+  default_extra reading reads on left top =
       let code = code_of tracking Default t in
       let small = default_small in
       let a : (32 + code) - 32 ≡ code = omega arith in
       let d : (32 + t.x) - 32 ≡ t.x = omega arith in
       let e : (32 + t.y) - 32 ≡ t.y = omega arith in
       record {
+        reads = reads;
         is_form = x10_report on (record {
           button = 32 + code;
           x = 32 + t.x;
@@ -256,7 +265,7 @@ module _ (tracking : MouseTracking) (t : Told) where
         is_free = free_from_none reading _ (no_sequence (32 + code) (32 + t.x) (32 + t.y));
         means = sym (reported_event (32 + code) (32 + t.x) (32 + t.y) (is_asking reading) (omega arith, omega (arith, small)) (omega arith)
             (omega arith)
-            ∙ rw (a, d, e) (ap (λ v. Input (Mouse v)) default_event));
+            ∙ rw (a, d, e) default_told);
       }
 
 -- a place that isn't too far
@@ -274,9 +283,9 @@ near tracking t bytes e = go (nat_lt largest_place t.x) (nat_lt largest_place t.
 
 pub default_read_back : DefaultReadBack
 unfolding mouse_text
-default_read_back reading report tracking bytes more on sends =
+default_read_back reading report tracking bytes more reads on sends =
     let t = told_by report in
     let sent : text_with Default (code_of tracking Default t) t ≡ Some bytes = rw sends.reported at sends.bytes_are in
     let is = near tracking t bytes sent in
-    subst (λ u. extended.Means reading u more (Input (event_told tracking t) ∷ []) []) is.2
-    (means_alone reading _ more _ (default_extra tracking t reading on is.0 is.1))
+    subst (λ u. extended.Means reading u more (report_told Default tracking t ∷ []) []) is.2
+    (means_alone reading _ more _ (default_extra tracking t reading reads on is.0 is.1))

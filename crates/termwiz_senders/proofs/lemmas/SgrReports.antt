@@ -1,8 +1,8 @@
 -- A mouse report in SGR's encoding is read back by both parsers.
 use Rattle.std.proofs.Common.{◌≡◌, ◌≢◌, inl, inr, ⊎_elim, ℕ, ◌+◌, ◌^◌, ◌<◌, ◌≤◌, Bool, true, false, List, [], ◌∷◌, refl, sym, ap, ap₂, ◌∙◌, subst, arith, append_assoc, append-nil, decimal, Some}
-use Rattle.std.specs.Prelude.{◌==◌, if◌then◌else◌}
+use Rattle.std.specs.Prelude.{◌==◌, ◌++◌, slice_get, unwrap_or, if◌then◌else◌}
 use Rattle.std.specs.Int.RustNames.{bit_and}
-use Rattle.termwiz_base.specs.Mouse.{IsFinal, button_of, modifiers_of, report_of}
+use Rattle.termwiz_base.specs.Mouse.{IsFinal, final_release, button_of, modifiers_of, report_of}
 use Rattle.termwiz_base.specs.declared.mouse.MouseReport.{MouseReport}
 use Rattle.termwiz_base.specs.declared.mouse.MouseReport.TheVariants.{SGR1006}
 use Rattle.termwiz_keys.specs.Buttons.{buttons_of}
@@ -20,8 +20,10 @@ use Rattle.termwiz_grammar.proofs.lemmas.items.OneHead.{longest_whole}
 use Rattle.termwiz_grammar.proofs.lemmas.mouse.OneReport.{laid_out, report_from, report_plain}
 use Rattle.termwiz_grammar.proofs.lemmas.table.SequenceFacts.{report_ends}
 use Rattle.termwiz_grammar.proofs.lemmas.waiting.RestShape as waiting
-use Rattle.termwiz_extended_events.specs.declared.types.ExtendedEvent.{ExtendedEvent}
-use Rattle.termwiz_extended_events.specs.declared.types.ExtendedEvent.TheVariants.{Input}
+use Rattle.termwiz_extended_events.specs.declared.types.Event.{Event}
+use Rattle.termwiz_extended_events.specs.declared.types.Event.TheVariants.{Mouse as MouseOf}
+use Rattle.termwiz_extended_events.specs.Numbers.{fields}
+use Rattle.termwiz_extended_events.specs.MouseReports.{code_of_fields, ends_released, is_released, kind_of, named_button, sgr_code, sgr_report, with_kind}
 use Rattle.termwiz_extended_events.specs.declared.types.Reading.{Reading}
 use Rattle.termwiz_extended_grammar.specs.Forms.{IsForm}
 use Rattle.termwiz_extended_grammar.specs.Forms.IsForm.{control}
@@ -43,10 +45,11 @@ use Rattle.termwiz_senders.specs.declared.mouse.MouseTracking.{MouseTracking}
 use Rattle.termwiz_senders.specs.declared.mouse.MouseTracking.TheVariants.{Any}
 use Rattle.termwiz_senders.specs.declared.mouse.Told.{Told}
 use Rattle.termwiz_senders.specs.MouseTexts.{told_by, action_of, is_reported, counted, code_of, last_byte, sent_modifiers, sgr_text, numbers_text, told_text, mouse_text}
-use Rattle.termwiz_senders.specs.MouseLaws.{HasPlace, SendsNumbers, event_told, SgrReadBack, SgrReadBackExtended, SgrInverse, SgrGivesAgain}
+use Rattle.termwiz_kitty.proofs.lemmas.read_back.FieldSplits.{last_byte as last_of, more_fields, without_last}
+use Rattle.termwiz_senders.specs.MouseLaws.{HasPlace, SendsNumbers, event_told, is_wheel, report_told, told_kind, told_number, SgrReadBack, SgrReadBackExtended, SgrInverse, SgrGivesAgain}
 use Rattle.termwiz_senders.proofs.lemmas.ControlForms.{control_from}
-use Rattle.termwiz_senders.proofs.lemmas.MouseCodes.{held_bits, code_is, modifiers_are, sgr_tells, small_is, told_event, event_is}
-use Rattle.termwiz_senders.proofs.lemmas.WrittenNumbers.{digits_of, number_is, numbers_in_body, numbers_short}
+use Rattle.termwiz_senders.proofs.lemmas.MouseCodes.{held_bits, code_is, modifiers_are, sgr_tells, small_is, told_event, event_is, written_code}
+use Rattle.termwiz_senders.proofs.lemmas.WrittenNumbers.{digits_of, field_of, number_back, number_is, numbers_in_body, numbers_short}
 
 same_numbers : (text : List ℕ) (a b d code x y last : ℕ) → a ≡ code → b ≡ x → d ≡ y → IsMouseReport text (mouse_event a b d last)
     → IsMouseReport text (mouse_event code x y last)
@@ -55,9 +58,9 @@ same_numbers text a b d code x y last e f g is =
     (subst (λ n. IsMouseReport text (mouse_event a n y last)) f (subst (λ n. IsMouseReport text (mouse_event a b n last)) g is))
 
 -- the bytes are a report of these numbers
-sgr_report : (code x y last : ℕ) → code ≤ 95 → x < 2 ^ 16 → y < 2 ^ 16 → IsFinal last
+is_report : (code x y last : ℕ) → code ≤ 95 → x < 2 ^ 16 → y < 2 ^ 16 → IsFinal last
     → IsMouseReport (sgr_text code x y last) (mouse_event code x y last)
-sgr_report code x y last small f g final =
+is_report code x y last small f g final =
     let c : code < 2 ^ 16 = omega arith in
     let whole : sgr_text code x y last ≡ laid_out (decimal code) (decimal x) (decimal y) last = ap (λ t. 27 ∷ 91 ∷ 60 ∷ t) (simp append_assoc) in
     same_numbers (sgr_text code x y last) _ _ _ code x y last (digits_of code c).value (digits_of x f).value (digits_of y g).value
@@ -90,14 +93,14 @@ module _ (text : List ℕ) (event : MouseEvent) (is : IsMouseReport text event) 
 
   -- and of the extended parser, to which it has a form that the port reads
   module _ (reading : Reading) (form : IsForm reading.x10_mouse text) where
-    not_extra : (e : ExtendedEvent) → IsExtra reading text e → ⊥
+    not_extra : (e : Event) → IsExtra reading text e → ⊥
     not_extra e extra = (let row = extra.is_free (Report event) is_sequence in cc (row.1))
 
     none_starts : StartsExtended reading text → ⊥
     none_starts (inl h) =
         let same : h.text ≡ text = mark_once text h.text text (inl h.is_extra.is_form) (inl form) h.begins ([], sym (append-nil text)) in
         not_extra h.event (subst (λ x. IsExtra reading x h.event) same h.is_extra)
-    none_starts (inr o) =
+    none_starts (inr (reads, o)) =
         let shape = report_plain text event is in
         no_opening_after 27 91 (60 ∷ shape.0) (λ escape second. omega arith) (subst StartsWithOpening shape.1 o)
 
@@ -112,7 +115,7 @@ module _ (text : List ℕ) (event : MouseEvent) (is : IsMouseReport text event) 
           h.beginning;
     }
 
-    report_means_extended : (more : Bool) → extended.Means reading text more (Input (Mouse event) ∷ []) []
+    report_means_extended : (more : Bool) → extended.Means reading text more (MouseOf (sgr_report text event) ∷ []) []
     report_means_extended more = record {
       steps = (
         [],
@@ -157,7 +160,7 @@ told_report : (tracking : MouseTracking) (t : Told) → HasPlace t
     → IsMouseReport (sgr_text (code_of tracking Sgr t) t.x t.y (last_byte (action_of t.button))) (told_event tracking t)
 told_report tracking t place =
     subst (λ e. IsMouseReport (sgr_text (code_of tracking Sgr t) t.x t.y (last_byte (action_of t.button))) e) (sgr_event tracking t)
-    (sgr_report (code_of tracking Sgr t) t.x t.y (last_byte (action_of t.button)) (sgr_small tracking t) place.x_fits place.y_fits
+    (is_report (code_of tracking Sgr t) t.x t.y (last_byte (action_of t.button)) (sgr_small tracking t) place.x_fits place.y_fits
     (final_of (action_of t.button)))
 
 sgr_form : {x10_mouse : Bool} (code x y last : ℕ) → code ≤ 95 → x < 2 ^ 16 → y < 2 ^ 16 → IsFinal last
@@ -174,14 +177,48 @@ sgr_read_back report tracking bytes more sends =
     subst (λ u. port.Means u more (event_told tracking t ∷ []) []) (sgr_sent tracking t bytes sends.reported sends.bytes_are)
     (report_means _ _ (told_report tracking t sends.place) more)
 
+-- the code of the text, and whether it ends as that of a release
+code_back : (code x y last : ℕ) → code ≤ 95 → sgr_code (sgr_text code x y last) ≡ code
+unfolding sgr_code
+code_back code x y last small =
+    let c : code < 2 ^ 16 = omega arith in
+    let whole : numbers_text code x y ++ last ∷ [] ≡ decimal code ++ 59 ∷ (decimal x ++ 59 ∷ (decimal y ++ last ∷ [])) = simp append_assoc in
+    let split : fields (numbers_text code x y ++ last ∷ []) ≡ decimal code ∷ fields (decimal x ++ 59 ∷ (decimal y ++ last ∷ [])) =
+    ap fields whole ∙ more_fields (decimal code) (decimal x ++ 59 ∷ (decimal y ++ last ∷ [])) (field_of code c) in
+    ap code_of_fields split ∙ ap (λ o. unwrap_or o 0) (number_back 0 95 code c (omega arith) small)
+
+last_back : (code x y last : ℕ) → is_released (sgr_text code x y last) ≡ (last == final_release)
+last_back code x y last =
+    let body = 27 ∷ 91 ∷ 60 ∷ numbers_text code x y in
+    ap (λ n. ends_released (slice_get (body ++ last ∷ []) n)) (without_last body last) ∙ ap ends_released (last_of body last)
+
+-- the extended parser's event
+sgr_told : (tracking : MouseTracking) (t : Told)
+    → MouseOf (sgr_report (sgr_text (code_of tracking Sgr t) t.x t.y (last_byte (action_of t.button))) (told_event tracking t))
+    ≡ report_told Sgr tracking t
+sgr_told tracking t =
+    let h = held_bits tracking t.modifiers.0 in
+    let tells = sgr_tells t.button h.s h.a h.c in
+    let code = code_of tracking Sgr t in
+    let last = last_byte (action_of t.button) in
+    let is : code ≡ written_code Sgr t.button h.s h.a h.c = code_is tracking Sgr t h in
+    let named : named_button code ≡ told_number Sgr (action_of t.button) t.button = ap named_button is ∙ tells.named in
+    let kind : kind_of (last == final_release) code (named_button code) ≡ told_kind (action_of t.button) (is_wheel t.button) =
+    ap (λ n. kind_of (last == final_release) n (named_button n)) is ∙ tells.kind in
+    ap₂ (λ n e. MouseOf (with_kind (told_event tracking t) (kind_of e n (named_button n)) (named_button n)))
+    (code_back code t.x t.y last (sgr_small tracking t)) (last_back code t.x t.y last)
+    ∙ ap₂ (λ k n. MouseOf (with_kind (told_event tracking t) k n)) kind named
+
 pub sgr_read_back_extended : SgrReadBackExtended
 unfolding mouse_text
 sgr_read_back_extended reading report tracking bytes more sends =
     let t = told_by report in
-    subst (λ u. extended.Means reading u more (Input (event_told tracking t) ∷ []) []) (sgr_sent tracking t bytes sends.reported sends.bytes_are)
+    subst (λ u. extended.Means reading u more (report_told Sgr tracking t ∷ []) []) (sgr_sent tracking t bytes sends.reported sends.bytes_are)
+    (subst (λ e. extended.Means reading (sgr_text (code_of tracking Sgr t) t.x t.y (last_byte (action_of t.button))) more (e ∷ []) [])
+    (sgr_told tracking t)
     (report_means_extended _ _ (told_report tracking t sends.place) reading
     (sgr_form (code_of tracking Sgr t) t.x t.y (last_byte (action_of t.button)) (sgr_small tracking t) sends.place.x_fits sends.place.y_fits
-    (final_of (action_of t.button))) more)
+    (final_of (action_of t.button))) more))
 
 -- the numbers that are sent give the report
 numbers_sent : (report : MouseReport) (tracking : MouseTracking) (x y : ℕ) (given : MouseReport) → (told_by report).x ≡ x → (told_by report).y ≡ y

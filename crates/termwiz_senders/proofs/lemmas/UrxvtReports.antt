@@ -1,4 +1,4 @@
--- A mouse report in urxvt's encoding is read back under every reading.
+-- A mouse report in urxvt's encoding is read back where more than the port's sequences is read.
 use Rattle.std.proofs.Common.{◌≡◌, ℕ, ◌+◌, ◌-◌, ◌^◌, ◌<◌, ◌≤◌, Bool, true, false, not, ◌&&◌, List, [], ◌∷◌, ◌++◌, refl, sym, ap, ◌∙◌, subst, arith, append_assoc, decimal, Some, None, Contains}
 use Rattle.std.specs.Prelude.{◌==◌}
 use Rattle.std.specs.List.{AllByRecursion, list_all}
@@ -7,8 +7,6 @@ use Rattle.std.proofs.lemmas.List.Sums.{AllPass-from_list_all}
 use Rattle.termwiz_base.specs.Mouse.{final_press, button_of}
 use Rattle.termwiz_keys.specs.Buttons.{buttons_of}
 use Rattle.termwiz_keys.specs.declared.types.KeyEvent.{KeyEvent}
-use Rattle.termwiz_keys.specs.declared.types.MouseEvent.{MouseEvent}
-use Rattle.termwiz_keys.specs.declared.types.InputEvent.TheVariants.{Mouse}
 use Rattle.termwiz_grammar.specs.MouseReports.{mouse_event}
 use Rattle.termwiz_grammar.specs.Sequences.{Meaning, IsSequence}
 use Rattle.termwiz_grammar.specs.Sequences.Meaning.{Row, Report}
@@ -18,8 +16,10 @@ use Rattle.termwiz_extended_events.specs.Numbers.{fields}
 use Rattle.termwiz_extended_events.specs.KeyReports.{character_key, lettered_key, numbered_key, other_held, other_key, key_report, third_function_key, rxvt_key}
 use Rattle.termwiz_extended_events.specs.Replies.{focus, cursor_position, keyboard_flags, resize, reply, mouse_of_fields, urxvt_mouse, mouse_report}
 use Rattle.termwiz_extended_events.specs.Meanings.{reported, event_after, event_of}
-use Rattle.termwiz_extended_grammar.specs.Readings.{is_asking}
-use Rattle.termwiz_extended_events.specs.declared.types.ExtendedEvent.TheVariants.{Input}
+use Rattle.termwiz_extended_grammar.specs.Readings.{ReadsMore, is_asking}
+use Rattle.termwiz_extended_events.specs.MouseReports.{byte_kind_of, byte_report, named_button}
+use Rattle.termwiz_extended_events.specs.declared.types.MouseReport.{MouseReport}
+use Rattle.termwiz_extended_events.specs.declared.types.Event.TheVariants.{Mouse}
 use Rattle.termwiz_extended_events.specs.declared.types.Reading.{Reading}
 use Rattle.termwiz_extended_grammar.specs.Forms.IsForm.{control}
 use Rattle.termwiz_extended_grammar.specs.ExtraSequences.{IsExtra}
@@ -30,10 +30,10 @@ use Rattle.termwiz_kitty.proofs.lemmas.read_back.SequencesMean.{means_alone}
 use Rattle.termwiz_senders.specs.declared.mouse.MouseEncoding.TheVariants.{Urxvt}
 use Rattle.termwiz_senders.specs.declared.mouse.MouseTracking.{MouseTracking}
 use Rattle.termwiz_senders.specs.declared.mouse.Told.{Told}
-use Rattle.termwiz_senders.specs.MouseTexts.{told_by, code_of, urxvt_text, numbers_text, mouse_text}
-use Rattle.termwiz_senders.specs.MouseLaws.{HasPlace, event_told, UrxvtReadBack}
+use Rattle.termwiz_senders.specs.MouseTexts.{told_by, action_of, code_of, urxvt_text, numbers_text, mouse_text}
+use Rattle.termwiz_senders.specs.MouseLaws.{HasPlace, report_told, UrxvtReadBack}
 use Rattle.termwiz_senders.proofs.lemmas.ControlForms.{written, control_from}
-use Rattle.termwiz_senders.proofs.lemmas.MouseCodes.{held_bits, code_is, modifiers_are, urxvt_tells, small_is, told_event, event_is}
+use Rattle.termwiz_senders.proofs.lemmas.MouseCodes.{held_bits, code_is, modifiers_are, urxvt_tells, same_number, small_is, told_event, event_is, report_is}
 use Rattle.termwiz_senders.proofs.lemmas.WrittenNumbers.{IsBody, begins_with_digit, field_of, number_back, numbers_in_body, numbers_short, numbers_some}
 
 -- no row ends so
@@ -93,7 +93,7 @@ module _ (body : List ℕ) where
   unfolding rxvt_key
   no_rxvt = rw (before_other_end body 77 94 (λ e. omega arith), before_other_end body 77 64 (λ e. omega arith), before_other_end body 77 36 (λ e. omega arith)) refl
 
-  event_by_fields : (asks : Bool) (e : MouseEvent) → mouse_of_fields (fields body) ≡ Some e → event_of asks (written body 77) ≡ Input (Mouse e)
+  event_by_fields : (asks : Bool) (e : MouseReport) → mouse_of_fields (fields body) ≡ Some e → event_of asks (written body 77) ≡ Mouse e
   unfolding event_of event_after reported mouse_report urxvt_mouse
   event_by_fields true e is = rw (no_focus body, no_key, no_reply, no_third, no_rxvt, before_end_here body 77, is) refl
   event_by_fields false e is = rw (no_focus body, no_key, no_reply, no_third, no_rxvt, before_end_here body 77, is) refl
@@ -107,7 +107,7 @@ three_fields n x y c f g =
     ∙ ap (λ t. decimal n ∷ t) (more_fields (decimal x) (decimal y) (field_of x f) ∙ ap (λ t. decimal x ∷ t) (one_field (decimal y) (field_of y g)))
 
 numbers_mean : (code x y : ℕ) → code ≤ 95 → x < 2 ^ 16 → y < 2 ^ 16
-    → mouse_of_fields (fields (numbers_text (32 + code) x y)) ≡ Some (mouse_event code x y final_press)
+    → mouse_of_fields (fields (numbers_text (32 + code) x y)) ≡ Some (byte_report code x y)
 numbers_mean code x y small f g =
     let c : 32 + code < 2 ^ 16 = omega arith in
     let back : (32 + code) - 32 ≡ code = omega arith in
@@ -137,27 +137,39 @@ urxvt_event tracking t =
     (ap (λ n. buttons_of (button_of n final_press)) (code_is tracking Urxvt t h) ∙ tells.buttons)
     (modifiers_are tracking Urxvt t h tells.modifiers)
 
-urxvt_extra : (reading : Reading) (tracking : MouseTracking) (t : Told) → HasPlace t
-    → IsExtra reading (urxvt_text (code_of tracking Urxvt t) t.x t.y) (Input (Mouse (told_event tracking t)))
-urxvt_extra reading tracking t place =
+urxvt_told : (tracking : MouseTracking) (t : Told)
+    → Mouse (byte_report (code_of tracking Urxvt t) t.x t.y) ≡ report_told Urxvt tracking t
+urxvt_told tracking t =
+    let h = held_bits tracking t.modifiers.0 in
+    let tells = urxvt_tells t.button h.s h.a h.c in
+    let is = code_is tracking Urxvt t h in
+    report_is Urxvt tracking t (code_of tracking Urxvt t) (urxvt_event tracking t)
+    (ap named_button is ∙ tells.named ∙ same_number (action_of t.button) t.button)
+    (ap (λ n. byte_kind_of n (named_button n)) is ∙ tells.kind)
+
+urxvt_extra : (reading : Reading) (tracking : MouseTracking) (t : Told) → ReadsMore reading → HasPlace t
+    → IsExtra reading (urxvt_text (code_of tracking Urxvt t) t.x t.y) (report_told Urxvt tracking t)
+urxvt_extra reading tracking t reads place =
     let code = code_of tracking Urxvt t in
     let small = urxvt_small tracking t in
     let c : 32 + code < 2 ^ 16 = omega (arith, small) in
     let body = numbers_text (32 + code) t.x t.y in
     let a = numbers_in_body (32 + code) t.x t.y c place.x_fits place.y_fits in
     record {
+      reads = reads;
       is_form = control (control_from body 77 a (numbers_some (32 + code) t.x t.y c) (omega arith, omega arith)
           (omega (arith, numbers_short (32 + code) t.x t.y c place.x_fits place.y_fits)));
       is_free = free_from_none reading (written body 77) (no_sequence body a (no_sign code t.x t.y c));
-      means = sym (event_by_fields body (is_asking reading) (told_event tracking t)
-          (numbers_mean code t.x t.y small place.x_fits place.y_fits ∙ ap (λ e. Some e) (urxvt_event tracking t)));
+      means = sym (event_by_fields body (is_asking reading) (byte_report code t.x t.y)
+          (numbers_mean code t.x t.y small place.x_fits place.y_fits)
+          ∙ urxvt_told tracking t);
     }
 
 pub urxvt_read_back : UrxvtReadBack
 unfolding mouse_text
-urxvt_read_back reading report tracking bytes more sends =
+urxvt_read_back reading report tracking bytes more reads sends =
     let t = told_by report in
     let sent : Some (urxvt_text (code_of tracking Urxvt t) t.x t.y) ≡ Some bytes = rw sends.reported at sends.bytes_are in
     let same : urxvt_text (code_of tracking Urxvt t) t.x t.y ≡ bytes = cc (sent) in
-    subst (λ u. extended.Means reading u more (Input (event_told tracking t) ∷ []) []) same
-    (means_alone reading _ more _ (urxvt_extra reading tracking t sends.place))
+    subst (λ u. extended.Means reading u more (report_told Urxvt tracking t ∷ []) []) same
+    (means_alone reading _ more _ (urxvt_extra reading tracking t reads sends.place))

@@ -1,7 +1,7 @@
 -- Reads one after another, and events one by one.
 use Rattle.std.proofs.Common.{ℕ, ◌+◌, ◌≤◌, Bool, List, [], ◌∷◌, ◌++◌, length, refl, ap, arith, length-append}
 use Rattle.termwiz_grammar.specs.Streams.{OneRead, bytes_of_reads}
-use Rattle.termwiz_extended_events.specs.declared.types.ExtendedEvent.{ExtendedEvent}
+use Rattle.termwiz_extended_events.specs.declared.types.Event.{Event}
 use Rattle.termwiz_extended_events.specs.declared.types.Reading.{Reading}
 use Rattle.termwiz_extended_grammar.specs.Readings.{after_event, after_events}
 use Rattle.termwiz_extended_grammar.specs.ExtendedGrammar.{Steps, Means}
@@ -10,7 +10,7 @@ use Rattle.termwiz_extended_grammar.specs.ExtendedStreams.{OneByOne, ReadInTurn}
 use Rattle.termwiz_extended_grammar.proofs.lemmas.cuts.ExtendedCuts.{few_events, join_steps}
 
 -- what waits before the first read counts as bytes do
-few_in_turn : (reading : Reading) (reads : List OneRead) (before W : List ℕ) (E : List ExtendedEvent) → ReadInTurn Steps reading before reads E W
+few_in_turn : (reading : Reading) (reads : List OneRead) (before W : List ℕ) (E : List Event) → ReadInTurn Steps reading before reads E W
     → length E + length W ≤ length before + length (bytes_of_reads reads)
 few_in_turn reading [] before W E (none, same) = omega (arith, ap length none, ap length same)
 few_in_turn reading (read ∷ reads) before W E (first, later, between, parts, steps, rest) =
@@ -25,7 +25,7 @@ few_in_turn reading (read ∷ reads) before W E (first, later, between, parts, s
     )
 
 -- reads that are read whole are read item by item
-steps_in_turn : (reading : Reading) (reads : List OneRead) (before W : List ℕ) (E : List ExtendedEvent) → ReadInTurn Means reading before reads E W
+steps_in_turn : (reading : Reading) (reads : List OneRead) (before W : List ℕ) (E : List Event) → ReadInTurn Means reading before reads E W
     → ReadInTurn Steps reading before reads E W
 steps_in_turn reading [] before W E h = h
 steps_in_turn reading (read ∷ reads) before W E (first, later, between, parts, means, rest) =
@@ -37,12 +37,12 @@ few_events_in_stream reading reads E W = (
   λ h. omega (arith, few_in_turn reading reads [] W E h),
 )
 
-joined_steps : (reading : Reading) (E : List ExtendedEvent) (T W : List ℕ) (f : Bool) → OneByOne reading T f E W → Steps reading T f E W
+joined_steps : (reading : Reading) (E : List Event) (T W : List ℕ) (f : Bool) → OneByOne reading T f E W → Steps reading T f E W
 joined_steps reading [] T W f h = h
 joined_steps reading (e ∷ E) T W f (left, step, rest) =
     join_steps reading (e ∷ []) E T left W f step (joined_steps (after_event reading e) E left W f rest)
 
-single_steps : (reading : Reading) (E : List ExtendedEvent) (T W : List ℕ) (f : Bool) → Steps reading T f E W → OneByOne reading T f E W
+single_steps : (reading : Reading) (E : List Event) (T W : List ℕ) (f : Bool) → Steps reading T f E W → OneByOne reading T f E W
 single_steps reading [] T W f h = h
 single_steps reading (e ∷ E) T W f (left, stands, steps) = (left, (left, stands, refl), single_steps (after_event reading e) E left W f steps)
 

@@ -6,7 +6,7 @@ use Rattle.std.specs.Str.Lossy.{utf8_lossy}
 use Rattle.termwiz_keymap.specs.Bytes.{Begins, Occurs}
 use Rattle.termwiz_keymap.proofs.lemmas.lists.CommonPrefixes.{append-some}
 use Rattle.termwiz_keys.specs.Introducers.{ESC, START, END}
-use Rattle.termwiz_keys.specs.declared.types.InputEvent.TheVariants.{Paste}
+use Rattle.termwiz_keys.specs.declared.types.InputEvent.TheVariants.{Paste as PortsPaste}
 use Rattle.termwiz_grammar.specs.Sequences.Meaning.{Row}
 use Rattle.termwiz_grammar.specs.Grammar.{EndsFirst, IsUnfinishedSequence, IsUnfinishedCharacter}
 use Rattle.termwiz_grammar.proofs.lemmas.table.RowShape.{Bytes}
@@ -17,15 +17,13 @@ use Rattle.termwiz_grammar.proofs.lemmas.items.OneItem.{start_head}
 use Rattle.termwiz_grammar.proofs.lemmas.waiting.RestShape.{endless_rests}
 use Rattle.termwiz_grammar.proofs.lemmas.pastes.HeldBytes.{ComesAfter, comes_after, no_end_left}
 use Rattle.termwiz_grammar.proofs.lemmas.pastes.PartsJoin.{paste_stands, start_closed}
-use Rattle.termwiz_extended_events.specs.declared.types.ExtendedEvent.{ExtendedEvent}
-use Rattle.termwiz_extended_events.specs.declared.types.ExtendedEvent.TheVariants.{Input, Csi}
-use Rattle.termwiz_extended_events.specs.declared.types.Protocol.{Protocol}
+use Rattle.termwiz_extended_events.specs.declared.types.Event.{Event}
+use Rattle.termwiz_extended_events.specs.declared.types.Event.TheVariants.{Csi, Paste}
 use Rattle.termwiz_extended_events.specs.declared.types.Reading.{Reading}
-use Rattle.termwiz_extended_events.specs.declared.types.Protocol.TheVariants.{Legacy, Kitty}
-use Rattle.termwiz_extended_events.specs.Meanings.{event_of, IsPosition, IsKeyOrPosition}
+use Rattle.termwiz_extended_events.specs.Meanings.{event_of, IsKeyOrPosition}
 use Rattle.termwiz_extended_events.proofs.Examples.{written_out}
-use Rattle.termwiz_extended_grammar.specs.ExtraSequences.{Overrides, IsExtra}
-use Rattle.termwiz_extended_grammar.specs.Readings.{after_event, after_events, event_in}
+use Rattle.termwiz_extended_grammar.specs.ExtraSequences.{IsExtra}
+use Rattle.termwiz_extended_grammar.specs.Readings.{after_event, after_events}
 use Rattle.termwiz_extended_grammar.specs.Strings.{StartsWithOpening}
 use Rattle.termwiz_extended_grammar.specs.ExtendedGrammar.{StartsExtended, BeginsExtended, IsRest, IsUsual, Means, Stands, Steps}
 use Rattle.termwiz_extended_grammar.specs.ExtendedGrammar.Stands.{extra, alt_key, lone_escape, string, usual}
@@ -44,20 +42,15 @@ unfolding written_out
 start_means true = refl
 start_means false = refl
 
-pub start_not_extra : (reading : Reading) (event : ExtendedEvent) → IsExtra reading START event → ⊥
-start_not_extra reading event is =
-    by_protocol reading.protocol reading.questions (is.is_free (Row start) start_is_sequence).2
-  where
-    by_protocol : (protocol : Protocol) (questions : ℕ) → Overrides protocol questions (event_in reading START) → ⊥
-    by_protocol Legacy questions h = subst IsPosition (start_means _) h.1
-    by_protocol Kitty questions h = subst IsKeyOrPosition (start_means _) h
+pub start_not_extra : (reading : Reading) (event : Event) → IsExtra reading START event → ⊥
+start_not_extra reading event is = subst IsKeyOrPosition (start_means _) (is.is_free (Row start) start_is_sequence).2
 
 -- so no extra sequence and no opening begins a text that START begins
 none_begins : (reading : Reading) (u : List ℕ) → Begins START u → StartsExtended reading u → ⊥
 none_begins reading u b (inl h) =
     let same : h.text ≡ START = mark_once u h.text START (inl h.is_extra.is_form) (inl start_form) h.begins b in
     start_not_extra reading h.event (subst (λ x. IsExtra reading x h.event) same h.is_extra)
-none_begins reading u b (inr o) =
+none_begins reading u b (inr (reads, o)) =
     no_opening_after 27 91 (codes "200~" ++ b.0) (λ escape is. omega arith) (subst StartsWithOpening b.1 o)
 
 pub usual_start : (reading : Reading) (u : List ℕ) (f : Bool) → Begins START u → IsUsual reading u f
@@ -105,28 +98,28 @@ module _ (reading : Reading) (u v : List ℕ) (b : Begins START u) (split : u �
 
 -- a paste with its end stands, and leaves what follows
 stands : (reading : Reading) (body rest : List ℕ) (f : Bool) → EndsFirst body
-    → Stands reading (START ++ (body ++ END ++ rest)) f rest (Input (Paste (utf8_lossy body)))
+    → Stands reading (START ++ (body ++ END ++ rest)) f rest (Paste (utf8_lossy body))
 stands reading body rest f first =
     let u : List ℕ = START ++ (body ++ END ++ rest) in
     let b : Begins START u = (body ++ END ++ rest, refl) in
-    usual (START ++ body ++ END) rest (Paste (utf8_lossy body)) (paste_stands body rest f first) refl (usual_start reading u f b)
+    usual (START ++ body ++ END) rest (PortsPaste (utf8_lossy body)) (paste_stands body rest f first) refl (usual_start reading u f b)
     (λ v split. usual_after reading u v b split f)
 
-pub paste_then : (reading : Reading) (body rest W : List ℕ) (E : List ExtendedEvent) (f : Bool) → EndsFirst body → Means reading rest f E W
-    → Means reading (START ++ (body ++ END ++ rest)) f (Input (Paste (utf8_lossy body)) ∷ E) W
+pub paste_then : (reading : Reading) (body rest W : List ℕ) (E : List Event) (f : Bool) → EndsFirst body → Means reading rest f E W
+    → Means reading (START ++ (body ++ END ++ rest)) f (Paste (utf8_lossy body) ∷ E) W
 paste_then reading body rest W E f first means =
     record { steps = (rest, stands reading body rest f first, means.steps); rest = means.rest }
 
 -- and is the first event
-paste_first : (reading : Reading) (body rest W : List ℕ) (e : ExtendedEvent) (E : List ExtendedEvent) (f : Bool) → EndsFirst body
+paste_first : (reading : Reading) (body rest W : List ℕ) (e : Event) (E : List Event) (f : Bool) → EndsFirst body
     → Means reading (START ++ (body ++ END ++ rest)) f (e ∷ E) W
-    → (e ≡ Input (Paste (utf8_lossy body))) × Means reading rest f E W
+    → (e ≡ Paste (utf8_lossy body)) × Means reading rest f E W
 paste_first reading body rest W e E f first means = go means.steps
   where
     go : (left : List ℕ) × Stands reading (START ++ (body ++ END ++ rest)) f left e × Steps (after_event reading e) left f E W
-        → (e ≡ Input (Paste (utf8_lossy body))) × Means reading rest f E W
+        → (e ≡ Paste (utf8_lossy body)) × Means reading rest f E W
     go (left, here, steps) =
-        let once = stands_once reading (START ++ (body ++ END ++ rest)) f left rest e (Input (Paste (utf8_lossy body))) here
+        let once = stands_once reading (START ++ (body ++ END ++ rest)) f left rest e (Paste (utf8_lossy body)) here
         (stands reading body rest f first) in
         let same : after_event reading e ≡ reading = ap (λ x. after_event reading x) once.1 in (
           once.1,
@@ -144,8 +137,8 @@ open_rests reading body f free left event (alt_key text left2 e is bare split) =
     (usual_after reading (START ++ body) (text ++ left2) (body, refl) split f).none (starts_with reading text left2 e is)
 open_rests reading body f free left event (lone_escape v split after) =
     (usual_after reading (START ++ body) v (body, refl) split f).none (apart_starts reading v after)
-open_rests reading body f free left event (string kind head bytes after left2 e is comes) =
-    none_begins reading (START ++ body) (body, refl) (inr (string_opening (START ++ body) kind head bytes after is))
+open_rests reading body f free left event (string kind head bytes after left2 e reads is comes) =
+    none_begins reading (START ++ body) (body, refl) (inr (reads, string_opening (START ++ body) kind head bytes after is))
 open_rests reading body f free left event (usual s left2 e here split is gap) =
     endless_rests (START ++ body) f start (start_head (START ++ body) (body, refl)) body refl free s e here
 
@@ -176,31 +169,31 @@ parts_join reading u decided held c f parted =
         left : START ++ held ++ c ≡ START ++ (at.inner ++ END ++ at.rest)
         left = ap (λ x. START ++ x) at.left_splits
 
-        then : (R : List ℕ) (E : List ExtendedEvent) → Means reading at.rest f E R
-            → Means reading (START ++ held ++ c) f (Input (Paste (utf8_lossy at.inner)) ∷ E) R
-        then R E means = subst (λ x. Means reading x f (Input (Paste (utf8_lossy at.inner)) ∷ E) R) (sym left)
+        then : (R : List ℕ) (E : List Event) → Means reading at.rest f E R
+            → Means reading (START ++ held ++ c) f (Paste (utf8_lossy at.inner) ∷ E) R
+        then R E means = subst (λ x. Means reading x f (Paste (utf8_lossy at.inner) ∷ E) R) (sym left)
             (paste_then reading at.inner at.rest R E f at.left_first means)
 
-        forth : (s : List ℕ) (E : List ExtendedEvent) (R : List ℕ) → Means reading (u ++ c) f (Input (Paste s) ∷ E) R
-            → (later : List ℕ) × (s ≡ utf8_lossy decided ++ later) × Means reading (START ++ held ++ c) f (Input (Paste later) ∷ E) R
+        forth : (s : List ℕ) (E : List Event) (R : List ℕ) → Means reading (u ++ c) f (Paste s ∷ E) R
+            → (later : List ℕ) × (s ≡ utf8_lossy decided ++ later) × Means reading (START ++ held ++ c) f (Paste later ∷ E) R
         forth s E R means =
-            let got = paste_first reading (decided ++ at.inner) at.rest R (Input (Paste s)) E f at.whole_first
-            (subst (λ x. Means reading x f (Input (Paste s) ∷ E) R) here means) in
+            let got = paste_first reading (decided ++ at.inner) at.rest R (Paste s) E f at.whole_first
+            (subst (λ x. Means reading x f (Paste s ∷ E) R) here means) in
             let text : s ≡ utf8_lossy (decided ++ at.inner) = cc (got.0) in
             (utf8_lossy at.inner, text ∙ at.text, then R E got.1)
 
-        back : (s : List ℕ) (E : List ExtendedEvent) (R : List ℕ)
-            → ((later : List ℕ) × (s ≡ utf8_lossy decided ++ later) × Means reading (START ++ held ++ c) f (Input (Paste later) ∷ E) R)
-            → Means reading (u ++ c) f (Input (Paste s) ∷ E) R
+        back : (s : List ℕ) (E : List Event) (R : List ℕ)
+            → ((later : List ℕ) × (s ≡ utf8_lossy decided ++ later) × Means reading (START ++ held ++ c) f (Paste later ∷ E) R)
+            → Means reading (u ++ c) f (Paste s ∷ E) R
         back s E R (later, text, means) =
-            let got = paste_first reading at.inner at.rest R (Input (Paste later)) E f at.left_first
-            (subst (λ x. Means reading x f (Input (Paste later) ∷ E) R) left means) in
+            let got = paste_first reading at.inner at.rest R (Paste later) E f at.left_first
+            (subst (λ x. Means reading x f (Paste later ∷ E) R) left means) in
             let same : later ≡ utf8_lossy at.inner = cc (got.0) in
             let all : s ≡ utf8_lossy (decided ++ at.inner) = text ∙ ap (λ x. utf8_lossy decided ++ x) same ∙ sym at.text in
-            subst (λ x. Means reading x f (Input (Paste s) ∷ E) R) (sym here)
-            (subst (λ x. Means reading (START ++ (decided ++ at.inner ++ END ++ at.rest)) f (Input (Paste x) ∷ E) R) (sym all)
+            subst (λ x. Means reading x f (Paste s ∷ E) R) (sym here)
+            (subst (λ x. Means reading (START ++ (decided ++ at.inner ++ END ++ at.rest)) f (Paste x ∷ E) R) (sym all)
             (paste_then reading (decided ++ at.inner) at.rest R E f at.whole_first got.1))
 
-        some : (later : List ℕ) × (E : List ExtendedEvent) × (R : List ℕ)
-            × Means reading (START ++ held ++ c) f (Input (Paste later) ∷ E) R
+        some : (later : List ℕ) × (E : List Event) × (R : List ℕ)
+            × Means reading (START ++ held ++ c) f (Paste later ∷ E) R
         some = (let m = one_meaning reading at.rest f in (utf8_lossy at.inner, m.0, m.1, then m.1 m.0 m.2))

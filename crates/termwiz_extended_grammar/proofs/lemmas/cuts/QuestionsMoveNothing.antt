@@ -1,10 +1,8 @@
--- Which texts are known, open or rests doesn't depend on the open questions.
-use Rattle.std.proofs.Common.{◌≡◌, ◌≢◌, inl, inr, ⊎_elim, ℕ, Bool, List, [], ◌∷◌, ◌++◌, refl, sym, ap, ◌∙◌, subst, append_assoc, arith}
+-- Which texts are known, open or rests doesn't depend on the open questions, nor on what the bytes 8, 10 and 127 are.
+use Rattle.std.proofs.Common.{◌≡◌, ◌≢◌, inl, inr, ⊎_elim, ℕ, Bool, List, [], ◌∷◌, ◌++◌, refl, sym, ap, ap₂, ◌∙◌, subst, append_assoc, arith}
 use Rattle.std.specs.List.{AllByRecursion}
 use Rattle.termwiz_keymap.proofs.lemmas.lists.CommonPrefixes.{append-some}
 use Rattle.termwiz_keys.specs.Introducers.{ESC, START}
-use Rattle.termwiz_keys.specs.declared.types.InputEvent.TheVariants.{Key}
-use Rattle.termwiz_keys.specs.Keys.{escape}
 use Rattle.termwiz_grammar.specs.Sequences.{Meaning, IsSequence}
 use Rattle.termwiz_grammar.specs.Grammar as port
 use Rattle.termwiz_grammar.specs.Laws as portlaws
@@ -15,12 +13,12 @@ use Rattle.termwiz_grammar.proofs.lemmas.table.SequenceFacts.{sequence_or_not}
 use Rattle.termwiz_grammar.proofs.lemmas.items.ItemStable.{item_begins}
 use Rattle.termwiz_grammar.proofs.lemmas.waiting.RestShape.{Settled, settle}
 use Rattle.termwiz_grammar.proofs.lemmas.waiting.RestShape.Settled.{standing, resting}
-use Rattle.termwiz_extended_events.specs.declared.types.ExtendedEvent.{ExtendedEvent}
-use Rattle.termwiz_extended_events.specs.declared.types.ExtendedEvent.TheVariants.{Input}
+use Rattle.termwiz_extended_events.specs.declared.types.Event.{Event}
+use Rattle.termwiz_extended_events.specs.PortEvents.{told}
 use Rattle.termwiz_extended_events.specs.declared.types.Reading.{Reading}
 use Rattle.termwiz_extended_grammar.specs.ExtraSequences.{IsExtra}
-use Rattle.termwiz_extended_grammar.specs.Readings.{asking, event_in}
-use Rattle.termwiz_extended_grammar.specs.ExtendedGrammar.{StartsExtended, BeginsKnown, IsOpen, IsUsual, HasItem, IsRest, Stands}
+use Rattle.termwiz_extended_grammar.specs.Readings.{event_in}
+use Rattle.termwiz_extended_grammar.specs.ExtendedGrammar.{StartsExtended, BeginsKnown, IsOpen, IsUsual, HasItem, IsRest, Stands, escape_event}
 use Rattle.termwiz_extended_grammar.specs.ExtendedGrammar.Stands.{extra, alt_key, lone_escape, string, usual}
 use Rattle.termwiz_extended_grammar.specs.ExtendedLaws.{IsKnown, QuestionsMoveNothing}
 use Rattle.termwiz_extended_grammar.proofs.lemmas.forms.FormBytes.{IsMark, mark_shape}
@@ -33,32 +31,37 @@ use Rattle.termwiz_extended_grammar.proofs.lemmas.cuts.BeforeEscape.{escape_come
 use Rattle.termwiz_extended_grammar.proofs.lemmas.cuts.PartsOfPastes.{start_not_extra}
 use Rattle.termwiz_extended_grammar.proofs.lemmas.cuts.SameAsPort.{plain_after}
 
-known_too : (reading : Reading) (questions : ℕ) (u : List ℕ) → IsKnown reading u → IsKnown (asking reading questions) u
-known_too reading questions u (inl known) = inl known
-known_too reading questions u (inr (e, is)) = ⊎_elim
+-- the other reading, if it has the same dialect and reads X10 mouse reports as this one does
+abbrev alike : Reading → Reading → Reading
+alike reading other = record other { dialect = reading.dialect; x10_mouse = reading.x10_mouse }
+
+known_too : (reading other : Reading) (u : List ℕ) → IsKnown reading u → IsKnown (alike reading other) u
+known_too reading other u (inl known) = inl known
+known_too reading other u (inr (e, is)) = ⊎_elim
     (λ (known : (m : Meaning) × IsSequence u m). inl known)
     (λ (none : ((m : Meaning) × IsSequence u m) → ⊥). inr (
-      event_in (asking reading questions) u,
+      event_in (alike reading other) u,
       record {
+        reads = is.reads;
         is_form = is.is_form;
-        is_free = free_from_none (asking reading questions) u (λ m it. none (m, it));
+        is_free = free_from_none (alike reading other) u (λ m it. none (m, it));
         means = refl;
       },
     ))
     (sequence_or_not u)
 
-begins_too : (reading : Reading) (questions : ℕ) (u : List ℕ) → BeginsKnown reading u → BeginsKnown (asking reading questions) u
-begins_too reading questions u (inl h) = inl h
-begins_too reading questions u (inr (inl h)) = inr (inl (unfinished_from_form (asking reading questions) u (record {
+begins_too : (reading other : Reading) (u : List ℕ) → BeginsKnown reading u → BeginsKnown (alike reading other) u
+begins_too reading other u (inl h) = inl h
+begins_too reading other u (inr (inl h)) = inr (inl (unfinished_from_form (alike reading other) u h.is_extra.reads (record {
   tail = h.tail;
   longer = h.longer;
   is_form = h.is_extra.is_form;
 })))
-begins_too reading questions u (inr (inr o)) = inr (inr o)
+begins_too reading other u (inr (inr o)) = inr (inr o)
 
-open_too : (reading : Reading) (questions : ℕ) (u : List ℕ) (f : Bool) → IsOpen reading u f → IsOpen (asking reading questions) u f
-open_too reading questions u f h =
-    record { more_comes = h.more_comes; some = h.some; beginning = begins_too reading questions u h.beginning }
+open_too : (reading other : Reading) (u : List ℕ) (f : Bool) → IsOpen reading u f → IsOpen (alike reading other) u f
+open_too reading other u f h =
+    record { more_comes = h.more_comes; some = h.some; beginning = begins_too reading other u h.beginning }
 
 -- what begins with ESC begins no character
 escape_no_character : (u t : List ℕ) → u ≡ 27 ∷ t → port.IsUnfinishedCharacter u → ⊥
@@ -90,7 +93,7 @@ escapes_begin_none reading u t e (inr h) =
 
 -- an item of the port stands where neither a text nor what follows its ESC is open, and no paste starts
 port_stands : (reading : Reading) (u : List ℕ) (f : Bool) → u ≢ [] → ((body : List ℕ) → u ≢ START ++ body) → IsUsual reading u f
-    → ((v : List ℕ) → u ≡ ESC ++ v → IsUsual reading v f) → (left : List ℕ) × (event : ExtendedEvent) × Stands reading u f left event
+    → ((v : List ℕ) → u ≡ ESC ++ v → IsUsual reading v f) → (left : List ℕ) × (event : Event) × Stands reading u f left event
 port_stands reading u f some no_start is after = go (settle u f)
   where
     never : portlaws.Waits u f → ⊥
@@ -104,15 +107,15 @@ port_stands reading u f some no_start is after = go (settle u f)
     never (undecided held bytes (inr single) e n b short m) =
         (after bytes (e ∙ ap (λ z. z ++ bytes) single)).closed (record { more_comes = m; some = n; beginning = inl b })
 
-    go : Settled u f → (left : List ℕ) × (event : ExtendedEvent) × Stands reading u f left event
+    go : Settled u f → (left : List ℕ) × (event : Event) × Stands reading u f left event
     go (standing bytes event stands) =
         let b = item_begins u bytes event f stands.item in
-        (b.0, Input event, usual bytes b.0 event stands b.1 is after)
+        (b.0, told reading bytes event, usual bytes b.0 event stands b.1 is after)
     go (resting rest w) = absurd (never w)
 
-module _ (reading : Reading) (questions : ℕ) (u : List ℕ) (f : Bool) (rest : IsRest reading u f) where
-  -- what is an extra sequence by the questions alone is a row, at which the port's item stands
-  row_stands : (text left : List ℕ) (event : ExtendedEvent) → IsExtra (asking reading questions) text event → u ≡ text ++ left
+module _ (reading other : Reading) (u : List ℕ) (f : Bool) (rest : IsRest reading u f) where
+  -- what is an extra sequence to the other reading alone is a row, at which the port's item stands
+  row_stands : (text left : List ℕ) (event : Event) → IsExtra (alike reading other) text event → u ≡ text ++ left
       → ¬ StartsExtended reading u → (m : Meaning) → IsSequence text m → ⊥
   row_stands text left event is split none m row =
       let shape = mark_shape text (inl is.is_form) in
@@ -130,10 +133,10 @@ module _ (reading : Reading) (questions : ℕ) (u : List ℕ) (f : Bool) (rest :
       no_start : (body : List ℕ) → u ≢ START ++ body
       no_start body e =
           let same : text ≡ START = mark_once u text START (inl is.is_form) (inl start_form) (left, split) (body, e) in
-          start_not_extra (asking reading questions) event (subst (λ z. IsExtra (asking reading questions) z event) same is)
+          start_not_extra (alike reading other) event (subst (λ z. IsExtra (alike reading other) z event) same is)
 
   -- after an ESC too
-  row_stands_after : (v text left : List ℕ) (event : ExtendedEvent) → u ≡ ESC ++ v → IsExtra (asking reading questions) text event
+  row_stands_after : (v text left : List ℕ) (event : Event) → u ≡ ESC ++ v → IsExtra (alike reading other) text event
       → v ≡ text ++ left → ⊥
   row_stands_after v text left event before is split = ⊎_elim
       (λ (h : StartsExtended reading v). joined (before_extended reading v f h))
@@ -162,14 +165,15 @@ module _ (reading : Reading) (questions : ℕ) (u : List ℕ) (f : Bool) (rest :
       no_start : (body : List ℕ) → u ≢ START ++ body
       no_start body e = (let same : ◌≡◌ {A = ℕ} 27 91 = cc (whole, e) in omega arith)
 
-  -- what begins with an extra sequence by the questions alone
-  starts_none : StartsExtended (asking reading questions) u → ¬ StartsExtended reading u → ⊥
+  -- what begins with an extra sequence to the other reading alone
+  starts_none : StartsExtended (alike reading other) u → ¬ StartsExtended reading u → ⊥
   starts_none (inl h) none = ⊎_elim
       (λ (known : (m : Meaning) × IsSequence h.text m). row_stands h.text h.begins.0 h.event h.is_extra h.begins.1 none known.0 known.1)
       (λ (free : ((m : Meaning) × IsSequence h.text m) → ⊥). none (inl (record {
         text = h.text;
         event = event_in reading h.text;
         is_extra = record {
+          reads = h.is_extra.reads;
           is_form = h.is_extra.is_form;
           is_free = free_from_none reading h.text (λ m is. free (m, is));
           means = refl;
@@ -179,8 +183,8 @@ module _ (reading : Reading) (questions : ℕ) (u : List ℕ) (f : Bool) (rest :
       (sequence_or_not h.text)
   starts_none (inr o) none = none (inr o)
 
-  -- what stands by the questions alone
-  nothing_stands : (left : List ℕ) (event : ExtendedEvent) → Stands (asking reading questions) u f left event → ⊥
+  -- what stands to the other reading alone
+  nothing_stands : (left : List ℕ) (event : Event) → Stands (alike reading other) u f left event → ⊥
   nothing_stands left event (extra text left2 e is split) = ⊎_elim
       (λ (h : StartsExtended reading u). at_start h)
       (λ (none : ¬ StartsExtended reading u).
@@ -189,16 +193,16 @@ module _ (reading : Reading) (questions : ℕ) (u : List ℕ) (f : Bool) (rest :
     where
       at_start : StartsExtended reading u → ⊥
       at_start (inl h) = rest h.begins.0 h.event (extra h.text h.begins.0 h.event h.is_extra h.begins.1)
-      at_start (inr o) = extra_or_opening (asking reading questions) u
+      at_start (inr (reads, o)) = extra_or_opening (alike reading other) u
           (record { text = text; event = e; is_extra = is; begins = (left2, split) }) o
   nothing_stands left event (alt_key text left2 e is bare split) = row_stands_after (text ++ left2) text left2 e split is refl
   nothing_stands left event (lone_escape v split (inl h)) = row_stands_after v h.text h.begins.0 h.event split h.is_extra h.begins.1
-  nothing_stands left event (lone_escape v split (inr o)) = rest v (Input (Key escape)) (lone_escape v split (inr o))
-  nothing_stands left event (string kind head bytes after left2 e is comes) = rest left e (string kind head bytes after left e is comes)
+  nothing_stands left event (lone_escape v split (inr o)) = rest v escape_event (lone_escape v split (inr o))
+  nothing_stands left event (string kind head bytes after left2 e reads is comes) = rest left e (string kind head bytes after left e reads is comes)
   nothing_stands left event (usual bytes left2 e stands split is gap) = ⊎_elim
       (λ (h : StartsExtended reading u). at_start h)
-      (λ (none : ¬ StartsExtended reading u). rest left (Input e) (usual bytes left e stands split
-      (record { none = none; closed = λ h. is.closed (open_too reading questions u f h) }) after))
+      (λ (none : ¬ StartsExtended reading u). rest left (told reading bytes e) (usual bytes left e stands split
+      (record { none = none; closed = λ h. is.closed (open_too reading other u f h) }) after))
       (starts_extended_or_not reading u)
     where
       at_start : StartsExtended reading u → ⊥
@@ -209,12 +213,15 @@ module _ (reading : Reading) (questions : ℕ) (u : List ℕ) (f : Bool) (rest :
       after v e = record {
         none = λ h. (let item = before_extended reading v f h in
             rest item.0 item.1 (subst (λ z. Stands reading z f item.0 item.1) (sym e) item.2));
-        closed = λ h. (gap v e).closed (open_too reading questions v f h);
+        closed = λ h. (gap v e).closed (open_too reading other v f h);
       }
 
 pub questions_move_nothing : QuestionsMoveNothing
-questions_move_nothing reading questions u f = (
-  known_too reading questions u,
-  open_too reading questions u f,
-  λ rest left event stands. nothing_stands reading questions u f rest left event stands,
+questions_move_nothing reading other u f dialect x10_mouse = (
+  λ known. subst (λ r. IsKnown r u) same (known_too reading other u known),
+  λ is. subst (λ r. IsOpen r u f) same (open_too reading other u f is),
+  λ rest. subst (λ r. IsRest r u f) same (nothing_stands reading other u f rest),
 )
+  where
+    same : alike reading other ≡ other
+    same = ap₂ (λ d x. record other { dialect = d; x10_mouse = x }) dialect x10_mouse

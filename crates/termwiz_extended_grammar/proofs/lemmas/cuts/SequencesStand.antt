@@ -14,15 +14,16 @@ use Rattle.termwiz_grammar.proofs.lemmas.lists.Decidable.{same_or_not}
 use Rattle.termwiz_grammar.proofs.lemmas.table.SequenceFacts.{escape_is_sequence}
 use Rattle.termwiz_grammar.proofs.lemmas.items.OneHead.{longest_whole}
 use Rattle.termwiz_grammar.proofs.lemmas.items.OneItem.{item_once}
-use Rattle.termwiz_extended_events.specs.declared.types.ExtendedEvent.{ExtendedEvent}
-use Rattle.termwiz_extended_events.specs.declared.types.ExtendedEvent.TheVariants.{Input, FocusGained, FocusLost, CursorPosition, Resize, KeyboardFlags, SideButton, Csi, Osc, Dcs, Apc, StringPart, StringCut}
-use Rattle.termwiz_extended_events.specs.declared.types.ExtendedEvent.TheVariants.{Key as KeyReported}
+use Rattle.termwiz_extended_events.specs.declared.types.Event.{Event}
+use Rattle.termwiz_extended_events.specs.declared.types.Event.TheVariants.{Mouse, Paste, FocusGained, FocusLost, CursorPosition, Resize, KeyboardFlags, Csi, Osc, Dcs, Apc, StringPart, StringCut}
+use Rattle.termwiz_extended_events.specs.declared.types.Event.TheVariants.{Key as KeyReported}
 use Rattle.termwiz_extended_events.specs.Meanings.{IsKey as IsKeyEvent}
 use Rattle.termwiz_extended_events.specs.declared.types.Reading.{Reading}
+use Rattle.termwiz_extended_events.specs.PortEvents.{told}
 use Rattle.termwiz_extended_grammar.specs.Forms.{introducer}
 use Rattle.termwiz_extended_grammar.specs.ExtraSequences.{IsExtra, IsBareKey, with_alt}
 use Rattle.termwiz_extended_grammar.specs.Readings.{after_event, after_events}
-use Rattle.termwiz_extended_grammar.specs.ExtendedGrammar.{StartsExtended, StartsApart, BeginsExtended, IsOpen, IsUsual, IsRest, Stands, Steps, Means}
+use Rattle.termwiz_extended_grammar.specs.ExtendedGrammar.{StartsExtended, StartsApart, BeginsExtended, IsOpen, IsUsual, IsRest, Stands, Steps, Means, escape_event}
 use Rattle.termwiz_extended_grammar.specs.ExtendedGrammar.Stands.{extra, alt_key, lone_escape, string, usual}
 use Rattle.termwiz_extended_grammar.specs.ExtendedLaws.{EndsWithEscape, SequenceStands, BareKeysAreJoined}
 use Rattle.termwiz_extended_grammar.proofs.lemmas.forms.FormBytes.{IsSecond, IsStringIntroducer, IsMark, escape_within, opening_mark}
@@ -30,6 +31,7 @@ use Rattle.termwiz_extended_grammar.proofs.lemmas.forms.ExtraFacts.{mark_from_un
 use Rattle.termwiz_extended_grammar.proofs.lemmas.items.StringItems.{string_append, comes_before}
 use Rattle.termwiz_extended_grammar.proofs.lemmas.items.ExtendedItems.{apart_longer, longer_after, starts_shape, starts_with, second_not_escape, port_some}
 use Rattle.termwiz_extended_grammar.proofs.lemmas.items.ExtendedRests.{empty_is_rest, read_of, steps_once}
+use Rattle.termwiz_extended_grammar.proofs.lemmas.cuts.PortTold.{escape_told}
 use Rattle.termwiz_extended_grammar.proofs.lemmas.cuts.BeforeEscape.{closed_before, stands_before}
 use Rattle.termwiz_extended_grammar.proofs.lemmas.cuts.ExtendedCuts.{after_both, join_steps, steps_stay}
 
@@ -83,10 +85,10 @@ module _ (reading : Reading) (b : ℕ) (r : List ℕ) (second : IsSecond b) wher
       go (within t e f) = inl (record { text = h.text; event = h.event; is_extra = h.is_extra; begins = (t, e) })
       go (past t n e f) =
           absurd (not_past u t h.begins.0 some n (subst (λ z. IsMark reading.x10_mouse z) e (inl h.is_extra.is_form)) f)
-  starts_before u some (inr o) = go (overlap (introducer o.kind ++ o.head) o.begins.0 u (27 ∷ b ∷ r) o.begins.1)
+  starts_before u some (inr (reads, o)) = go (overlap (introducer o.kind ++ o.head) o.begins.0 u (27 ∷ b ∷ r) o.begins.1)
     where
       go : Overlaps (introducer o.kind ++ o.head) o.begins.0 u (27 ∷ b ∷ r) → StartsExtended reading u
-      go (within t e f) = inr (record { kind = o.kind; head = o.head; is_head = o.is_head; begins = (t, e) })
+      go (within t e f) = inr (reads, record { kind = o.kind; head = o.head; is_head = o.is_head; begins = (t, e) })
       go (past t n e f) = absurd (not_past u t o.begins.0 some n
           (subst (λ z. IsMark reading.x10_mouse z) e (inr (opening_mark (u ++ 27 ∷ b ∷ r) o))) f)
 
@@ -107,8 +109,8 @@ module _ (reading : Reading) (b : ℕ) (r : List ℕ) (second : IsSecond b) wher
   usual_escape_before f = usual_before ESC f (λ e. cc (e)) (usual_escape reading)
 
   -- an item of a flush stands also before such a text, before which an ESC by itself is the Escape key
-  item_before : (u left : List ℕ) (event : ExtendedEvent) (f : Bool)
-      → (u ≡ ESC → Stands reading (ESC ++ 27 ∷ b ∷ r) f (27 ∷ b ∷ r) (Input (Key escape)))
+  item_before : (u left : List ℕ) (event : Event) (f : Bool)
+      → (u ≡ ESC → Stands reading (ESC ++ 27 ∷ b ∷ r) f (27 ∷ b ∷ r) escape_event)
       → Stands reading u false left event → Stands reading (u ++ 27 ∷ b ∷ r) f (left ++ 27 ∷ b ∷ r) event
   item_before u left event f here (extra text left2 e is split) =
       extra text (left2 ++ 27 ∷ b ∷ r) e is (ap (λ x. x ++ 27 ∷ b ∷ r) split ∙ append_assoc text left2 (27 ∷ b ∷ r))
@@ -116,17 +118,19 @@ module _ (reading : Reading) (b : ℕ) (r : List ℕ) (second : IsSecond b) wher
       (ap (λ x. x ++ 27 ∷ b ∷ r) split ∙ ap (λ x. 27 ∷ x) (append_assoc text left2 (27 ∷ b ∷ r)))
   item_before u left event f here (lone_escape v split apart) =
       lone_escape (v ++ 27 ∷ b ∷ r) (ap (λ x. x ++ 27 ∷ b ∷ r) split) (apart_longer reading v (27 ∷ b ∷ r) apart)
-  item_before u left event f here (string kind head bytes after left2 e is comes) =
-      string kind head bytes (after ++ 27 ∷ b ∷ r) (left2 ++ 27 ∷ b ∷ r) e (string_append u (27 ∷ b ∷ r) kind head bytes after is)
+  item_before u left event f here (string kind head bytes after left2 e reads is comes) =
+      string kind head bytes (after ++ 27 ∷ b ∷ r) (left2 ++ 27 ∷ b ∷ r) e reads (string_append u (27 ∷ b ∷ r) kind head bytes after is)
       (comes_before kind head bytes after left2 b r f e (second_not_escape b second) (second_no_backslash b second) comes)
   item_before u left event f here (usual bytes left2 e stands split is gap) = ⊎_elim
       (λ (alone : u ≡ ESC).
       let one = item_once ESC false bytes ESC e (Key escape)
       (subst (λ x. port.Item x false bytes e) alone stands.item) escape_itself in
       let none : left2 ≡ [] = append_cancel_left ESC left2 [] (ap (λ z. z ++ left2) (sym one.0) ∙ sym split ∙ alone) in
-      subst (λ x. Stands reading (u ++ 27 ∷ b ∷ r) f (x ++ 27 ∷ b ∷ r) (Input e)) (sym none)
-      (subst (λ x. Stands reading (u ++ 27 ∷ b ∷ r) f (27 ∷ b ∷ r) (Input x)) (sym one.1)
-      (subst (λ x. Stands reading (x ++ 27 ∷ b ∷ r) f (27 ∷ b ∷ r) (Input (Key escape))) (sym alone) (here alone))))
+      let told_so : told reading bytes e ≡ escape_event =
+      ap (λ x. told reading x e) one.0 ∙ ap (told reading ESC) one.1 ∙ escape_told reading in
+      subst (λ x. Stands reading (u ++ 27 ∷ b ∷ r) f (x ++ 27 ∷ b ∷ r) (told reading bytes e)) (sym none)
+      (subst (λ x. Stands reading (u ++ 27 ∷ b ∷ r) f (27 ∷ b ∷ r) x) (sym told_so)
+      (subst (λ x. Stands reading (x ++ 27 ∷ b ∷ r) f (27 ∷ b ∷ r) escape_event) (sym alone) (here alone))))
       (λ (longer : u ≡ ESC → ⊥). usual bytes (left2 ++ 27 ∷ b ∷ r) e (stands_before u (b ∷ r) bytes e f longer stands)
       (ap (λ x. x ++ 27 ∷ b ∷ r) split ∙ append_assoc bytes left2 (27 ∷ b ∷ r))
       (usual_before u f some is)
@@ -139,14 +143,14 @@ module _ (reading : Reading) (b : ℕ) (r : List ℕ) (second : IsSecond b) wher
 
 -- an ESC that is left by a flush is the Escape key before z
 abbrev pub EscapesStand : Reading → List ℕ → List ℕ → Bool → Type 0
-EscapesStand reading T z f = (before : List ExtendedEvent) → Steps reading T false before ESC
-    → Stands (after_events reading before) (ESC ++ z) f z (Input (Key escape))
+EscapesStand reading T z f = (before : List Event) → Steps reading T false before ESC
+    → Stands (after_events reading before) (ESC ++ z) f z escape_event
 
 -- it isn't joined to z
 abbrev pub EscapesApart : Reading → List ℕ → List ℕ → Type 0
-EscapesApart reading T z = (before : List ExtendedEvent) → Steps reading T false before ESC → StartsApart (after_events reading before) z
+EscapesApart reading T z = (before : List Event) → Steps reading T false before ESC → StartsApart (after_events reading before) z
 
-pub steps_before : (b : ℕ) (r : List ℕ) → IsSecond b → (reading : Reading) (E : List ExtendedEvent) (T W : List ℕ) (f : Bool)
+pub steps_before : (b : ℕ) (r : List ℕ) → IsSecond b → (reading : Reading) (E : List Event) (T W : List ℕ) (f : Bool)
     → EscapesStand reading T (27 ∷ b ∷ r) f → Steps reading T false E W → Steps reading (T ++ 27 ∷ b ∷ r) f E (W ++ 27 ∷ b ∷ r)
 steps_before b r second reading [] T W f escapes h = ap (λ x. x ++ 27 ∷ b ∷ r) h
 steps_before b r second reading (e ∷ E) T W f escapes (left, stands, steps) = (
@@ -156,17 +160,17 @@ steps_before b r second reading (e ∷ E) T W f escapes (left, stands, steps) = 
 )
 
 -- a flush makes the Escape key of ESC alone
-escape_alone : (reading : Reading) → Stands reading ESC false [] (Input (Key escape))
-escape_alone reading = usual ESC [] (Key escape) (record { closed = λ h. cc (h.more_comes); item = escape_itself }) refl
+escape_alone : (reading : Reading) → Stands reading ESC false [] escape_event
+escape_alone reading = subst (Stands reading ESC false []) (escape_told reading) (usual ESC [] (Key escape) (record { closed = λ h. cc (h.more_comes); item = escape_itself }) refl
     (usual_escape reading)
     (λ v split. subst (λ x. IsUsual reading x false) (let none : [] ≡ v = cc (split) in none)
-    (record { none = none_at_end reading; closed = λ h. h.some refl }))
+    (record { none = none_at_end reading; closed = λ h. h.some refl })))
 
 -- so what a flush leaves of the reading is what was left of it before that ESC
-same_reading : (reading : Reading) (T : List ℕ) (E before : List ExtendedEvent) → Means reading T false E [] → Steps reading T false before ESC
+same_reading : (reading : Reading) (T : List ℕ) (E before : List Event) → Means reading T false E [] → Steps reading T false before ESC
     → after_events reading E ≡ after_events reading before
 same_reading reading T E before means steps =
-    let last = Input (Key escape) ∷ [] in
+    let last = escape_event ∷ [] in
     let whole : Steps reading T false (before ++ last) [] =
     join_steps reading before last T ESC [] false steps ([], escape_alone (after_events reading before), refl) in
     let same : E ≡ before ++ last =
@@ -174,7 +178,7 @@ same_reading reading T E before means steps =
     ap (after_events reading) same ∙ after_both reading before last
 
 -- what a flush reads whole is read so before an extra sequence or an opening, to which an ESC by itself isn't joined
-pub flushed_before : (reading : Reading) (T z : List ℕ) (E : List ExtendedEvent) (f : Bool) → StartsExtended (after_events reading E) z
+pub flushed_before : (reading : Reading) (T z : List ℕ) (E : List Event) (f : Bool) → StartsExtended (after_events reading E) z
     → EscapesApart reading T z → Steps reading T false E [] → Steps reading (T ++ z) f E z
 flushed_before reading T z E f at apart before =
     let s = starts_shape (after_events reading E) z at in
@@ -203,15 +207,15 @@ sequence_stands reading T x S W E D e f before premise is after = record {
         premise
 
 -- a key with ALT leaves the reading as it is
-alt_leaves : (reading : Reading) (event : ExtendedEvent) → IsKeyEvent event → after_event reading (with_alt event) ≡ reading
+alt_leaves : (reading : Reading) (event : Event) → IsKeyEvent event → after_event reading (with_alt event) ≡ reading
 alt_leaves reading (KeyReported report) is = refl
-alt_leaves reading (Input event) is = absurd is
+alt_leaves reading (Mouse report) is = absurd is
+alt_leaves reading (Paste text) is = absurd is
 alt_leaves reading FocusGained is = absurd is
 alt_leaves reading FocusLost is = absurd is
 alt_leaves reading (CursorPosition row column) is = absurd is
 alt_leaves reading (Resize r c h w) is = absurd is
 alt_leaves reading (KeyboardFlags flags) is = absurd is
-alt_leaves reading (SideButton event) is = absurd is
 alt_leaves reading (Csi bytes) is = absurd is
 alt_leaves reading (Osc bytes) is = absurd is
 alt_leaves reading (Dcs bytes) is = absurd is

@@ -5,14 +5,14 @@ use Rattle.std.proofs.lemmas.Bool.{cases_lt}
 use Rattle.termwiz_keymap.proofs.lemmas.lists.CommonPrefixes.{true_at_front, true_at_end}
 use Rattle.termwiz_keys.specs.Introducers.{ESC}
 use Rattle.termwiz_grammar.specs.Laws.{IsHeldEscape}
-use Rattle.termwiz_extended_events.specs.declared.types.ExtendedEvent.{ExtendedEvent}
-use Rattle.termwiz_extended_events.specs.declared.types.ExtendedEvent.TheVariants.{StringPart, StringCut}
+use Rattle.termwiz_extended_events.specs.declared.types.Event.{Event}
+use Rattle.termwiz_extended_events.specs.declared.types.Event.TheVariants.{Key, Mouse, Paste, FocusGained, FocusLost, CursorPosition, Resize, KeyboardFlags, Csi, Osc as OscEvent, Dcs as DcsEvent, Apc as ApcEvent, StringPart, StringCut}
 use Rattle.termwiz_extended_events.specs.declared.types.Reading.{Reading}
 use Rattle.termwiz_extended_events.specs.declared.types.StringKind.{StringKind}
 use Rattle.termwiz_extended_events.specs.declared.types.StringKind.TheVariants.{Osc, Dcs, Apc}
 use Rattle.termwiz_extended_events.specs.Meanings.{whole_string}
 use Rattle.termwiz_extended_grammar.specs.Forms.{introducer, IsData, most_string}
-use Rattle.termwiz_extended_grammar.specs.Readings.{after_event, after_events}
+use Rattle.termwiz_extended_grammar.specs.Readings.{ReadsMore, after_event, after_events}
 use Rattle.termwiz_extended_grammar.specs.Strings.{IsHead, IsString, string_length, Ends, StartsWithOpening}
 use Rattle.termwiz_extended_grammar.specs.Strings.Ends.{ended, cut, cut_by_two, flushed}
 use Rattle.termwiz_extended_grammar.specs.Strings.Comes.{part, last}
@@ -33,7 +33,7 @@ one_more_part : (d a b parts end : List ℕ) → parts ++ end ≡ b → d ≡ a 
 one_more_part d a b parts end e f = append_assoc a parts end ∙ ap (λ y. a ++ y) e ∙ sym f
 
 -- what closes a string ends it
-closes_ends : (kind : StringKind) (bytes z S : List ℕ) (event : List ℕ → ExtendedEvent) (f : Bool) → Closes kind z S f event
+closes_ends : (kind : StringKind) (bytes z S : List ℕ) (event : List ℕ → Event) (f : Bool) → Closes kind z S f event
     → Ends kind bytes (z ++ S) f S (event bytes)
 closes_ends kind bytes z S event f (by_end is) = ended z S is refl
 closes_ends kind bytes z S event f (by_cut b r none e n m) =
@@ -51,7 +51,7 @@ whole_leaves reading Osc bytes = refl
 whole_leaves reading Dcs bytes = refl
 whole_leaves reading Apc bytes = refl
 
-last_leaves : (reading : Reading) (kind : StringKind) (bytes z S : List ℕ) (event : List ℕ → ExtendedEvent) (f : Bool) → Closes kind z S f event
+last_leaves : (reading : Reading) (kind : StringKind) (bytes z S : List ℕ) (event : List ℕ → Event) (f : Bool) → Closes kind z S f event
     → after_event reading (event bytes) ≡ reading
 last_leaves reading kind bytes z S event f (by_end is) = whole_leaves reading kind bytes
 last_leaves reading kind bytes z S event f (by_cut b r none e n m) = refl
@@ -59,19 +59,19 @@ last_leaves reading kind bytes z S event f (by_two r single e) = refl
 last_leaves reading kind bytes z S event f (by_flush held none no_more) = refl
 
 -- and so do its parts
-parts_leave : (reading : Reading) (kind : StringKind) (head : List ℕ) (parts : List (List ℕ)) (D : List ExtendedEvent)
+parts_leave : (reading : Reading) (kind : StringKind) (head : List ℕ) (parts : List (List ℕ)) (D : List Event)
     → after_events reading (map (λ part. StringPart kind (head ++ part)) parts ++ D) ≡ after_events reading D
 parts_leave reading kind head [] D = refl
 parts_leave reading kind head (bytes ∷ parts) D = parts_leave reading kind head parts D
 
 -- the events of a string, of which the data have at most n bytes
-abbrev Strung : Reading → StringKind → List ℕ → List ℕ → List ℕ → List ℕ → List ℕ → List ExtendedEvent → (List ℕ → ExtendedEvent) → Bool → Type 0
+abbrev Strung : Reading → StringKind → List ℕ → List ℕ → List ℕ → List ℕ → List ℕ → List Event → (List ℕ → Event) → Bool → Type 0
 Strung reading kind head d z S W D event f = (parts : List (List ℕ)) × (last : List ℕ) × (concat parts ++ last ≡ d)
     × Steps reading (introducer kind ++ head ++ (d ++ z ++ S)) f
     (map (λ part. StringPart kind (head ++ part)) parts ++ event (head ++ last) ∷ D) W
 
-module _ (reading : Reading) (kind : StringKind) (head z S W : List ℕ) (D : List ExtendedEvent) (event : List ℕ → ExtendedEvent) (f : Bool)
-    (is : IsHead kind head) (closes : Closes kind z S f event) (after : Steps reading S f D W) where
+module _ (reading : Reading) (kind : StringKind) (head z S W : List ℕ) (D : List Event) (event : List ℕ → Event) (f : Bool)
+    (reads : ReadsMore reading) (is : IsHead kind head) (closes : Closes kind z S f event) (after : Steps reading S f D W) where
   -- data that are short
   short_string : (d : List ℕ) → AllByRecursion (IsData kind) d → string_length kind head d < most_string
       → Strung reading kind head d z S W D event f
@@ -86,7 +86,7 @@ module _ (reading : Reading) (kind : StringKind) (head z S W : List ℕ) (D : Li
         refl,
         (
           S,
-          string kind head d (z ++ S) S (event (head ++ d)) it
+          string kind head d (z ++ S) S (event (head ++ d)) reads it
               (last S (event (head ++ d)) short (closes_ends kind (head ++ d) z S event f closes)),
           subst (λ r. Steps r S f D W) (sym (last_leaves reading kind (head ++ d) z S event f closes)) after,
         ),
@@ -121,21 +121,43 @@ module _ (reading : Reading) (kind : StringKind) (head z S W : List ℕ) (D : Li
             one_more_part d p.0 p.1 (concat rest.0) rest.1 rest.2 p.2,
             (
               introducer kind ++ head ++ (p.1 ++ z ++ S),
-              string kind head p.0 (p.1 ++ z ++ S) (introducer kind ++ head ++ (p.1 ++ z ++ S)) (StringPart kind (head ++ p.0)) it
+              string kind head p.0 (p.1 ++ z ++ S) (introducer kind ++ head ++ (p.1 ++ z ++ S)) (StringPart kind (head ++ p.0)) reads it
                   (part (omega (arith, p.3, length-append (introducer kind ++ head) p.0))),
               rest.3,
             ),
           )
 
+-- events leave the grammar as it is
+dialect_after : (reading : Reading) (event : Event) → (after_event reading event).dialect ≡ reading.dialect
+dialect_after reading (Key report) = refl
+dialect_after reading (Mouse report) = refl
+dialect_after reading (Paste text) = refl
+dialect_after reading FocusGained = refl
+dialect_after reading FocusLost = refl
+dialect_after reading (CursorPosition row column) = refl
+dialect_after reading (Resize rows columns height width) = refl
+dialect_after reading (KeyboardFlags flags) = refl
+dialect_after reading (Csi bytes) = refl
+dialect_after reading (OscEvent bytes) = refl
+dialect_after reading (DcsEvent bytes) = refl
+dialect_after reading (ApcEvent bytes) = refl
+dialect_after reading (StringPart kind bytes) = refl
+dialect_after reading (StringCut kind bytes) = refl
+
+pub dialect_stays : (reading : Reading) (E : List Event) → (after_events reading E).dialect ≡ reading.dialect
+dialect_stays reading [] = refl
+dialect_stays reading (event ∷ E) = dialect_stays (after_event reading event) E ∙ dialect_after reading event
+
 pub string_stands : StringStands
-string_stands reading kind T head d z S W E D event f before is each closes after =
+string_stands reading kind T head d z S W E D event f reads before is each closes after =
     let next = after_events reading E in
+    let may : ReadsMore next = dialect_stays reading E ∙ reads in
     let text = introducer kind ++ head ++ (d ++ z ++ S) in
-    let s = strung next kind head z S W D event f is closes after.steps (length d) d (omega arith) each in
+    let s = strung next kind head z S W D event f may is closes after.steps (length d) d (omega arith) each in
     let parts = map (λ part. StringPart kind (head ++ part)) s.0 in
     let more = parts ++ event (head ++ s.1) ∷ D in
     let opening : StartsWithOpening text = record { kind = kind; head = head; is_head = is; begins = (d ++ z ++ S, refl) } in
-    let first = flushed_before reading T text E f (inr opening) (λ left steps. inr opening) before.steps in
+    let first = flushed_before reading T text E f (inr (may, opening)) (λ left steps. inr (dialect_stays reading left ∙ reads, opening)) before.steps in
     let same : after_events next more ≡ after_events next D =
     parts_leave next kind head s.0 (event (head ++ s.1) ∷ D)
     ∙ ap (λ r. after_events r D) (last_leaves next kind (head ++ s.1) z S event f closes) in

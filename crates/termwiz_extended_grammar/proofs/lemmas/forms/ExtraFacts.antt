@@ -1,5 +1,5 @@
 -- What the laws use of the extra sequences, and nothing else.
-use Rattle.std.proofs.Common.{◌≡◌, ◌≢◌, ◌⊎◌, inl, inr, ⊎_elim, ℕ, zero, suc, ◌<◌, ◌≤◌, Bool, List, [], ◌∷◌, ◌++◌, length, refl, sym, ap, ◌∙◌, subst, arith, get_or}
+use Rattle.std.proofs.Common.{◌≡◌, ◌≢◌, ◌⊎◌, inl, inr, ⊎_elim, ℕ, ◌≤◌, Bool, List, [], ◌∷◌, ◌++◌, length, refl, sym, ap, ◌∙◌, subst, arith, get_or}
 use Rattle.std.specs.Prelude.{codes}
 use Rattle.termwiz_keymap.proofs.lemmas.lists.CommonPrefixes.{append-some}
 use Rattle.termwiz_keys.specs.Introducers.{CSI, START}
@@ -7,16 +7,16 @@ use Rattle.termwiz_grammar.specs.Sequences.{Meaning, IsSequence}
 use Rattle.termwiz_grammar.specs.Sequences.Meaning.{Row, Report}
 use Rattle.termwiz_grammar.proofs.lemmas.lists.Decidable.{Decision, decide_by, decide_both, decide_either, decide_eq, decide_parts}
 use Rattle.termwiz_grammar.proofs.lemmas.table.SequenceFacts.{sequence_once, sequence_or_not}
-use Rattle.termwiz_extended_events.specs.declared.types.ExtendedEvent.{ExtendedEvent}
-use Rattle.termwiz_extended_events.specs.declared.types.ExtendedEvent.TheVariants.{Input, Key, FocusGained, FocusLost, CursorPosition, Resize, KeyboardFlags, SideButton, Csi, Osc, Dcs, Apc, StringPart, StringCut}
-use Rattle.termwiz_extended_events.specs.declared.types.Protocol.{Protocol}
+use Rattle.termwiz_extended_events.specs.declared.types.Event.{Event}
+use Rattle.termwiz_extended_events.specs.declared.types.Event.TheVariants.{Key, Mouse, Paste, FocusGained, FocusLost, CursorPosition, Resize, KeyboardFlags, Csi, Osc, Dcs, Apc, StringPart, StringCut}
+use Rattle.termwiz_extended_events.specs.declared.types.Dialect.{Dialect}
+use Rattle.termwiz_extended_events.specs.declared.types.Dialect.TheVariants.{Extended, Termwiz}
 use Rattle.termwiz_extended_events.specs.declared.types.Reading.{Reading}
-use Rattle.termwiz_extended_events.specs.declared.types.Protocol.TheVariants.{Legacy, Kitty}
 use Rattle.termwiz_extended_events.specs.Meanings.{IsKey, IsPosition, IsKeyOrPosition}
 use Rattle.termwiz_extended_grammar.specs.Forms.{introducer, IsRxvtNumber, IsKeypadKey, IsForm, IsUnfinishedForm}
 use Rattle.termwiz_extended_grammar.specs.Forms.IsForm.{control}
-use Rattle.termwiz_extended_grammar.specs.ExtraSequences.{Overrides, IsFree, IsExtra, StartsWithExtra, IsUnfinishedExtra, IsRow, EndsAsRxvt, IsLetteredKey, IsRxvtFunction, IsBareKey}
-use Rattle.termwiz_extended_grammar.specs.Readings.{event_in}
+use Rattle.termwiz_extended_grammar.specs.ExtraSequences.{IsFree, IsExtra, StartsWithExtra, IsUnfinishedExtra, IsRow, EndsAsRxvt, IsLetteredKey, IsRxvtFunction, IsBareKey}
+use Rattle.termwiz_extended_grammar.specs.Readings.{ReadsMore, event_in}
 use Rattle.termwiz_extended_grammar.specs.ExtendedGrammar.{StartsExtended, BeginsExtended}
 use Rattle.termwiz_extended_grammar.specs.Strings.{IsUnfinishedOpening}
 use Rattle.termwiz_extended_grammar.proofs.lemmas.forms.FormBytes.{IsMark, form_shape, mark_shape, opening_mark}
@@ -27,15 +27,15 @@ use Rattle.termwiz_extended_grammar.proofs.lemmas.forms.Unfinished.{free_complet
 pub free_from_none : (reading : Reading) (text : List ℕ) → ((m : Meaning) → ¬ IsSequence text m) → IsFree reading text
 free_from_none reading text none = λ m is. absurd (none m is)
 
-key_or_not : (event : ExtendedEvent) → Decision (IsKey event)
-key_or_not (Input event) = inr (λ h. h)
+key_or_not : (event : Event) → Decision (IsKey event)
+key_or_not (Mouse report) = inr (λ h. h)
+key_or_not (Paste text) = inr (λ h. h)
 key_or_not (Key report) = inl tt
 key_or_not FocusGained = inr (λ h. h)
 key_or_not FocusLost = inr (λ h. h)
 key_or_not (CursorPosition row column) = inr (λ h. h)
 key_or_not (Resize r c h w) = inr (λ h. h)
 key_or_not (KeyboardFlags flags) = inr (λ h. h)
-key_or_not (SideButton event) = inr (λ h. h)
 key_or_not (Csi bytes) = inr (λ h. h)
 key_or_not (Osc bytes) = inr (λ h. h)
 key_or_not (Dcs bytes) = inr (λ h. h)
@@ -43,15 +43,15 @@ key_or_not (Apc bytes) = inr (λ h. h)
 key_or_not (StringPart kind bytes) = inr (λ h. h)
 key_or_not (StringCut kind bytes) = inr (λ h. h)
 
-position_or_not : (event : ExtendedEvent) → Decision (IsPosition event)
-position_or_not (Input event) = inr (λ h. h)
+position_or_not : (event : Event) → Decision (IsPosition event)
+position_or_not (Mouse report) = inr (λ h. h)
+position_or_not (Paste text) = inr (λ h. h)
 position_or_not (Key report) = inr (λ h. h)
 position_or_not FocusGained = inr (λ h. h)
 position_or_not FocusLost = inr (λ h. h)
 position_or_not (CursorPosition row column) = inl tt
 position_or_not (Resize r c h w) = inr (λ h. h)
 position_or_not (KeyboardFlags flags) = inr (λ h. h)
-position_or_not (SideButton event) = inr (λ h. h)
 position_or_not (Csi bytes) = inr (λ h. h)
 position_or_not (Osc bytes) = inr (λ h. h)
 position_or_not (Dcs bytes) = inr (λ h. h)
@@ -59,15 +59,15 @@ position_or_not (Apc bytes) = inr (λ h. h)
 position_or_not (StringPart kind bytes) = inr (λ h. h)
 position_or_not (StringCut kind bytes) = inr (λ h. h)
 
-either_told : (event : ExtendedEvent) → IsKey event ⊎ IsPosition event → IsKeyOrPosition event
+either_told : (event : Event) → IsKey event ⊎ IsPosition event → IsKeyOrPosition event
 either_told (Key report) h = tt
 either_told (CursorPosition row column) h = tt
-either_told (Input event) h = ⊎_elim (λ k. k) (λ k. k) h
+either_told (Mouse report) h = ⊎_elim (λ k. k) (λ k. k) h
+either_told (Paste text) h = ⊎_elim (λ k. k) (λ k. k) h
 either_told FocusGained h = ⊎_elim (λ k. k) (λ k. k) h
 either_told FocusLost h = ⊎_elim (λ k. k) (λ k. k) h
 either_told (Resize r c i w) h = ⊎_elim (λ k. k) (λ k. k) h
 either_told (KeyboardFlags flags) h = ⊎_elim (λ k. k) (λ k. k) h
-either_told (SideButton event) h = ⊎_elim (λ k. k) (λ k. k) h
 either_told (Csi bytes) h = ⊎_elim (λ k. k) (λ k. k) h
 either_told (Osc bytes) h = ⊎_elim (λ k. k) (λ k. k) h
 either_told (Dcs bytes) h = ⊎_elim (λ k. k) (λ k. k) h
@@ -75,15 +75,15 @@ either_told (Apc bytes) h = ⊎_elim (λ k. k) (λ k. k) h
 either_told (StringPart kind bytes) h = ⊎_elim (λ k. k) (λ k. k) h
 either_told (StringCut kind bytes) h = ⊎_elim (λ k. k) (λ k. k) h
 
-told_either : (event : ExtendedEvent) → IsKeyOrPosition event → IsKey event ⊎ IsPosition event
+told_either : (event : Event) → IsKeyOrPosition event → IsKey event ⊎ IsPosition event
 told_either (Key report) h = inl tt
 told_either (CursorPosition row column) h = inr tt
-told_either (Input event) h = absurd h
+told_either (Mouse report) h = absurd h
+told_either (Paste text) h = absurd h
 told_either FocusGained h = absurd h
 told_either FocusLost h = absurd h
 told_either (Resize r c i w) h = absurd h
 told_either (KeyboardFlags flags) h = absurd h
-told_either (SideButton event) h = absurd h
 told_either (Csi bytes) h = absurd h
 told_either (Osc bytes) h = absurd h
 told_either (Dcs bytes) h = absurd h
@@ -91,36 +91,41 @@ told_either (Apc bytes) h = absurd h
 told_either (StringPart kind bytes) h = absurd h
 told_either (StringCut kind bytes) h = absurd h
 
-some_asked : (questions : ℕ) → Decision (0 < questions)
-some_asked zero = inr (λ h. omega (arith, h))
-some_asked (suc n) = inl (omega arith)
+told_or_not : (event : Event) → Decision (IsKeyOrPosition event)
+told_or_not event = decide_by (either_told event) (told_either event) (decide_either (key_or_not event) (position_or_not event))
 
-overrides_or_not : (protocol : Protocol) (questions : ℕ) (event : ExtendedEvent) → Decision (Overrides protocol questions event)
-overrides_or_not Legacy questions event = decide_both (some_asked questions) (position_or_not event)
-overrides_or_not Kitty questions event =
-    decide_by (either_told event) (told_either event) (decide_either (key_or_not event) (position_or_not event))
+-- it can be told whether more than the port's sequences is read
+pub reads_or_not : (reading : Reading) → Decision (ReadsMore reading)
+reads_or_not reading = go reading.dialect
+  where
+    go : (dialect : Dialect) → Decision (dialect ≡ Extended)
+    go Extended = inl refl
+    go Termwiz = inr (λ h. cc (h))
 
 free_or_not : (reading : Reading) (text : List ℕ) → Decision (IsFree reading text)
 free_or_not reading text = ⊎_elim
     (λ (known : (m : Meaning) × IsSequence text m).
-    by_meaning known.0 known.1 (overrides_or_not reading.protocol reading.questions (event_in reading text)))
+    by_meaning known.0 known.1 (told_or_not (event_in reading text)))
     (λ (none : ((m : Meaning) × IsSequence text m) → ⊥). inl (λ m is. absurd (none (m, is))))
     (sequence_or_not text)
   where
-    by_meaning : (m : Meaning) → IsSequence text m → Decision (Overrides reading.protocol reading.questions (event_in reading text))
+    by_meaning : (m : Meaning) → IsSequence text m → Decision (IsKeyOrPosition (event_in reading text))
         → Decision (IsFree reading text)
     by_meaning (Row key) is (inl its) = inl (λ n it. (key, sequence_once text n (Row key) it is, its))
     by_meaning (Row key) is (inr other) = inr (λ free. other (free (Row key) is).2)
     by_meaning (Report report) is its = inr (λ free. let same : Report report ≡ Row (free (Report report) is).0 = (free (Report report) is).1 in cc (same))
 
 -- it can be told whether a text is an extra sequence
-pub extra_or_not : (reading : Reading) (text : List ℕ) → Decision ((event : ExtendedEvent) × IsExtra reading text event)
-extra_or_not reading text = go (form_or_not reading.x10_mouse text) (free_or_not reading text)
+pub extra_or_not : (reading : Reading) (text : List ℕ) → Decision ((event : Event) × IsExtra reading text event)
+extra_or_not reading text = go (reads_or_not reading) (form_or_not reading.x10_mouse text) (free_or_not reading text)
   where
-    go : Decision (IsForm reading.x10_mouse text) → Decision (IsFree reading text) → Decision ((event : ExtendedEvent) × IsExtra reading text event)
-    go (inl form) (inl free) = inl (event_in reading text, record { is_form = form; is_free = free; means = refl })
-    go (inl form) (inr never) = inr (λ h. never h.1.is_free)
-    go (inr never) free = inr (λ h. never h.1.is_form)
+    go : Decision (ReadsMore reading) → Decision (IsForm reading.x10_mouse text) → Decision (IsFree reading text)
+        → Decision ((event : Event) × IsExtra reading text event)
+    go (inl reads) (inl form) (inl free) =
+        inl (event_in reading text, record { reads = reads; is_form = form; is_free = free; means = refl })
+    go (inl reads) (inl form) (inr never) = inr (λ h. never h.1.is_free)
+    go (inl reads) (inr never) free = inr (λ h. never h.1.is_form)
+    go (inr never) form free = inr (λ h. never h.1.reads)
 
 row_or_not : (text : List ℕ) → Decision (IsRow text)
 row_or_not text = ⊎_elim
@@ -154,25 +159,26 @@ bare_or_not reading text = decide_by
 -- and whether one begins a text
 pub starts_or_not : (reading : Reading) (u : List ℕ) → Decision (StartsWithExtra reading u)
 starts_or_not reading u = decide_by
-    (λ (h : (a : List ℕ) × (b : List ℕ) × (u ≡ a ++ b) × ((event : ExtendedEvent) × IsExtra reading a event)).
+    (λ (h : (a : List ℕ) × (b : List ℕ) × (u ≡ a ++ b) × ((event : Event) × IsExtra reading a event)).
     record { text = h.0; event = h.3.0; is_extra = h.3.1; begins = (h.1, h.2) })
     (λ (h : StartsWithExtra reading u). (h.text, h.begins.0, h.begins.1, (h.event, h.is_extra)))
-    (decide_parts (λ a b. (event : ExtendedEvent) × IsExtra reading a event) (λ a b. extra_or_not reading a) u)
+    (decide_parts (λ a b. (event : Event) × IsExtra reading a event) (λ a b. extra_or_not reading a) u)
 
 -- what properly begins a form properly begins an extra sequence
-pub unfinished_from_form : (reading : Reading) (u : List ℕ) → IsUnfinishedForm reading.x10_mouse u → IsUnfinishedExtra reading u
-unfinished_from_form reading u h =
+pub unfinished_from_form : (reading : Reading) (u : List ℕ) → ReadsMore reading → IsUnfinishedForm reading.x10_mouse u
+    → IsUnfinishedExtra reading u
+unfinished_from_form reading u reads h =
     let c = free_completion u h in
     record {
       tail = c.tail;
       longer = c.longer;
       event = event_in reading (u ++ c.tail);
-      is_extra = record { is_form = c.is_form; is_free = free_from_none reading (u ++ c.tail) c.free; means = refl };
+      is_extra = record { reads = reads; is_form = c.is_form; is_free = free_from_none reading (u ++ c.tail) c.free; means = refl };
     }
 
 pub mark_from_unfinished : (reading : Reading) (u : List ℕ) → BeginsExtended reading u → IsUnfinishedMark reading.x10_mouse u
 mark_from_unfinished reading u (inl h) = inl (record { tail = h.tail; longer = h.longer; is_form = h.is_extra.is_form })
-mark_from_unfinished reading u (inr h) = inr h
+mark_from_unfinished reading u (inr h) = inr h.1
 
 -- a mark that is longer than u and begins with u
 pub completed_mark : {x10_mouse : Bool} (u : List ℕ) → IsUnfinishedMark x10_mouse u → (tail : List ℕ) × (tail ≢ []) × IsMark x10_mouse (u ++ tail)
@@ -189,29 +195,40 @@ pub unfinished_short : {x10_mouse : Bool} (u : List ℕ) → IsUnfinishedMark x1
 unfinished_short u (inl h) = unfinished_form_short u h
 unfinished_short u (inr h) = unfinished_opening_short u h
 
+-- where something longer is begun, more than the port's sequences is read
+pub unfinished_reads : (reading : Reading) (u : List ℕ) → BeginsExtended reading u → ReadsMore reading
+unfinished_reads reading u (inl h) = h.is_extra.reads
+unfinished_reads reading u (inr h) = h.0
+
+-- and where something is there too
+pub starts_reads : (reading : Reading) (u : List ℕ) → StartsExtended reading u → ReadsMore reading
+starts_reads reading u (inl h) = h.is_extra.reads
+starts_reads reading u (inr h) = h.0
+
 pub unfinished_extended_or_not : (reading : Reading) (u : List ℕ) → Decision (BeginsExtended reading u)
 unfinished_extended_or_not reading u = decide_by
-    (λ (h : IsUnfinishedMark reading.x10_mouse u). ⊎_elim
-    (λ (f : IsUnfinishedForm reading.x10_mouse u). inl (unfinished_from_form reading u f))
-    (λ (o : IsUnfinishedOpening u). inr o)
-    h)
-    (mark_from_unfinished reading u)
-    (unfinished_mark_or_not reading.x10_mouse u)
+    (λ (h : ReadsMore reading × IsUnfinishedMark reading.x10_mouse u). ⊎_elim
+    (λ (f : IsUnfinishedForm reading.x10_mouse u). inl (unfinished_from_form reading u h.0 f))
+    (λ (o : IsUnfinishedOpening u). inr (h.0, o))
+    h.1)
+    (λ (h : BeginsExtended reading u). (unfinished_reads reading u h, mark_from_unfinished reading u h))
+    (decide_both (reads_or_not reading) (unfinished_mark_or_not reading.x10_mouse u))
 
 -- and whether an extra sequence or an opening begins it
 pub starts_extended_or_not : (reading : Reading) (u : List ℕ) → Decision (StartsExtended reading u)
-starts_extended_or_not reading u = decide_either (starts_or_not reading u) (opening_starts_or_not u)
+starts_extended_or_not reading u =
+    decide_either (starts_or_not reading u) (decide_both (reads_or_not reading) (opening_starts_or_not u))
 
 -- what begins with an extra sequence or an opening begins with a mark
 pub starts_mark : (reading : Reading) (u : List ℕ) → StartsExtended reading u → (text rest : List ℕ) × IsMark reading.x10_mouse text × (u ≡ text ++ rest)
 starts_mark reading u (inl h) = (h.text, h.begins.0, inl h.is_extra.is_form, h.begins.1)
-starts_mark reading u (inr o) = (introducer o.kind ++ o.head, o.begins.0, inr (opening_mark u o), o.begins.1)
+starts_mark reading u (inr (reads, o)) = (introducer o.kind ++ o.head, o.begins.0, inr (opening_mark u o), o.begins.1)
 
 -- a text has one event
-pub extra_once : (reading : Reading) (text : List ℕ) (d e : ExtendedEvent) → IsExtra reading text d → IsExtra reading text e → d ≡ e
+pub extra_once : (reading : Reading) (text : List ℕ) (d e : Event) → IsExtra reading text d → IsExtra reading text e → d ≡ e
 extra_once reading text d e a b = a.means ∙ sym b.means
 
-pub extra_some : (reading : Reading) (text : List ℕ) (e : ExtendedEvent) → IsExtra reading text e → text ≢ []
+pub extra_some : (reading : Reading) (text : List ℕ) (e : Event) → IsExtra reading text e → text ≢ []
 extra_some reading text e is = (let s = form_shape text is.is_form in λ none. cc (s.2, none))
 
 -- the empty text begins with neither

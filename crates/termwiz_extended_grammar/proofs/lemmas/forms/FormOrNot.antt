@@ -311,7 +311,8 @@ short_key_or_not t = decide_by from
 
 pub lettered_or_not : (t : List ℕ) → Decision (IsLetteredKey t)
 lettered_or_not t =
-    decide_either (decide_both (introduced_or_not t) (ends_with_z_or_not t)) (decide_either (short_key_or_not t) (same_or_not t (27 ∷ 91 ∷ 71 ∷ [])))
+    decide_either (decide_both (introduced_or_not t) (ends_with_z_or_not t)) (decide_either (short_key_or_not t)
+    (decide_either (same_or_not t (27 ∷ 91 ∷ 69 ∷ [])) (same_or_not t (27 ∷ 91 ∷ 71 ∷ []))))
 
 shifted_or_not : (t : List ℕ) → Decision (IsShiftedKey t)
 shifted_or_not t = decide_by from

@@ -3,7 +3,7 @@ use Rattle.std.proofs.Common.{◌≡◌, ◌≢◌, inl, inr, ℕ, ◌-◌, ◌=
 use Rattle.std.specs.Prelude.{Some, None}
 use Rattle.std.proofs.lemmas.Cmp.{nat_list_eq_equiv}
 use Rattle.std.proofs.Math.Seq.{take-append_seam, drop-append_seam}
-use Rattle.termwiz_extended_events.specs.declared.types.ExtendedEvent.TheVariants.{Osc}
+use Rattle.termwiz_extended_events.specs.declared.types.Event.TheVariants.{Osc}
 use Rattle.termwiz_extended_events.specs.declared.types.StringKind.TheVariants as kinds
 use Rattle.termwiz_extended_events.specs.Numbers.{before_end}
 use Rattle.termwiz_extended_events.specs.Meanings.{event_of, event_after, command_text, string_end}
@@ -49,7 +49,8 @@ unfolding event_of event_after
 title_event asks text t = rw t.form (ap Osc (text_of_command (t.letter ∷ t.body) t.end (λ h. cc (h)) t.end_is))
 
 pub titles_are_commands : TitlesAreCommands
-titles_are_commands reading text t = record {
+titles_are_commands reading text t reads = record {
+  reads = reads;
   is_form = title t;
   is_free = free_from_none reading text (λ m is. title_free text t (sequence_layout text m is));
   means = sym (title_event _ text t);

@@ -192,20 +192,23 @@ shifted_in_x number is = record {
 no_lettered_x : (front : List ℕ) → ¬ IsLetteredKey (front ++ 120 ∷ [])
 no_lettered_x front (inl (begins, (other, e))) = omega (arith, (one_last front other 120 90 e).1)
 no_lettered_x front (inr (inl (digit, letter, e, d, l))) = omega (arith, l, (one_last front (27 ∷ 91 ∷ digit ∷ []) 120 letter e).1)
-no_lettered_x front (inr (inr e)) = omega (arith, (one_last front (27 ∷ 91 ∷ []) 120 71 e).1)
+no_lettered_x front (inr (inr (inl e))) = omega (arith, (one_last front (27 ∷ 91 ∷ []) 120 69 e).1)
+no_lettered_x front (inr (inr (inr e))) = omega (arith, (one_last front (27 ∷ 91 ∷ []) 120 71 e).1)
 
 -- nor is a key of the Linux console
 no_lettered_console : (text : List ℕ) → IsConsoleKey text → ¬ IsLetteredKey text
 no_lettered_console text f (inl (begins, (other, e))) =
     omega (arith, f.letter_is, (one_last (27 ∷ 91 ∷ 91 ∷ []) other f.letter 90 (sym f.form ∙ e)).1)
 no_lettered_console text f (inr (inl (digit, letter, e, d, l))) = (let first : 91 ≡ digit = cc (f.form, e) in omega (arith, d))
-no_lettered_console text f (inr (inr e)) = cc (f.form, e)
+no_lettered_console text f (inr (inr (inl e))) = cc (f.form, e)
+no_lettered_console text f (inr (inr (inr e))) = cc (f.form, e)
 
 -- nor what begins otherwise than with ESC [
 no_lettered_other : (text r : List ℕ) (b : ℕ) → text ≡ 27 ∷ b ∷ r → b ≢ 91 → ¬ IsLetteredKey text
 no_lettered_other text r b e n (inl (begins, ends)) = n (cc (e, begins.1))
 no_lettered_other text r b e n (inr (inl (digit, letter, h, d, l))) = n (cc (e, h))
-no_lettered_other text r b e n (inr (inr h)) = n (cc (e, h))
+no_lettered_other text r b e n (inr (inr (inl h))) = n (cc (e, h))
+no_lettered_other text r b e n (inr (inr (inr h))) = n (cc (e, h))
 
 -- a text that ends so, isn't ESC O and a letter, is no key by its last letter, and isn't known to the port, is no bare key
 not_bare : (text front : List ℕ) (z : ℕ) → text ≡ front ++ z ∷ [] → z ≢ 94 → z ≢ 64 → z ≢ 36 → z ≢ 126

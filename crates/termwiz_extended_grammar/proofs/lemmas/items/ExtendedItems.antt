@@ -11,8 +11,8 @@ use Rattle.termwiz_grammar.specs.Grammar as port
 use Rattle.termwiz_grammar.proofs.lemmas.items.ItemStable.{stands_stays, item_some, escape_open}
 use Rattle.termwiz_grammar.proofs.lemmas.items.OneItem.{item_once}
 use Rattle.termwiz_grammar.specs.Sequences.{IsSequence}
-use Rattle.termwiz_extended_events.specs.declared.types.ExtendedEvent.{ExtendedEvent}
-use Rattle.termwiz_extended_events.specs.declared.types.ExtendedEvent.TheVariants.{Input}
+use Rattle.termwiz_extended_events.specs.declared.types.Event.{Event}
+use Rattle.termwiz_extended_events.specs.PortEvents.{told}
 use Rattle.termwiz_extended_events.specs.declared.types.Reading.{Reading}
 use Rattle.termwiz_extended_events.specs.declared.types.StringKind.{StringKind}
 use Rattle.termwiz_extended_grammar.specs.Forms.{introducer, IsData}
@@ -45,7 +45,7 @@ second_not_escape b is e = ⊎_elim
     is
 
 -- an extra sequence that begins a text is the only one that does
-pub starts_once : (reading : Reading) (u a b : List ℕ) (d e : ExtendedEvent) → IsExtra reading a d → IsExtra reading b e
+pub starts_once : (reading : Reading) (u a b : List ℕ) (d e : Event) → IsExtra reading a d → IsExtra reading b e
     → Begins a u → Begins b u → (a ≡ b) × (d ≡ e)
 starts_once reading u a b d e is_a is_b p q =
     let same : a ≡ b = mark_once u a b (inl is_a.is_form) (inl is_b.is_form) p q in
@@ -83,21 +83,24 @@ starts_shorter reading u s some closed (inl h) = go (overlap h.text h.begins.0 u
         is_extra = subst (λ x. IsExtra reading x h.event) e h.is_extra;
       }));
     }))
-starts_shorter reading u s some closed (inr o) = go (overlap (introducer o.kind ++ o.head) o.begins.0 u s o.begins.1)
+starts_shorter reading u s some closed (inr (reads, o)) = go (overlap (introducer o.kind ++ o.head) o.begins.0 u s o.begins.1)
   where
     go : Overlaps (introducer o.kind ++ o.head) o.begins.0 u s → StartsExtended reading u
-    go (within t e f) = inr (record { kind = o.kind; head = o.head; is_head = o.is_head; begins = (t, e) })
+    go (within t e f) = inr (reads, record { kind = o.kind; head = o.head; is_head = o.is_head; begins = (t, e) })
     go (past t longer e f) = absurd (closed (record {
       more_comes = refl;
       some = some;
-      beginning = inr (inr (record {
-        tail = t;
-        longer = longer;
-        kind = o.kind;
-        head = o.head;
-        is_head = o.is_head;
-        spells = e;
-      }));
+      beginning = inr (inr (
+        reads,
+        record {
+          tail = t;
+          longer = longer;
+          kind = o.kind;
+          head = o.head;
+          is_head = o.is_head;
+          spells = e;
+        },
+      ));
     }))
 
 -- what begins with an extra sequence or an opening begins so whatever follows
@@ -108,12 +111,15 @@ starts_longer reading u s (inl h) = inl (record {
   is_extra = h.is_extra;
   begins = (h.begins.0 ++ s, ap (λ x. x ++ s) h.begins.1 ∙ append_assoc h.text h.begins.0 s);
 })
-starts_longer reading u s (inr o) = inr (record {
-  kind = o.kind;
-  head = o.head;
-  is_head = o.is_head;
-  begins = (o.begins.0 ++ s, ap (λ x. x ++ s) o.begins.1 ∙ append_assoc (introducer o.kind ++ o.head) o.begins.0 s);
-})
+starts_longer reading u s (inr (reads, o)) = inr (
+  reads,
+  record {
+    kind = o.kind;
+    head = o.head;
+    is_head = o.is_head;
+    begins = (o.begins.0 ++ s, ap (λ x. x ++ s) o.begins.1 ∙ append_assoc (introducer o.kind ++ o.head) o.begins.0 s);
+  },
+)
 
 -- what ESC isn't joined to is an extra sequence or an opening
 pub apart_starts : (reading : Reading) (u : List ℕ) → StartsApart reading u → StartsExtended reading u
@@ -129,24 +135,27 @@ apart_longer reading u s (inl h) = inl (record {
   not_bare = h.not_bare;
   begins = (h.begins.0 ++ s, ap (λ x. x ++ s) h.begins.1 ∙ append_assoc h.text h.begins.0 s);
 })
-apart_longer reading u s (inr o) = inr (record {
-  kind = o.kind;
-  head = o.head;
-  is_head = o.is_head;
-  begins = (o.begins.0 ++ s, ap (λ x. x ++ s) o.begins.1 ∙ append_assoc (introducer o.kind ++ o.head) o.begins.0 s);
-})
+apart_longer reading u s (inr (reads, o)) = inr (
+  reads,
+  record {
+    kind = o.kind;
+    head = o.head;
+    is_head = o.is_head;
+    begins = (o.begins.0 ++ s, ap (λ x. x ++ s) o.begins.1 ∙ append_assoc (introducer o.kind ++ o.head) o.begins.0 s);
+  },
+)
 
 -- a bare key isn't that
-pub joined_not_apart : (reading : Reading) (v text left : List ℕ) (event : ExtendedEvent) → IsExtra reading text event → IsBareKey reading text
+pub joined_not_apart : (reading : Reading) (v text left : List ℕ) (event : Event) → IsExtra reading text event → IsBareKey reading text
     → v ≡ text ++ left → StartsApart reading v → ⊥
 joined_not_apart reading v text left event is bare e (inl h) =
     let same = starts_once reading v h.text text h.event event h.is_extra is h.begins (left, e) in
     h.not_bare (subst (IsBareKey reading) (sym same.0) bare)
-joined_not_apart reading v text left event is bare e (inr o) =
+joined_not_apart reading v text left event is bare e (inr (reads, o)) =
     extra_or_opening reading v (record { text = text; event = event; is_extra = is; begins = (left, e) }) o
 
 -- what begins a text, as such
-pub starts_with : (reading : Reading) (text left : List ℕ) (event : ExtendedEvent) → IsExtra reading text event
+pub starts_with : (reading : Reading) (text left : List ℕ) (event : Event) → IsExtra reading text event
     → StartsExtended reading (text ++ left)
 starts_with reading text left event is = inl (record { text = text; event = event; is_extra = is; begins = (left, refl) })
 
@@ -171,14 +180,17 @@ shorter_beginning reading u s (inr (inl h)) = inr (inl (record {
   event = h.event;
   is_extra = subst (λ x. IsExtra reading x h.event) (append_assoc u s h.tail) h.is_extra;
 }))
-shorter_beginning reading u s (inr (inr h)) = inr (inr (record {
-  tail = s ++ h.tail;
-  longer = append-some s h.tail h.longer;
-  kind = h.kind;
-  head = h.head;
-  is_head = h.is_head;
-  spells = h.spells ∙ append_assoc u s h.tail;
-}))
+shorter_beginning reading u s (inr (inr (reads, h))) = inr (inr (
+  reads,
+  record {
+    tail = s ++ h.tail;
+    longer = append-some s h.tail h.longer;
+    kind = h.kind;
+    head = h.head;
+    is_head = h.is_head;
+    spells = h.spells ∙ append_assoc u s h.tail;
+  },
+))
 
 -- what is usual stays so
 pub usual_stays : (reading : Reading) (u s : List ℕ) (f : Bool) → u ≢ [] → IsUsual reading u true → IsUsual reading (u ++ s) f
@@ -203,7 +215,7 @@ pub port_some : (u bytes left : List ℕ) (f : Bool) (event : InputEvent) → po
 port_some u bytes left f event stands e none = append-some_left bytes left (item_some u bytes event f stands.item) (sym e ∙ none)
 
 -- what an item leaves of a text with more to come, it leaves of every longer one, with what is longer
-pub stands_stays_extended : (reading : Reading) (u s left : List ℕ) (event : ExtendedEvent) (f : Bool)
+pub stands_stays_extended : (reading : Reading) (u s left : List ℕ) (event : Event) (f : Bool)
     → Stands reading u true left event → Stands reading (u ++ s) f (left ++ s) event
 stands_stays_extended reading u s left event f (extra text left2 e is split) =
     extra text (left2 ++ s) e is (ap (λ x. x ++ s) split ∙ append_assoc text left2 s)
@@ -211,8 +223,8 @@ stands_stays_extended reading u s left event f (alt_key text left2 e is bare spl
     alt_key text (left2 ++ s) e is bare (ap (λ x. x ++ s) split ∙ ap (λ x. 27 ∷ x) (append_assoc text left2 s))
 stands_stays_extended reading u s left event f (lone_escape v split after) =
     lone_escape (v ++ s) (ap (λ x. x ++ s) split) (apart_longer reading v s after)
-stands_stays_extended reading u s left event f (string kind head bytes after left2 e is comes) =
-    string kind head bytes (after ++ s) (left2 ++ s) e (string_append u s kind head bytes after is)
+stands_stays_extended reading u s left event f (string kind head bytes after left2 e reads is comes) =
+    string kind head bytes (after ++ s) (left2 ++ s) e reads (string_append u s kind head bytes after is)
     (comes_stay kind head bytes after left2 s f e comes)
 stands_stays_extended reading u s left event f (usual bytes left2 e stands split is after) =
     usual bytes (left2 ++ s) e (stands_stays u s bytes e f stands) (ap (λ x. x ++ s) split ∙ append_assoc bytes left2 s)
@@ -227,7 +239,7 @@ stands_stays_extended reading u s left event f (usual bytes left2 e stands split
     not_escape alone = stands.closed (escape_open u alone)
 
 -- at most one item stands at a text
-pub stands_once : (reading : Reading) (u : List ℕ) (f : Bool) (l m : List ℕ) (d e : ExtendedEvent)
+pub stands_once : (reading : Reading) (u : List ℕ) (f : Bool) (l m : List ℕ) (d e : Event)
     → Stands reading u f l d → Stands reading u f m e → (l ≡ m) × (d ≡ e)
 stands_once reading u f l m d e (extra s l2 p is at) (extra t m2 q it there) =
     let one = starts_once reading u s t p q is it (l2, at) (m2, there) in
@@ -236,7 +248,7 @@ stands_once reading u f l m d e (extra s l2 p is at) (alt_key t m2 q it bare spl
     (inl (record { text = s; event = p; is_extra = is; begins = (l2, at) })) split (starts_with reading t m2 q it))
 stands_once reading u f l m d e (extra s l2 p is at) (lone_escape v split after) = absurd (one_starts reading u v
     (inl (record { text = s; event = p; is_extra = is; begins = (l2, at) })) split (apart_starts reading v after))
-stands_once reading u f l m d e (extra s l2 p is at) (string kind head bytes after m2 q it comes) =
+stands_once reading u f l m d e (extra s l2 p is at) (string kind head bytes after m2 q reads it comes) =
     absurd (extra_or_opening reading u (record { text = s; event = p; is_extra = is; begins = (l2, at) })
     (string_opening u kind head bytes after it))
 stands_once reading u f l m d e (extra s l2 p is at) (usual t m2 q stands split it after) =
@@ -249,8 +261,8 @@ stands_once reading u f l m d e (alt_key s l2 p is bare split) (alt_key t m2 q i
     (append_cancel_left t l2 m2 (sym (ap (λ z. z ++ l2) one.0) ∙ same), ap with_alt one.1)
 stands_once reading u f l m d e (alt_key s l2 p is bare split) (lone_escape w split2 after) =
     absurd (joined_not_apart reading w s l2 p is bare (cc (split, split2)) after)
-stands_once reading u f l m d e (alt_key s l2 p is bare split) (string kind head bytes rest m2 q it comes) =
-    absurd (one_starts reading u (s ++ l2) (inr (string_opening u kind head bytes rest it)) split (starts_with reading s l2 p is))
+stands_once reading u f l m d e (alt_key s l2 p is bare split) (string kind head bytes rest m2 q reads it comes) =
+    absurd (one_starts reading u (s ++ l2) (inr (reads, string_opening u kind head bytes rest it)) split (starts_with reading s l2 p is))
 stands_once reading u f l m d e (alt_key s l2 p is bare split) (usual t m2 q stands split2 it gap) =
     absurd ((gap (s ++ l2) split).none (starts_with reading s l2 p is))
 stands_once reading u f l m d e (lone_escape v split after) (extra t m2 q it there) = absurd (one_starts reading u v
@@ -258,48 +270,48 @@ stands_once reading u f l m d e (lone_escape v split after) (extra t m2 q it the
 stands_once reading u f l m d e (lone_escape v split after) (alt_key t m2 q it bare split2) =
     absurd (joined_not_apart reading v t m2 q it bare (cc (split, split2)) after)
 stands_once reading u f l m d e (lone_escape v split after) (lone_escape w split2 after2) = (cc (split, split2), refl)
-stands_once reading u f l m d e (lone_escape v split after) (string kind head bytes rest m2 q it comes) =
-    absurd (one_starts reading u v (inr (string_opening u kind head bytes rest it)) split (apart_starts reading v after))
+stands_once reading u f l m d e (lone_escape v split after) (string kind head bytes rest m2 q reads it comes) =
+    absurd (one_starts reading u v (inr (reads, string_opening u kind head bytes rest it)) split (apart_starts reading v after))
 stands_once reading u f l m d e (lone_escape v split after) (usual t m2 q stands split2 it gap) =
     absurd ((gap v split).none (apart_starts reading v after))
-stands_once reading u f l m d e (string kind head bytes after l2 p is comes) (extra t m2 q it there) =
+stands_once reading u f l m d e (string kind head bytes after l2 p reads is comes) (extra t m2 q it there) =
     absurd (extra_or_opening reading u (record { text = t; event = q; is_extra = it; begins = (m2, there) })
     (string_opening u kind head bytes after is))
-stands_once reading u f l m d e (string kind head bytes rest l2 p is comes) (alt_key t m2 q it bare split) =
-    absurd (one_starts reading u (t ++ m2) (inr (string_opening u kind head bytes rest is)) split (starts_with reading t m2 q it))
-stands_once reading u f l m d e (string kind head bytes rest l2 p is comes) (lone_escape v split after) =
-    absurd (one_starts reading u v (inr (string_opening u kind head bytes rest is)) split (apart_starts reading v after))
-stands_once reading u f l m d e (string k h a r l2 p is comes) (string j g b s m2 q it comes2) =
+stands_once reading u f l m d e (string kind head bytes rest l2 p reads is comes) (alt_key t m2 q it bare split) =
+    absurd (one_starts reading u (t ++ m2) (inr (reads, string_opening u kind head bytes rest is)) split (starts_with reading t m2 q it))
+stands_once reading u f l m d e (string kind head bytes rest l2 p reads is comes) (lone_escape v split after) =
+    absurd (one_starts reading u v (inr (reads, string_opening u kind head bytes rest is)) split (apart_starts reading v after))
+stands_once reading u f l m d e (string k h a r l2 p reads is comes) (string j g b s m2 q reads2 it comes2) =
     let one = string_once u k j h g a b r s is it in
     comes_once j g a b r s l2 m2 f p q (subst (λ z. All z a) one.0 is.each) it.each one.2
     (subst (λ z. Comes z g a r f l2 p) one.0 (subst (λ z. Comes k z a r f l2 p) one.1 comes)) comes2
   where
     All : StringKind → List ℕ → Type 0
     All kind bytes = AllByRecursion (IsData kind) bytes
-stands_once reading u f l m d e (string kind head bytes after l2 p is comes) (usual t m2 q stands split it gap) =
-    absurd (it.none (inr (string_opening u kind head bytes after is)))
+stands_once reading u f l m d e (string kind head bytes after l2 p reads is comes) (usual t m2 q stands split it gap) =
+    absurd (it.none (inr (reads, string_opening u kind head bytes after is)))
 stands_once reading u f l m d e (usual s l2 p stands split is gap) (extra t m2 q it there) =
     absurd (is.none (inl (record { text = t; event = q; is_extra = it; begins = (m2, there) })))
 stands_once reading u f l m d e (usual s l2 p stands split is gap) (alt_key t m2 q it bare split2) =
     absurd ((gap (t ++ m2) split2).none (starts_with reading t m2 q it))
 stands_once reading u f l m d e (usual s l2 p stands split is gap) (lone_escape w split2 after) =
     absurd ((gap w split2).none (apart_starts reading w after))
-stands_once reading u f l m d e (usual s l2 p stands split is gap) (string kind head bytes after m2 q it comes) =
-    absurd (is.none (inr (string_opening u kind head bytes after it)))
+stands_once reading u f l m d e (usual s l2 p stands split is gap) (string kind head bytes after m2 q reads it comes) =
+    absurd (is.none (inr (reads, string_opening u kind head bytes after it)))
 stands_once reading u f l m d e (usual s l2 p stands split is gap) (usual t m2 q stands2 split2 it gap2) =
     let one = item_once u f s t p q stands.item stands2.item in
-    (append_cancel_left t l2 m2 (sym (ap (λ z. z ++ l2) one.0) ∙ sym split ∙ split2), ap (λ x. Input x) one.1)
+    (append_cancel_left t l2 m2 (sym (ap (λ z. z ++ l2) one.0) ∙ sym split ∙ split2), ap (λ x. told reading x p) one.0 ∙ ap (told reading t) one.1)
 
 taken : (u text left : List ℕ) → u ≡ text ++ left → text ≢ [] → length left < length u
 taken u text left e some = omega (arith, ap length e, length-append text left, length-some text some)
 
 -- what an item leaves is shorter than the text
-pub stands_less : (reading : Reading) (u left : List ℕ) (event : ExtendedEvent) (f : Bool) → Stands reading u f left event
+pub stands_less : (reading : Reading) (u left : List ℕ) (event : Event) (f : Bool) → Stands reading u f left event
     → length left < length u
 stands_less reading u left event f (extra text left2 e is split) = taken u text left2 split (extra_some reading text e is)
 stands_less reading u left event f (alt_key text left2 e is bare split) = taken u (ESC ++ text) left2 split (λ h. cc (h))
 stands_less reading u left event f (lone_escape v split after) = taken u ESC v split (λ h. cc (h))
-stands_less reading u left event f (string kind head bytes after left2 e is comes) =
+stands_less reading u left event f (string kind head bytes after left2 e reads is comes) =
     comes_less u kind head bytes after left2 f e is comes
 stands_less reading u left event f (usual bytes left2 e stands split is gap) =
     taken u bytes left2 split (item_some u bytes e f stands.item)

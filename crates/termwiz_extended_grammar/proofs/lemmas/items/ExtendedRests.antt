@@ -2,9 +2,7 @@
 use Rattle.std.proofs.Common.{◌≡◌, ◌⊎◌, inl, inr, ℕ, zero, suc, ◌<◌, ◌≤◌, Bool, true, false, List, [], ◌∷◌, ◌++◌, length, refl, sym, ap, ap₂, ◌∙◌, subst, ⊎_elim, arith, length-append}
 use Rattle.std.specs.List.{AllByRecursion}
 use Rattle.termwiz_keys.specs.Introducers.{ESC}
-use Rattle.termwiz_keys.specs.Keys.{escape}
 use Rattle.termwiz_keys.specs.declared.types.InputEvent.{InputEvent}
-use Rattle.termwiz_keys.specs.declared.types.InputEvent.TheVariants.{Key}
 use Rattle.termwiz_grammar.specs.Grammar as port
 use Rattle.termwiz_grammar.specs.Laws as portlaws
 use Rattle.termwiz_grammar.specs.Laws.{IsHeldEscape}
@@ -15,14 +13,14 @@ use Rattle.termwiz_grammar.proofs.lemmas.characters.CharacterPrefixes.{unfinishe
 use Rattle.termwiz_grammar.proofs.lemmas.items.ItemStable.{item_begins}
 use Rattle.termwiz_grammar.proofs.lemmas.waiting.RestShape.{Settled, settle}
 use Rattle.termwiz_grammar.proofs.lemmas.waiting.RestShape.Settled.{standing, resting}
-use Rattle.termwiz_extended_events.specs.declared.types.ExtendedEvent.{ExtendedEvent}
-use Rattle.termwiz_extended_events.specs.declared.types.ExtendedEvent.TheVariants.{Input}
+use Rattle.termwiz_extended_events.specs.declared.types.Event.{Event}
+use Rattle.termwiz_extended_events.specs.PortEvents.{told}
 use Rattle.termwiz_extended_events.specs.declared.types.Reading.{Reading}
 use Rattle.termwiz_extended_grammar.specs.Forms.{introducer, IsData, most_string}
 use Rattle.termwiz_extended_grammar.specs.ExtraSequences.{IsBareKey, with_alt}
-use Rattle.termwiz_extended_grammar.specs.Readings.{after_event, after_events}
+use Rattle.termwiz_extended_grammar.specs.Readings.{ReadsMore, after_event, after_events}
 use Rattle.termwiz_extended_grammar.specs.Strings.{string_length, StartsWithOpening, IsOpenString}
-use Rattle.termwiz_extended_grammar.specs.ExtendedGrammar.{StartsExtended, BeginsKnown, IsOpen, IsUsual, Stands, HasItem, IsRest, Steps, Means}
+use Rattle.termwiz_extended_grammar.specs.ExtendedGrammar.{StartsExtended, BeginsKnown, IsOpen, IsUsual, Stands, HasItem, IsRest, Steps, Means, escape_event}
 use Rattle.termwiz_extended_grammar.specs.ExtendedGrammar.Stands.{extra, alt_key, lone_escape, string, usual}
 use Rattle.termwiz_extended_grammar.specs.ExtendedLaws.{EmptyIsRest, OneMeaning, WaitingShape, Waits, most_beginning}
 use Rattle.termwiz_extended_grammar.specs.ExtendedLaws.Waits.{nothing, open_paste, undecided, open_string}
@@ -51,7 +49,7 @@ open_or_not reading (x ∷ u) true = ⊎_elim
 
 -- an item stands at the text, or it waits
 pub data SettledExtended (reading : Reading) (u : List ℕ) (f : Bool) : Type 0 where
-  stays : (left : List ℕ) (event : ExtendedEvent) → Stands reading u f left event → SettledExtended reading u f
+  stays : (left : List ℕ) (event : Event) → Stands reading u f left event → SettledExtended reading u f
   waits : IsRest reading u f → Waits reading u f → SettledExtended reading u f
 
 pub empty_is_rest : EmptyIsRest
@@ -67,31 +65,31 @@ no_item reading u f none none_after never left event (extra text left2 e is spli
 no_item reading u f none none_after never left event (alt_key text left2 e is bare split) =
     none_after (text ++ left2) split (starts_with reading text left2 e is)
 no_item reading u f none none_after never left event (lone_escape v split after) = none_after v split (apart_starts reading v after)
-no_item reading u f none none_after never left event (string kind head bytes after left2 e is comes) =
-    none (inr (string_opening u kind head bytes after is))
+no_item reading u f none none_after never left event (string kind head bytes after left2 e reads is comes) =
+    none (inr (reads, string_opening u kind head bytes after is))
 no_item reading u f none none_after never left event (usual s left2 e stands split is gap) = never s e stands is gap
 
 -- nothing stands at an open string
-pub string_rests : (reading : Reading) (u : List ℕ) (f : Bool) → IsOpenString u → f ≡ true → IsRest reading u f
-string_rests reading u f o more left event stands = go left event stands
+pub string_rests : (reading : Reading) (u : List ℕ) (f : Bool) → ReadsMore reading → IsOpenString u → f ≡ true → IsRest reading u f
+string_rests reading u f may o more left event stands = go left event stands
   where
     opening : StartsWithOpening u
     opening = string_opening u o.kind o.head o.bytes o.held o.is_string
 
-    go : (left : List ℕ) (event : ExtendedEvent) → Stands reading u f left event → ⊥
+    go : (left : List ℕ) (event : Event) → Stands reading u f left event → ⊥
     go left event (extra text left2 e is split) =
         extra_or_opening reading u (record { text = text; event = e; is_extra = is; begins = (left2, split) }) opening
     go left event (alt_key text left2 e is bare split) =
-        one_starts reading u (text ++ left2) (inr opening) split (starts_with reading text left2 e is)
-    go left event (lone_escape v split after) = one_starts reading u v (inr opening) split (apart_starts reading v after)
-    go left event (string kind head bytes after left2 e is comes) =
+        one_starts reading u (text ++ left2) (inr (may, opening)) split (starts_with reading text left2 e is)
+    go left event (lone_escape v split after) = one_starts reading u v (inr (may, opening)) split (apart_starts reading v after)
+    go left event (string kind head bytes after left2 e reads is comes) =
         let one = string_once u o.kind kind o.head head o.bytes bytes o.held after o.is_string is in
         nothing_comes kind head bytes o.bytes after o.held left2 f e is.each
         (subst (λ z. AllByRecursion (IsData z) o.bytes) one.0 o.is_string.each) (sym one.2)
         (subst (λ z. string_length z head o.bytes < most_string) one.0
         (subst (λ z. string_length o.kind z o.bytes < most_string) one.1 o.short))
         o.is_held more comes
-    go left event (usual s left2 e stands split is gap) = is.none (inr opening)
+    go left event (usual s left2 e stands split is gap) = is.none (inr (may, opening))
 
 -- what the port waits for
 from_port : (reading : Reading) (u : List ℕ) (f : Bool) → portlaws.Waits u f → Waits reading u f
@@ -108,7 +106,7 @@ by_port reading u f is after = go (settle u f)
     go : Settled u f → SettledExtended reading u f
     go (standing bytes event stands) =
         let b = item_begins u bytes event f stands.item in
-        stays b.0 (Input event) (usual bytes b.0 event stands b.1 is after)
+        stays b.0 (told reading bytes event) (usual bytes b.0 event stands b.1 is after)
     go (resting rest w) = waits
         (no_item reading u f is.none (λ v e. (after v e).none) (λ bytes event stands. absurd (rest bytes event stands)))
         (from_port reading u f w)
@@ -136,7 +134,7 @@ before_extended reading v f (inl h) = ⊎_elim
     (h.begins.0, with_alt h.event, alt_key h.text h.begins.0 h.event h.is_extra bare (ap (λ z. 27 ∷ z) h.begins.1)))
     (λ (other : ¬ IsBareKey reading h.text). (
       v,
-      Input (Key escape),
+      escape_event,
       lone_escape v refl (inl (record {
         text = h.text;
         event = h.event;
@@ -146,7 +144,7 @@ before_extended reading v f (inl h) = ⊎_elim
       })),
     ))
     (bare_or_not reading h.text)
-before_extended reading v f (inr o) = (v, Input (Key escape), lone_escape v refl (inr o))
+before_extended reading v f (inr o) = (v, escape_event, lone_escape v refl (inr o))
 
 settled_before : (reading : Reading) (v : List ℕ) (f : Bool) → StartsExtended reading v → SettledExtended reading (ESC ++ v) f
 settled_before reading v f h = let item = before_extended reading v f h in stays item.0 item.1 item.2
@@ -192,11 +190,11 @@ at_open reading x u f none o = ⊎_elim
 -- a text that an extra sequence or an opening begins
 at_start : (reading : Reading) (u : List ℕ) (f : Bool) → StartsExtended reading u → SettledExtended reading u f
 at_start reading u f (inl h) = stays h.begins.0 h.event (extra h.text h.begins.0 h.event h.is_extra h.begins.1)
-at_start reading u f (inr o) = go (settle_string u f o)
+at_start reading u f (inr (reads, o)) = go (settle_string u f o)
   where
     go : SettledString u f → SettledExtended reading u f
-    go (given kind head bytes after left event is it) = stays left event (string kind head bytes after left event is it)
-    go (stays_open is more) = waits (string_rests reading u f is more) (open_string is (open_short u is) more)
+    go (given kind head bytes after left event is it) = stays left event (string kind head bytes after left event reads is it)
+    go (stays_open is more) = waits (string_rests reading u f reads is more) (open_string is (open_short u is) more reads)
 
 pub settle_extended : (reading : Reading) (u : List ℕ) (f : Bool) → SettledExtended reading u f
 settle_extended reading [] f = waits (empty_is_rest reading f) (nothing refl)
@@ -216,14 +214,14 @@ waiting_shape reading u f rest = go (settle_extended reading u f)
     go (waits r w) = w
 
 -- `Means` as a pair, which a clause can take apart
-abbrev pub Read : Reading → List ℕ → Bool → List ExtendedEvent → List ℕ → Type 0
+abbrev pub Read : Reading → List ℕ → Bool → List Event → List ℕ → Type 0
 Read reading text more events waiting =
     Steps reading text more events waiting × IsRest (after_events reading events) waiting more
 
-pub read_of : {reading : Reading} {T W : List ℕ} {f : Bool} {E : List ExtendedEvent} → Means reading T f E W → Read reading T f E W
+pub read_of : {reading : Reading} {T W : List ℕ} {f : Bool} {E : List Event} → Means reading T f E W → Read reading T f E W
 read_of m = (m.steps, m.rest)
 
-pub steps_once : (reading : Reading) (E D : List ExtendedEvent) (T V W : List ℕ) (f : Bool) → Read reading T f E V → Read reading T f D W
+pub steps_once : (reading : Reading) (E D : List Event) (T V W : List ℕ) (f : Bool) → Read reading T f E V → Read reading T f D W
     → (E ≡ D) × (V ≡ W)
 steps_once reading [] [] T V W f (s, r) (t, q) = (refl, sym s ∙ t)
 steps_once reading [] (d ∷ D) T V W f (s, r) ((left, stands, steps), q) =
@@ -238,14 +236,14 @@ steps_once reading (e ∷ E) (d ∷ D) T V W f ((left, stands, steps), r) ((othe
     (ap₂ (λ x y. x ∷ y) one.1 more.0, more.1)
 
 meaning_within : (n : ℕ) (reading : Reading) (T : List ℕ) (f : Bool) → length T ≤ n
-    → (E : List ExtendedEvent) × (W : List ℕ) × Read reading T f E W
+    → (E : List Event) × (W : List ℕ) × Read reading T f E W
 meaning_within zero reading [] f l = ([], [], (refl, empty_is_rest reading f))
 meaning_within zero reading (x ∷ T) f l = absurd (omega arith)
 meaning_within (suc n) reading T f l = go (settle_extended reading T f) (λ next rest lt. meaning_within n next rest f lt)
   where
     go : SettledExtended reading T f
-        → ((next : Reading) (rest : List ℕ) → length rest ≤ n → (E : List ExtendedEvent) × (W : List ℕ) × Read next rest f E W)
-        → (E : List ExtendedEvent) × (W : List ℕ) × Read reading T f E W
+        → ((next : Reading) (rest : List ℕ) → length rest ≤ n → (E : List Event) × (W : List ℕ) × Read next rest f E W)
+        → (E : List Event) × (W : List ℕ) × Read reading T f E W
     go (waits r w) below = ([], T, (refl, r))
     go (stays left event stands) below =
         let m = below (after_event reading event) left (omega (arith, stands_less reading T left event f stands)) in

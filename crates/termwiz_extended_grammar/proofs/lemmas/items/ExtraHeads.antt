@@ -10,6 +10,7 @@ use Rattle.termwiz_extended_events.specs.declared.types.Reading.{Reading}
 use Rattle.termwiz_extended_events.specs.declared.types.StringKind.TheVariants.{Dcs}
 use Rattle.termwiz_extended_grammar.specs.Forms.{introducer, IsForm}
 use Rattle.termwiz_extended_grammar.specs.Forms.IsForm.{keypad_key}
+use Rattle.termwiz_extended_grammar.specs.Readings.{ReadsMore}
 use Rattle.termwiz_extended_grammar.specs.ExtendedGrammar.{BeginsExtended}
 use Rattle.termwiz_extended_grammar.specs.ExtendedLaws.{ExtraIsLongest, OpeningIsLongest, FourBeginnings}
 use Rattle.termwiz_extended_grammar.proofs.lemmas.forms.FormBytes.{IsMark}
@@ -45,30 +46,33 @@ opening_is_longest u head kind is b = (
 keypad_form : {x10_mouse : Bool} → IsForm x10_mouse (SS3 ++ 77 ∷ [])
 keypad_form = keypad_key (record { letter = 77; form = refl; letter_is = inl refl })
 
-begins : (reading : Reading) (text tail : List ℕ) → tail ≢ [] → IsForm reading.x10_mouse (text ++ tail) → BeginsExtended reading text
-begins reading text tail longer form =
-    inl (unfinished_from_form reading text (record { tail = tail; longer = longer; is_form = form }))
+begins : (reading : Reading) (text tail : List ℕ) → ReadsMore reading → tail ≢ [] → IsForm reading.x10_mouse (text ++ tail) → BeginsExtended reading text
+begins reading text tail reads longer form =
+    inl (unfinished_from_form reading text reads (record { tail = tail; longer = longer; is_form = form }))
 
 pub four_beginnings : FourBeginnings
-four_beginnings reading text m is = (
+four_beginnings reading text m reads is = (
   λ h. (let c = completed_mark text (mark_from_unfinished reading text h) in mark_after_sequence text c.0 m is c.1 c.2),
   λ four. ⊎_elim
       (λ (e : text ≡ ESC). subst (λ z. BeginsExtended reading z) (sym e)
-      (begins reading ESC (79 ∷ 77 ∷ []) (λ n. cc (n)) keypad_form))
+      (begins reading ESC (79 ∷ 77 ∷ []) reads (λ n. cc (n)) keypad_form))
       (λ (rest : (text ≡ CSI) ⊎ ((text ≡ SS3) ⊎ (text ≡ ESC ++ codes "P"))). ⊎_elim
       (λ (e : text ≡ CSI). subst (λ z. BeginsExtended reading z) (sym e)
-      (begins reading CSI (codes "200~") (λ n. cc (n)) start_form))
+      (begins reading CSI (codes "200~") reads (λ n. cc (n)) start_form))
       (λ (last : (text ≡ SS3) ⊎ (text ≡ ESC ++ codes "P")). ⊎_elim
       (λ (e : text ≡ SS3). subst (λ z. BeginsExtended reading z) (sym e)
-      (begins reading SS3 (77 ∷ []) (λ n. cc (n)) keypad_form))
-      (λ (e : text ≡ ESC ++ codes "P"). subst (λ z. BeginsExtended reading z) (sym e) (inr (record {
-        tail = codes ">|";
-        longer = λ n. cc (n);
-        kind = Dcs;
-        head = codes ">|";
-        is_head = inl refl;
-        spells = refl;
-      })))
+      (begins reading SS3 (77 ∷ []) reads (λ n. cc (n)) keypad_form))
+      (λ (e : text ≡ ESC ++ codes "P"). subst (λ z. BeginsExtended reading z) (sym e) (inr (
+        reads,
+        record {
+          tail = codes ">|";
+          longer = λ n. cc (n);
+          kind = Dcs;
+          head = codes ">|";
+          is_head = inl refl;
+          spells = refl;
+        },
+      )))
       last)
       rest)
       four,

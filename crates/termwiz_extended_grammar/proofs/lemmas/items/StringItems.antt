@@ -7,8 +7,8 @@ use Rattle.termwiz_keymap.proofs.lemmas.lists.CommonPrefixes.{Overlaps, overlap,
 use Rattle.termwiz_keymap.proofs.lemmas.lists.CommonPrefixes.Overlaps.{within, past}
 use Rattle.termwiz_keys.specs.Introducers.{ESC}
 use Rattle.termwiz_grammar.specs.Laws.{IsHeldEscape}
-use Rattle.termwiz_extended_events.specs.declared.types.ExtendedEvent.{ExtendedEvent}
-use Rattle.termwiz_extended_events.specs.declared.types.ExtendedEvent.TheVariants.{StringPart}
+use Rattle.termwiz_extended_events.specs.declared.types.Event.{Event}
+use Rattle.termwiz_extended_events.specs.declared.types.Event.TheVariants.{StringPart}
 use Rattle.termwiz_extended_events.specs.declared.types.StringKind.{StringKind}
 use Rattle.termwiz_extended_events.specs.declared.types.StringKind.TheVariants.{Osc, Dcs, Apc}
 use Rattle.termwiz_extended_grammar.specs.Forms.{ST, BEL, introducer, IsData, IsStringEnd, most_string}
@@ -64,7 +64,7 @@ end_cases Apc end e = inl e
 abbrev pub Stopped : StringKind → List ℕ → Type 0
 Stopped kind after = (after ≡ []) ⊎ ((x : ℕ) × (r : List ℕ) × (after ≡ x ∷ r) × ¬ IsData kind x)
 
-pub ends_stopped : (kind : StringKind) (bytes after left : List ℕ) (f : Bool) (event : ExtendedEvent) → Ends kind bytes after f left event
+pub ends_stopped : (kind : StringKind) (bytes after left : List ℕ) (f : Bool) (event : Event) → Ends kind bytes after f left event
     → Stopped kind after
 ends_stopped kind bytes after left f event (ended end left2 is e) = ⊎_elim
     (λ (st : end ≡ ST). inr (27, 92 ∷ left2, e ∙ ap (λ z. z ++ left2) st, escape_no_data kind))
@@ -132,7 +132,7 @@ pub no_cut_flushed : (b : ℕ) (r after : List ℕ) → after ≡ 27 ∷ b ∷ r
 no_cut_flushed b r after p held = ⊎_elim (λ (none : after ≡ []). cc (p, none)) (λ (one : after ≡ ESC). cc (p, one)) held
 
 -- a string has one end
-ends_once : (kind : StringKind) (bytes after l m : List ℕ) (f : Bool) (d e : ExtendedEvent) → Ends kind bytes after f l d
+ends_once : (kind : StringKind) (bytes after l m : List ℕ) (f : Bool) (d e : Event) → Ends kind bytes after f l d
     → Ends kind bytes after f m e → (l ≡ m) × (d ≡ e)
 ends_once kind bytes after l m f d e (ended end l2 is p) (ended other m2 it q) = (go (end_cases kind end is) (end_cases kind other it), refl)
   where
@@ -181,7 +181,7 @@ longer_data kind head a b r s da same full short stop = go (overlap a r b s (sym
     go (past t n f g) = not_stopped kind t r s a b n f da g stop
 
 -- what comes of a string is told once
-pub comes_once : (kind : StringKind) (head a b r s l m : List ℕ) (f : Bool) (d e : ExtendedEvent) → AllByRecursion (IsData kind) a
+pub comes_once : (kind : StringKind) (head a b r s l m : List ℕ) (f : Bool) (d e : Event) → AllByRecursion (IsData kind) a
     → AllByRecursion (IsData kind) b → a ++ r ≡ b ++ s → Comes kind head a r f l d → Comes kind head b s f m e → (l ≡ m) × (d ≡ e)
 comes_once kind head a b r s l m f d e da db same (part p) (part q) =
     let one = parted_once a b r s
@@ -211,7 +211,7 @@ string_append u s kind head bytes after is = record {
 }
 
 -- an end with more to come is one whatever follows
-ends_stay : (kind : StringKind) (bytes after left s : List ℕ) (f : Bool) (event : ExtendedEvent) → Ends kind bytes after true left event
+ends_stay : (kind : StringKind) (bytes after left s : List ℕ) (f : Bool) (event : Event) → Ends kind bytes after true left event
     → Ends kind bytes (after ++ s) f (left ++ s) event
 ends_stay kind bytes after left s f event (ended end left2 is e) =
     ended end (left2 ++ s) is (ap (λ z. z ++ s) e ∙ append_assoc end left2 s)
@@ -226,14 +226,14 @@ part_longer kind head bytes after s f p =
     subst (λ z. Comes kind head bytes (after ++ s) f z (StringPart kind (head ++ bytes)))
     (sym (append_assoc (introducer kind ++ head) after s)) it
 
-pub comes_stay : (kind : StringKind) (head bytes after left s : List ℕ) (f : Bool) (event : ExtendedEvent)
+pub comes_stay : (kind : StringKind) (head bytes after left s : List ℕ) (f : Bool) (event : Event)
     → Comes kind head bytes after true left event → Comes kind head bytes (after ++ s) f (left ++ s) event
 comes_stay kind head bytes after left s f event (part p) = part_longer kind head bytes after s f p
 comes_stay kind head bytes after left s f event (last left2 e p is) =
     last (left2 ++ s) e p (ends_stay kind (head ++ bytes) after left2 s f e is)
 
 -- before ESC and such a byte a flush reads what it reads without them
-ends_before : (kind : StringKind) (bytes after left : List ℕ) (b : ℕ) (r : List ℕ) (f : Bool) (event : ExtendedEvent) → b ≢ 27 → b ≢ 92
+ends_before : (kind : StringKind) (bytes after left : List ℕ) (b : ℕ) (r : List ℕ) (f : Bool) (event : Event) → b ≢ 27 → b ≢ 92
     → Ends kind bytes after false left event → Ends kind bytes (after ++ 27 ∷ b ∷ r) f (left ++ 27 ∷ b ∷ r) event
 ends_before kind bytes after left b r f event n m (ended end left2 is e) =
     ended end (left2 ++ 27 ∷ b ∷ r) is (ap (λ z. z ++ 27 ∷ b ∷ r) e ∙ append_assoc end left2 (27 ∷ b ∷ r))
@@ -246,7 +246,7 @@ ends_before kind bytes after left b r f event n m (flushed held o) = ⊎_elim
     (λ (one : after ≡ ESC). cut_by_two (b ∷ r) (ap (λ z. z ++ 27 ∷ b ∷ r) one))
     held
 
-pub comes_before : (kind : StringKind) (head bytes after left : List ℕ) (b : ℕ) (r : List ℕ) (f : Bool) (event : ExtendedEvent) → b ≢ 27
+pub comes_before : (kind : StringKind) (head bytes after left : List ℕ) (b : ℕ) (r : List ℕ) (f : Bool) (event : Event) → b ≢ 27
     → b ≢ 92 → Comes kind head bytes after false left event
     → Comes kind head bytes (after ++ 27 ∷ b ∷ r) f (left ++ 27 ∷ b ∷ r) event
 comes_before kind head bytes after left b r f event n m (part p) = part_longer kind head bytes after (27 ∷ b ∷ r) f p
@@ -254,7 +254,7 @@ comes_before kind head bytes after left b r f event n m (last left2 e p is) =
     last (left2 ++ 27 ∷ b ∷ r) e p (ends_before kind (head ++ bytes) after left2 b r f e n m is)
 
 -- what is left is no longer than what follows the data
-ends_left : (kind : StringKind) (bytes after left : List ℕ) (f : Bool) (event : ExtendedEvent) → Ends kind bytes after f left event
+ends_left : (kind : StringKind) (bytes after left : List ℕ) (f : Bool) (event : Event) → Ends kind bytes after f left event
     → length left ≤ length after
 ends_left kind bytes after left f event (ended end left2 is e) = omega (arith, ap length e, length-append end left2)
 ends_left kind bytes after left f event (cut b rest e n m) = omega (arith, ap length e)
@@ -267,7 +267,7 @@ opening_some Dcs head = omega arith
 opening_some Apc head = omega arith
 
 -- what comes of a string leaves less than the string
-pub comes_less : (u : List ℕ) (kind : StringKind) (head bytes after left : List ℕ) (f : Bool) (event : ExtendedEvent)
+pub comes_less : (u : List ℕ) (kind : StringKind) (head bytes after left : List ℕ) (f : Bool) (event : Event)
     → IsString u kind head bytes after → Comes kind head bytes after f left event → length left < length u
 comes_less u kind head bytes after left f event is (part p) =
     let short : length (introducer kind ++ head) ≤ 255 = opening_length kind head is.is_head in

@@ -5,8 +5,8 @@ use Rattle.std.proofs.lemmas.Bool.{cases_lt}
 use Rattle.termwiz_grammar.specs.Laws.{IsHeldEscape}
 use Rattle.termwiz_grammar.proofs.lemmas.lists.Decidable.{Decision, decide_both, decide_eq}
 use Rattle.termwiz_extended_events.specs.Meanings.{whole_string}
-use Rattle.termwiz_extended_events.specs.declared.types.ExtendedEvent.{ExtendedEvent}
-use Rattle.termwiz_extended_events.specs.declared.types.ExtendedEvent.TheVariants.{StringPart, StringCut}
+use Rattle.termwiz_extended_events.specs.declared.types.Event.{Event}
+use Rattle.termwiz_extended_events.specs.declared.types.Event.TheVariants.{StringPart, StringCut}
 use Rattle.termwiz_extended_events.specs.declared.types.StringKind.{StringKind}
 use Rattle.termwiz_extended_events.specs.declared.types.StringKind.TheVariants.{Osc, Dcs, Apc}
 use Rattle.termwiz_extended_grammar.specs.Forms.{ST, BEL, introducer, IsData, IsStringEnd, most_string}
@@ -58,7 +58,7 @@ st_ends Apc = refl
 
 -- something ends the string, or what follows its data is nothing or ESC, with more to come
 pub data Ended (kind : StringKind) (bytes after : List ℕ) (f : Bool) : Type 0 where
-  by : (left : List ℕ) (event : ExtendedEvent) → Ends kind bytes after f left event → Ended kind bytes after f
+  by : (left : List ℕ) (event : Event) → Ends kind bytes after f left event → Ended kind bytes after f
   not_yet : IsHeldEscape after → f ≡ true → Ended kind bytes after f
 
 held_ended : (kind : StringKind) (bytes after : List ℕ) (f : Bool) → IsHeldEscape after → Ended kind bytes after f
@@ -85,7 +85,7 @@ ended_or_not kind bytes after f (inr (x, r, e, never)) = ⊎_elim
 
 -- what comes of the string, or that it is open
 pub data SettledString (u : List ℕ) (f : Bool) : Type 0 where
-  given : (kind : StringKind) (head bytes after left : List ℕ) (event : ExtendedEvent) → IsString u kind head bytes after
+  given : (kind : StringKind) (head bytes after left : List ℕ) (event : Event) → IsString u kind head bytes after
       → Comes kind head bytes after f left event → SettledString u f
   stays_open : IsOpenString u → f ≡ true → SettledString u f
 
@@ -130,7 +130,7 @@ settle_string u f o = go (scan o.kind o.begins.0)
             (record { kind = o.kind; head = o.head; bytes = bytes; held = after; is_string = is; short = short; is_held = held }) more
 
 -- nothing ends an open string
-no_end_yet : (kind : StringKind) (bytes after left : List ℕ) (f : Bool) (event : ExtendedEvent) → IsHeldEscape after → f ≡ true
+no_end_yet : (kind : StringKind) (bytes after left : List ℕ) (f : Bool) (event : Event) → IsHeldEscape after → f ≡ true
     → Ends kind bytes after f left event → ⊥
 no_end_yet kind bytes after left f event held more (ended end l is e) = no_end_flushed kind end l after is e held
 no_end_yet kind bytes after left f event held more (cut b r e n m) = no_cut_flushed b r after e held
@@ -142,7 +142,7 @@ held_stopped kind after (inl none) = inl none
 held_stopped kind after (inr one) = inr (27, [], one, escape_no_data kind)
 
 -- so nothing comes of it, however its bytes are parted
-pub nothing_comes : (kind : StringKind) (head a b r s left : List ℕ) (f : Bool) (event : ExtendedEvent) → AllByRecursion (IsData kind) a
+pub nothing_comes : (kind : StringKind) (head a b r s left : List ℕ) (f : Bool) (event : Event) → AllByRecursion (IsData kind) a
     → AllByRecursion (IsData kind) b → a ++ r ≡ b ++ s → string_length kind head b < most_string → IsHeldEscape s → f ≡ true
     → Comes kind head a r f left event → ⊥
 nothing_comes kind head a b r s left f event da db same short held more (part p) =

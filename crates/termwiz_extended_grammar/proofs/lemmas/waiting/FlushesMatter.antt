@@ -1,9 +1,8 @@
 -- What waits as the beginning of a sequence, of a character or of an opening may go on so that a flush before changes the events, and so may an
 -- open string.
-use Rattle.std.proofs.Common.{◌≡◌, ◌≢◌, ◌⊎◌, inl, inr, ⊎_elim, ℕ, ◌≤◌, false, List, [], ◌∷◌, ◌++◌, length, refl, sym, ap, ◌∙◌, subst, append_assoc, append-nil, arith, length-append, bit_or, encode_utf8}
+use Rattle.std.proofs.Common.{◌≡◌, ◌≢◌, ◌⊎◌, inl, inr, ⊎_elim, ℕ, ◌≤◌, false, List, [], ◌∷◌, ◌++◌, length, refl, sym, ap, ◌∙◌, subst, append_assoc, append-nil, arith, length-append, encode_utf8}
 use Rattle.std.specs.List.{AllByRecursion}
 use Rattle.std.specs.Char.{IsScalar}
-use Rattle.std.proofs.lemmas.Nat.{le_or_r}
 use Rattle.std.proofs.lemmas.List.{append_cancel_left}
 use Rattle.termwiz_keymap.specs.Bytes.{Begins}
 use Rattle.termwiz_keymap.proofs.lemmas.lists.CommonPrefixes.{Overlaps, overlap, append-some, length-some, true_at_end, true_at_front}
@@ -31,8 +30,10 @@ use Rattle.termwiz_grammar.proofs.lemmas.read_back.WholeTexts.{escape_alone}
 use Rattle.termwiz_grammar.proofs.lemmas.table.RowShape.{Bytes}
 use Rattle.termwiz_grammar.proofs.lemmas.table.RowShape.Bytes.{one, more}
 use Rattle.termwiz_grammar.proofs.lemmas.table.SequenceFacts.{sequence_bytes, start, start_is_sequence, start_ends, report_ends}
-use Rattle.termwiz_extended_events.specs.declared.types.ExtendedEvent.{ExtendedEvent}
-use Rattle.termwiz_extended_events.specs.declared.types.ExtendedEvent.TheVariants.{Input, StringCut}
+use Rattle.termwiz_extended_events.specs.declared.types.Event.{Event}
+use Rattle.termwiz_extended_events.specs.declared.types.Event.TheVariants.{StringCut}
+use Rattle.termwiz_extended_events.specs.declared.types.Dialect.TheVariants.{Extended, Termwiz}
+use Rattle.termwiz_extended_events.specs.PortEvents.{told}
 use Rattle.termwiz_extended_events.specs.declared.types.Reading.{Reading}
 use Rattle.termwiz_extended_events.specs.declared.types.StringKind.{StringKind}
 use Rattle.termwiz_extended_events.specs.declared.types.StringKind.TheVariants.{Osc, Dcs, Apc}
@@ -41,36 +42,35 @@ use Rattle.termwiz_extended_grammar.specs.Forms.{ST, introducer, IsForm}
 use Rattle.termwiz_extended_grammar.specs.Strings.{IsUnfinishedOpening, IsOpenString}
 use Rattle.termwiz_extended_grammar.specs.Strings.Ends.{ended, flushed}
 use Rattle.termwiz_extended_grammar.specs.Strings.Comes.{last}
-use Rattle.termwiz_extended_grammar.specs.Readings.{after_event, after_events, event_in}
+use Rattle.termwiz_extended_grammar.specs.Readings.{ReadsMore, after_event, after_events, event_in}
 use Rattle.termwiz_extended_grammar.specs.ExtraSequences.{IsExtra, IsBareKey}
-use Rattle.termwiz_extended_grammar.specs.ExtendedGrammar.{StartsExtended, StartsApart, BeginsKnown, Stands, Steps, Means}
+use Rattle.termwiz_extended_grammar.specs.ExtendedGrammar.{StartsExtended, StartsApart, BeginsKnown, Stands, Steps, Means, escape_event}
 use Rattle.termwiz_extended_grammar.specs.ExtendedGrammar.Stands.{extra, alt_key, lone_escape, string, usual}
-use Rattle.termwiz_extended_grammar.specs.ExtendedLaws.{FlushMatters, Undecided}
+use Rattle.termwiz_extended_grammar.specs.ExtendedLaws.{FlushMatters, Undecided, ArePorts}
 use Rattle.termwiz_extended_grammar.proofs.lemmas.forms.FormBytes.{IsSecond, IsStringIntroducer, IsMark, mark_shape, escape_within}
 use Rattle.termwiz_extended_grammar.proofs.lemmas.forms.FormEnds.{mark_ends, sequence_after_mark, mark_after_sequence}
 use Rattle.termwiz_extended_grammar.proofs.lemmas.forms.FormOrNot.{IsUnfinishedMark, unfinished_mark_or_not, opening_length}
 use Rattle.termwiz_extended_grammar.proofs.lemmas.forms.Unfinished.{free_completion}
-use Rattle.termwiz_extended_grammar.proofs.lemmas.forms.ExtraFacts.{start_form, free_from_none, mark_from_unfinished, mark_unfinished, starts_mark}
+use Rattle.termwiz_extended_grammar.proofs.lemmas.forms.ExtraFacts.{start_form, free_from_none, mark_from_unfinished, mark_unfinished, starts_mark, unfinished_reads}
 use Rattle.termwiz_extended_grammar.proofs.lemmas.items.StringItems.{string_opening, string_append}
 use Rattle.termwiz_extended_grammar.proofs.lemmas.items.StringRests.{st_ends}
 use Rattle.termwiz_extended_grammar.proofs.lemmas.items.ExtendedItems.{apart_starts, starts_shape, starts_longer, starts_with, second_not_escape, stands_once}
 use Rattle.termwiz_extended_grammar.proofs.lemmas.items.ExtendedRests.{Read, read_of, one_meaning, empty_is_rest}
+use Rattle.termwiz_extended_grammar.proofs.lemmas.cuts.PortTold.{alt_not_escape, escape_told, told_leaves}
+use Rattle.termwiz_extended_grammar.proofs.lemmas.cuts.SameAsPort.{ports_join, ports_once, reads_or_only, termwiz_is_port}
+use Rattle.termwiz_extended_grammar.proofs.lemmas.cuts.StringsStand.{dialect_stays}
+use Rattle.termwiz_grammar.specs.Laws as portlaws
+use Rattle.termwiz_grammar.proofs.lemmas.waiting.UndecidedBytes.{undecided_law}
 use Rattle.termwiz_extended_grammar.proofs.lemmas.cuts.BeforeEscape.{escape_comes_first}
 use Rattle.termwiz_extended_grammar.proofs.lemmas.waiting.FlushesLeave.{HasNoStart, no_start_cons, flush_leaves, flush_gives, nothing_after, two_long}
-
-alt_not_escape : (j : KeyEvent) → Input (Key escape) ≡ Input (Key (with_alt j)) → ⊥
-alt_not_escape j e =
-    let same : escape ≡ with_alt j = cc (e) in
-    let none : 0 ≡ bit_or j.modifiers.0 4 = ap (λ (k : KeyEvent). k.modifiers.0) same in
-    omega (arith, le_or_r j.modifiers.0 4)
 
 -- x ∷ p goes on by c so that the whole is read at once
 record GoesOn (reading : Reading) (x : ℕ) (p c : List ℕ) : Type 0 where
   longer : c ≢ []
   -- read whole it gives one event at most, and after an ESC one at most, or an Escape first
-  whole_short : (E : List ExtendedEvent) (W : List ℕ) → Read reading (x ∷ p ++ c) false E W → length E ≤ 1
-  whole_held : (e : ExtendedEvent) (E : List ExtendedEvent) (W : List ℕ) → Read reading (27 ∷ x ∷ p ++ c) false (e ∷ E) W
-      → (e ≡ Input (Key escape)) ⊎ (E ≡ [])
+  whole_short : (E : List Event) (W : List ℕ) → Read reading (x ∷ p ++ c) false E W → length E ≤ 1
+  whole_held : (e : Event) (E : List Event) (W : List ℕ) → Read reading (27 ∷ x ∷ p ++ c) false (e ∷ E) W
+      → (e ≡ escape_event) ⊎ (E ≡ [])
   -- flushed, nothing of either part is left, and an Escape before x ∷ p is joined to its head
   no_start : HasNoStart (x ∷ p)
   no_start_after : HasNoStart c
@@ -114,8 +114,8 @@ module _ (reading : Reading) (x : ℕ) (p c : List ℕ) (on : GoesOn reading x p
       near (Broken d) is far = far
   flush_row bytes e (joined at v h j split some closed is near d f) = (j, f)
 
-  flush_stands : (left : List ℕ) (e : ExtendedEvent) → Stands reading (27 ∷ x ∷ p) false left e
-      → (j : KeyEvent) × (e ≡ Input (Key (with_alt j)))
+  flush_stands : (left : List ℕ) (e : Event) → Stands reading (27 ∷ x ∷ p) false left e
+      → (j : KeyEvent) × (s : List ℕ) × (e ≡ told reading s (Key (with_alt j)))
   flush_stands left e (extra text left2 d is split) = absurd (no_extra_with_escape reading x p on.second
       (inl (record { text = text; event = d; is_extra = is; begins = (left2, split) })))
   flush_stands left e (alt_key text left2 d is bare split) =
@@ -124,12 +124,12 @@ module _ (reading : Reading) (x : ℕ) (p c : List ℕ) (on : GoesOn reading x p
   flush_stands left e (lone_escape v split after) =
       let same : v ≡ x ∷ p = cc (split) in
       absurd (on.no_extra (subst (λ z. StartsExtended reading z) same (apart_starts reading v after)))
-  flush_stands left e (string kind head bytes after left2 d is comes) =
-      absurd (no_extra_with_escape reading x p on.second (inr (string_opening (27 ∷ x ∷ p) kind head bytes after is)))
+  flush_stands left e (string kind head bytes after left2 d reads is comes) =
+      absurd (no_extra_with_escape reading x p on.second (inr (reads, string_opening (27 ∷ x ∷ p) kind head bytes after is)))
   flush_stands left e (usual s left2 d stands split is gap) =
-      let j = flush_row s d (escape_gives x p s d on.alone stands.item) in (j.0, ap (λ z. Input z) j.1)
+      let j = flush_row s d (escape_gives x p s d on.alone stands.item) in (j.0, s, ap (told reading s) j.1)
 
-  apart_events : (E D : List ExtendedEvent) (V W : List ℕ) (F : List ExtendedEvent) → Read reading (27 ∷ x ∷ p ++ c) false E W
+  apart_events : (E D : List Event) (V W : List ℕ) (F : List Event) → Read reading (27 ∷ x ∷ p ++ c) false E W
       → Read reading (27 ∷ x ∷ p) false D V
       → D ≢ [] → F ≢ [] → E ≡ D ++ F → ⊥
   apart_events [] D V W F mw md nd nf e = let two = two_long D F nd nf in omega (arith, ap length e)
@@ -138,7 +138,7 @@ module _ (reading : Reading) (x : ℕ) (p c : List ℕ) (on : GoesOn reading x p
       let first : y ≡ z = cc (e) in
       let j = flush_stands md.0 z md.1 in
       ⊎_elim
-      (λ (h : y ≡ Input (Key escape)). alt_not_escape j.0 (sym h ∙ first ∙ j.1))
+      (λ (h : y ≡ escape_event). alt_not_escape reading j.1 j.0 (sym h ∙ first ∙ j.2))
       (λ (h : E ≡ []). let two = two_long (z ∷ D) F nd nf in omega (arith, ap length e, ap length h))
       (on.whole_held y E W mw)
 
@@ -150,7 +150,7 @@ module _ (reading : Reading) (x : ℕ) (p c : List ℕ) (on : GoesOn reading x p
       not_here : Begins START (27 ∷ x ∷ p) → ⊥
       not_here b = omega (arith, (escape_alone x p on.alone).longest START (Row start) start_is_sequence b)
 
-  differ : (held : List ℕ) → IsHeldEscape held → (E E1 E2 : List ExtendedEvent) (W W1 W2 : List ℕ)
+  differ : (held : List ℕ) → IsHeldEscape held → (E E1 E2 : List Event) (W W1 W2 : List ℕ)
       → Means reading (held ++ x ∷ p ++ c) false E W → Means reading (held ++ x ∷ p) false E1 W1
       → Means (after_events reading E1) (W1 ++ c) false E2 W2 → E ≢ E1 ++ E2
   differ held is E E1 E2 W W1 W2 mw m1 m2 e =
@@ -170,20 +170,20 @@ module _ (reading : Reading) (x : ℕ) (p c : List ℕ) (on : GoesOn reading x p
 
 -- a text that goes on to a mark, of which a flush makes one event
 module _ (reading : Reading) (x : ℕ) (p c : List ℕ) (longer : c ≢ []) (mark : IsMark reading.x10_mouse (x ∷ p ++ c))
-    (starts : StartsApart reading (x ∷ p ++ c)) (event : ExtendedEvent) (whole : Stands reading (x ∷ p ++ c) false [] event) where
+    (starts : StartsApart reading (x ∷ p ++ c)) (event : Event) (whole : Stands reading (x ∷ p ++ c) false [] event) where
   first_is_escape : x ≡ 27
   first_is_escape = (let s = mark_shape (x ∷ p ++ c) mark in cc (s.2))
 
-  mark_whole_short : (E : List ExtendedEvent) (W : List ℕ) → Read reading (x ∷ p ++ c) false E W → length E ≤ 1
+  mark_whole_short : (E : List Event) (W : List ℕ) → Read reading (x ∷ p ++ c) false E W → length E ≤ 1
   mark_whole_short [] W m = omega arith
   mark_whole_short (e ∷ E) W ((left, stands, steps), r) =
       let same = stands_once reading (x ∷ p ++ c) false left [] e event stands whole in
       omega (arith, ap length (nothing_after (after_event reading e) left W E same.0 steps))
 
-  mark_whole_held : (e : ExtendedEvent) (E : List ExtendedEvent) (W : List ℕ) → Read reading (27 ∷ x ∷ p ++ c) false (e ∷ E) W
-      → (e ≡ Input (Key escape)) ⊎ (E ≡ [])
+  mark_whole_held : (e : Event) (E : List Event) (W : List ℕ) → Read reading (27 ∷ x ∷ p ++ c) false (e ∷ E) W
+      → (e ≡ escape_event) ⊎ (E ≡ [])
   mark_whole_held e E W ((left, stands, steps), r) =
-      inl (stands_once reading (27 ∷ x ∷ p ++ c) false left (x ∷ p ++ c) e (Input (Key escape)) stands
+      inl (stands_once reading (27 ∷ x ∷ p ++ c) false left (x ∷ p ++ c) e escape_event stands
       (lone_escape (x ∷ p ++ c) refl starts)).1
 
   -- no mark has a START
@@ -232,26 +232,26 @@ module _ (reading : Reading) (x : ℕ) (p c : List ℕ) (longer : c ≢ []) (mar
   }
 
 -- a text that goes on to an extra sequence
-extra_goes_on : (reading : Reading) (x : ℕ) (p c : List ℕ) → c ≢ [] → IsForm reading.x10_mouse (x ∷ p ++ c)
+extra_goes_on : (reading : Reading) (x : ℕ) (p c : List ℕ) → ReadsMore reading → c ≢ [] → IsForm reading.x10_mouse (x ∷ p ++ c)
     → ((m : Meaning) → ¬ IsSequence (x ∷ p ++ c) m) → ¬ IsBareKey reading (x ∷ p ++ c) → GoesOn reading x p c
-extra_goes_on reading x p c longer form free other =
+extra_goes_on reading x p c reads longer form free other =
     let is : IsExtra reading (x ∷ p ++ c) (event_in reading (x ∷ p ++ c)) =
-    record { is_form = form; is_free = free_from_none reading (x ∷ p ++ c) free; means = refl } in
+    record { reads = reads; is_form = form; is_free = free_from_none reading (x ∷ p ++ c) free; means = refl } in
     let whole : x ∷ p ++ c ≡ (x ∷ p ++ c) ++ [] = sym (append-nil (x ∷ p ++ c)) in
     mark_goes_on reading x p c longer (inl form)
     (inl (record { text = x ∷ p ++ c; event = event_in reading (x ∷ p ++ c); is_extra = is; not_bare = other; begins = ([], whole) }))
     (event_in reading (x ∷ p ++ c)) (extra (x ∷ p ++ c) [] (event_in reading (x ∷ p ++ c)) is whole)
 
 -- a text that goes on to an opening
-opening_goes_on : (reading : Reading) (x : ℕ) (p : List ℕ) (o : IsUnfinishedOpening (x ∷ p)) → GoesOn reading x p o.tail
-opening_goes_on reading x p o =
+opening_goes_on : (reading : Reading) (x : ℕ) (p : List ℕ) (o : IsUnfinishedOpening (x ∷ p)) → ReadsMore reading → GoesOn reading x p o.tail
+opening_goes_on reading x p o reads =
     let form : x ∷ p ++ o.tail ≡ introducer o.kind ++ o.head = sym o.spells in
     let short : length (introducer o.kind ++ o.head) ≤ 255 = opening_length o.kind o.head o.is_head in
     let whole : x ∷ p ++ o.tail ≡ introducer o.kind ++ o.head ++ [] = form ∙ sym (append-nil (introducer o.kind ++ o.head)) in
     mark_goes_on reading x p o.tail o.longer (inr (record { kind = o.kind; head = o.head; is_head = o.is_head; form = form }))
-    (inr (record { kind = o.kind; head = o.head; is_head = o.is_head; begins = ([], whole) }))
+    (inr (reads, record { kind = o.kind; head = o.head; is_head = o.is_head; begins = ([], whole) }))
     (StringCut o.kind (o.head ++ []))
-    (string o.kind o.head [] [] [] (StringCut o.kind (o.head ++ [])) (record { is_head = o.is_head; each = tt; splits = whole })
+    (string o.kind o.head [] [] [] (StringCut o.kind (o.head ++ [])) reads (record { is_head = o.is_head; each = tt; splits = whole })
     (last [] (StringCut o.kind (o.head ++ [])) (omega (arith, length-append (introducer o.kind ++ o.head) [])) (flushed (inl refl) refl)))
 
 -- what the port reads at once, and no extra sequence and no opening begins
@@ -271,52 +271,54 @@ record IsPortsOwn (reading : Reading) (x : ℕ) (p c : List ℕ) : Type 0 where
   no_report : (text : List ℕ) (r : MouseEvent) → IsSequence text (Report r) → Begins text (x ∷ p) → ⊥
 
 module _ (reading : Reading) (x : ℕ) (p c : List ℕ) (own : IsPortsOwn reading x p c) where
-  own_stands : (left W : List ℕ) (e : ExtendedEvent) (E : List ExtendedEvent) → Stands reading (x ∷ p ++ c) false left e
+  own_stands : (left W : List ℕ) (e : Event) (E : List Event) → Stands reading (x ∷ p ++ c) false left e
       → Steps (after_event reading e) left false E W → E ≡ []
   own_stands left W e E (extra text left2 d is split) steps =
       absurd (own.no_extra (inl (record { text = text; event = d; is_extra = is; begins = (left2, split) })))
   own_stands left W e E (alt_key text left2 d is bare split) steps =
       absurd (own.no_extra_after (text ++ left2) split (starts_with reading text left2 d is))
   own_stands left W e E (lone_escape v split after) steps = absurd (own.no_extra_after v split (apart_starts reading v after))
-  own_stands left W e E (string kind head bytes after left2 d is comes) steps =
-      absurd (own.no_extra (inr (string_opening (x ∷ p ++ c) kind head bytes after is)))
+  own_stands left W e E (string kind head bytes after left2 d reads is comes) steps =
+      absurd (own.no_extra (inr (reads, string_opening (x ∷ p ++ c) kind head bytes after is)))
   own_stands left W e E (usual s left2 d stands split is gap) steps =
       let same = item_once (x ∷ p ++ c) false s (x ∷ p ++ c) d own.event stands.item own.item in
-      nothing_after reading left2 W E (nothing_left (x ∷ p ++ c) s left2 same.0 split) steps
+      nothing_after (after_event reading (told reading s d)) left2 W E (nothing_left (x ∷ p ++ c) s left2 same.0 split) steps
 
-  own_whole_short : (E : List ExtendedEvent) (W : List ℕ) → Read reading (x ∷ p ++ c) false E W → length E ≤ 1
+  own_whole_short : (E : List Event) (W : List ℕ) → Read reading (x ∷ p ++ c) false E W → length E ≤ 1
   own_whole_short [] W m = omega arith
   own_whole_short (e ∷ E) W ((left, stands, steps), r) = omega (arith, ap length (own_stands left W e E stands steps))
 
-  own_held_row : (bytes rest W : List ℕ) (e : InputEvent) (E : List ExtendedEvent)
+  own_held_row : (bytes rest W : List ℕ) (e : InputEvent) (E : List Event)
       → RowGives (27 ∷ x ∷ p ++ c) false ESC escape bytes e
-      → 27 ∷ x ∷ p ++ c ≡ bytes ++ rest → Steps reading rest false E W → (e ≡ Key escape) ⊎ (E ≡ [])
+      → 27 ∷ x ∷ p ++ c ≡ bytes ++ rest → Steps reading rest false E W → ((bytes ≡ ESC) × (e ≡ Key escape)) ⊎ (E ≡ [])
   own_held_row bytes rest W e E (its_key a b d f) splits steps = absurd (let h : 27 ∷ x ∷ p ++ c ≡ ESC = b refl in cc (h))
   own_held_row bytes rest W e E (its_paste at body left first g d f) splits steps = absurd (cc (at))
-  own_held_row bytes rest W e E (apart at v h split some closed is far d f) splits steps = inl f
+  own_held_row bytes rest W e E (apart at v h split some closed is far d f) splits steps = inl (d, f)
   own_held_row bytes rest W e E (joined at v h j split some closed is near d f) splits steps =
       let after : v ≡ x ∷ p ++ c = cc (split) in
       let same : h ≡ own.head = head_once (x ∷ p ++ c) h own.head (subst (λ z. IsHead z h) after is) own.whole in
       let all : bytes ≡ 27 ∷ x ∷ p ++ c = d ∙ ap (λ k. ESC ++ bytes_of k) same ∙ ap (λ z. 27 ∷ z) own.spells in
       inr (nothing_after reading rest W E (nothing_left (27 ∷ x ∷ p ++ c) bytes rest all splits) steps)
 
-  own_held_stands : (left W : List ℕ) (e : ExtendedEvent) (E : List ExtendedEvent) → Stands reading (27 ∷ x ∷ p ++ c) false left e
-      → Steps (after_event reading e) left false E W → (e ≡ Input (Key escape)) ⊎ (E ≡ [])
+  own_held_stands : (left W : List ℕ) (e : Event) (E : List Event) → Stands reading (27 ∷ x ∷ p ++ c) false left e
+      → Steps (after_event reading e) left false E W → (e ≡ escape_event) ⊎ (E ≡ [])
   own_held_stands left W e E (extra text left2 d is split) steps = absurd (no_extra_with_escape reading x (p ++ c) own.second
       (inl (record { text = text; event = d; is_extra = is; begins = (left2, split) })))
   own_held_stands left W e E (alt_key text left2 d is bare split) steps =
       let same : text ++ left2 ≡ x ∷ p ++ c = cc (split) in
       absurd (own.no_extra (subst (λ z. StartsExtended reading z) same (starts_with reading text left2 d is)))
   own_held_stands left W e E (lone_escape v split after) steps = inl refl
-  own_held_stands left W e E (string kind head bytes after left2 d is comes) steps = absurd (no_extra_with_escape reading x (p ++ c)
-      own.second (inr (string_opening (27 ∷ x ∷ p ++ c) kind head bytes after is)))
+  own_held_stands left W e E (string kind head bytes after left2 d reads is comes) steps = absurd (no_extra_with_escape reading x (p ++ c)
+      own.second (inr (reads, string_opening (27 ∷ x ∷ p ++ c) kind head bytes after is)))
   own_held_stands left W e E (usual s left2 d stands split is gap) steps = ⊎_elim
-      (λ (h : d ≡ Key escape). inl (ap (λ z. Input z) h))
+      (λ (h : (s ≡ ESC) × (d ≡ Key escape)).
+      inl (ap (λ z. told reading z d) h.0 ∙ ap (told reading ESC) h.1 ∙ escape_told reading))
       (λ (h : E ≡ []). inr h)
-      (own_held_row s left2 W d E (escape_gives x (p ++ c) s d own.alone stands.item) split steps)
+      (own_held_row s left2 W d E (escape_gives x (p ++ c) s d own.alone stands.item) split
+      (subst (λ r. Steps r left2 false E W) (told_leaves reading s d) steps))
 
-  own_whole_held : (e : ExtendedEvent) (E : List ExtendedEvent) (W : List ℕ) → Read reading (27 ∷ x ∷ p ++ c) false (e ∷ E) W
-      → (e ≡ Input (Key escape)) ⊎ (E ≡ [])
+  own_whole_held : (e : Event) (E : List Event) (W : List ℕ) → Read reading (27 ∷ x ∷ p ++ c) false (e ∷ E) W
+      → (e ≡ escape_event) ⊎ (E ≡ [])
   own_whole_held e E W ((left, stands, steps), r) = own_held_stands left W e E stands steps
 
   own_goes_on : GoesOn reading x p c
@@ -462,22 +464,23 @@ module _ (reading : Reading) (x : ℕ) (p c : List ℕ) (longer : c ≢ []) (d :
     no_report = λ text r is b. sequence_low text (x ∷ p) (Report r) is (true_at_front IsHigh (x ∷ p) c high) b;
   }
 
-goes_on : (reading : Reading) (x : ℕ) (p : List ℕ) → BeginsKnown reading (x ∷ p) → Decision (IsUnfinishedMark reading.x10_mouse (x ∷ p))
-    → (c : List ℕ) × GoesOn reading x p c
-goes_on reading x p beginning (inl (inl form)) =
-    let c = free_completion (x ∷ p) form in (c.tail, extra_goes_on reading x p c.tail c.longer c.is_form c.free (c.not_bare reading))
-goes_on reading x p beginning (inl (inr o)) = (o.tail, opening_goes_on reading x p o)
-goes_on reading x p (inl (inl h)) (inr never) =
+goes_on : (reading : Reading) (x : ℕ) (p : List ℕ) → ReadsMore reading → BeginsKnown reading (x ∷ p)
+    → Decision (IsUnfinishedMark reading.x10_mouse (x ∷ p)) → (c : List ℕ) × GoesOn reading x p c
+goes_on reading x p reads beginning (inl (inl form)) =
+    let c = free_completion (x ∷ p) form in
+    (c.tail, extra_goes_on reading x p c.tail reads c.longer c.is_form c.free (c.not_bare reading))
+goes_on reading x p reads beginning (inl (inr o)) = (o.tail, opening_goes_on reading x p o reads)
+goes_on reading x p reads (inl (inl h)) (inr never) =
     (h.tail, own_goes_on reading x p h.tail (sequence_own reading x p h.tail h.longer h.meaning h.is_sequence never))
-goes_on reading x p (inl (inr h)) (inr never) =
+goes_on reading x p reads (inl (inr h)) (inr never) =
     (h.tail, own_goes_on reading x p h.tail (character_own reading x p h.tail h.longer h.char h.scalar h.spells))
-goes_on reading x p (inr h) (inr never) = absurd (never (mark_from_unfinished reading (x ∷ p) h))
+goes_on reading x p reads (inr h) (inr never) = absurd (never (mark_from_unfinished reading (x ∷ p) h))
 
-beginning_undecided : (reading : Reading) (held p : List ℕ) → IsHeldEscape held → p ≢ [] → BeginsKnown reading p
+beginning_undecided : (reading : Reading) (held p : List ℕ) → ReadsMore reading → IsHeldEscape held → p ≢ [] → BeginsKnown reading p
     → (c : List ℕ) × FlushMatters reading (held ++ p) c
-beginning_undecided reading held [] is some beginning = absurd (some refl)
-beginning_undecided reading held (x ∷ p) is some beginning =
-    let on = goes_on reading x p beginning (unfinished_mark_or_not reading.x10_mouse (x ∷ p)) in
+beginning_undecided reading held [] reads is some beginning = absurd (some refl)
+beginning_undecided reading held (x ∷ p) reads is some beginning =
+    let on = goes_on reading x p reads beginning (unfinished_mark_or_not reading.x10_mouse (x ∷ p)) in
     let w = one_meaning reading (held ++ x ∷ p ++ on.0) false in
     let a = one_meaning reading (held ++ x ∷ p) false in
     let b = one_meaning (after_events reading a.0) (a.1 ++ on.0) false in (
@@ -508,12 +511,12 @@ end_of_held held (inl none) = (ST, ap (λ z. z ++ ST) none)
 end_of_held held (inr single) = (92 ∷ [], ap (λ z. z ++ 92 ∷ []) single)
 
 -- an item that leaves nothing, as a meaning
-one_item : (reading : Reading) (u : List ℕ) (event : ExtendedEvent) → Stands reading u false [] event
+one_item : (reading : Reading) (u : List ℕ) (event : Event) → Stands reading u false [] event
     → Means reading u false (event ∷ []) []
 one_item reading u event stands = record { steps = ([], stands, refl); rest = empty_is_rest (after_event reading event) false }
 
-string_undecided : (reading : Reading) (u : List ℕ) → IsOpenString u → (c : List ℕ) × FlushMatters reading u c
-string_undecided reading u o =
+string_undecided : (reading : Reading) (u : List ℕ) → ReadsMore reading → IsOpenString u → (c : List ℕ) × FlushMatters reading u c
+string_undecided reading u reads o =
     let c = end_of_held o.held o.is_held in
     let bytes = o.head ++ o.bytes in
     let b = one_meaning (after_event reading (StringCut o.kind bytes)) ([] ++ c.0) false in (
@@ -526,21 +529,64 @@ string_undecided reading u o =
         [],
         b.1,
         one_item reading (u ++ c.0) (whole_string o.kind bytes)
-            (string o.kind o.head o.bytes (o.held ++ c.0) [] (whole_string o.kind bytes)
+            (string o.kind o.head o.bytes (o.held ++ c.0) [] (whole_string o.kind bytes) reads
             (string_append u c.0 o.kind o.head o.bytes o.held o.is_string)
             (last [] (whole_string o.kind bytes) o.short (ended ST [] (st_ends o.kind) c.1))),
-        one_item reading u (StringCut o.kind bytes) (string o.kind o.head o.bytes o.held [] (StringCut o.kind bytes) o.is_string
+        one_item reading u (StringCut o.kind bytes) (string o.kind o.head o.bytes o.held [] (StringCut o.kind bytes) reads o.is_string
             (last [] (StringCut o.kind bytes) o.short (flushed o.is_held refl))),
         b.2,
         λ e. whole_not_cut o.kind bytes (cc (e)),
       ),
     )
 
+-- where no more than the port's sequences is read, what is undecided to the port is
+port_undecided : (reading : Reading) (text c : List ℕ) → reading.dialect ≡ Termwiz → portlaws.FlushMatters text c → FlushMatters reading text c
+port_undecided reading text c only (E, E1, E2, W, W1, W2, whole, first, second, differ) =
+    let a = (termwiz_is_port reading (text ++ c) W false only).1 E whole in
+    let b = (termwiz_is_port reading text W1 false only).1 E1 first in
+    let next = after_events reading b.0 in
+    let d = (termwiz_is_port next (W1 ++ c) W2 false (dialect_stays reading b.0 ∙ only)).1 E2 second in (
+      a.0,
+      b.0,
+      d.0,
+      W,
+      W1,
+      W2,
+      a.1,
+      b.1,
+      d.1,
+      λ e. differ (ports_once E (E1 ++ E2) a.0
+          a.2 (subst (λ D. ArePorts D (E1 ++ E2)) (sym e) (ports_join b.0 d.0 E1 E2 b.2 d.2))),
+    )
+
 pub undecided : Undecided
-undecided reading = (beginning_undecided reading, string_undecided reading)
+undecided reading = (λ held p is some beginning. go (reads_or_only reading) held p is some beginning, string_undecided reading)
+  where
+    go : ReadsMore reading ⊎ (reading.dialect ≡ Termwiz) → (held p : List ℕ) → IsHeldEscape held → p ≢ [] → BeginsKnown reading p
+        → (c : List ℕ) × FlushMatters reading (held ++ p) c
+    go (inl reads) held p is some beginning = beginning_undecided reading held p reads is some beginning
+    go (inr only) held p is some (inl beginning) =
+        let c = undecided_law held p is some beginning in (c.0, port_undecided reading (held ++ p) c.0 only c.1)
+    go (inr only) held p is some (inr h) = absurd (cc (only, unfinished_reads reading p h))
+
+-- the reading that reads more and is like this one
+abbrev reading_more : Reading → Reading
+reading_more reading = record reading { dialect = Extended }
+
+begins_more : (reading : Reading) (p : List ℕ) → BeginsKnown reading p → BeginsKnown (reading_more reading) p
+begins_more reading p (inl h) = inl h
+begins_more reading p (inr (inl h)) = inr (inl (record {
+  tail = h.tail;
+  longer = h.longer;
+  event = h.event;
+  is_extra = record { reads = refl; is_form = h.is_extra.is_form; is_free = h.is_extra.is_free; means = h.is_extra.means };
+}))
+begins_more reading p (inr (inr (reads, o))) = inr (inr (refl, o))
 
 -- START begins at no place in what waits as a beginning
 pub beginning_no_start : (reading : Reading) (held p : List ℕ) → IsHeldEscape held → p ≢ [] → BeginsKnown reading p → HasNoStart (held ++ p)
 beginning_no_start reading held [] is some beginning = absurd (some refl)
 beginning_no_start reading held (x ∷ p) is some beginning =
-    let on = goes_on reading x p beginning (unfinished_mark_or_not reading.x10_mouse (x ∷ p)) in no_start_held reading x p on.0 on.1 held is
+    let more = reading_more reading in
+    let on = goes_on more x p refl (begins_more reading (x ∷ p) beginning) (unfinished_mark_or_not reading.x10_mouse (x ∷ p)) in
+    no_start_held more x p on.0 on.1 held is

@@ -23,6 +23,7 @@ use Rattle.termwiz_extended_grammar.specs.ExtendedKinds.{IsUnfinished, IsKind, W
 use Rattle.termwiz_extended_grammar.specs.ExtendedLaws.{Waits}
 use Rattle.termwiz_extended_grammar.specs.ExtendedLaws.Waits.{nothing, open_paste, undecided, open_string}
 use Rattle.termwiz_extended_grammar.specs.Forms.{introducer}
+use Rattle.termwiz_extended_grammar.specs.Readings.{ReadsMore}
 use Rattle.termwiz_extended_grammar.specs.Strings.{IsOpenString}
 use Rattle.termwiz_extended_grammar.proofs.lemmas.forms.FormBytes.{IsMark, IsStringIntroducer, introducer_shape, head_some, mark_shape}
 use Rattle.termwiz_extended_grammar.proofs.lemmas.forms.FormEnds.{mark_ends, sequence_after_mark}
@@ -143,7 +144,7 @@ pub data Kinds (reading : Reading) (u : List ℕ) (f : Bool) : Type 0 where
   pasted : (body : List ℕ) → u ≡ START ++ body → IsKind reading u f Paste → Kinds reading u f
   sequence : (held bytes : List ℕ) → IsHeldEscape held → u ≡ held ++ bytes → bytes ≢ [] → IsUnfinished reading bytes
       → f ≡ true → Kinds reading u f
-  open_now : IsOpenString u → f ≡ true → Kinds reading u f
+  open_now : IsOpenString u → f ≡ true → ReadsMore reading → Kinds reading u f
   character : CharacterBytes u → IsHeldThen IsUnfinishedCharacter u → f ≡ true → Kinds reading u f
 
 pub kinds : (reading : Reading) (u : List ℕ) (f : Bool) → IsRest reading u f → Kinds reading u f
@@ -156,7 +157,7 @@ kinds reading u f rest = go (waiting_shape reading u f rest)
     go (undecided held bytes is e n (inl (inr h)) short m) = character (character_bytes u held bytes is e n h)
         (record { held = held; bytes = bytes; is_held = is; splits = e; some = n; unfinished = h }) m
     go (undecided held bytes is e n (inr h) short m) = sequence held bytes is e n (inr h) m
-    go (open_string is short m) = open_now is m
+    go (open_string is short m reads) = open_now is m reads
 
 pub escapes_some : (u : List ℕ) → IsOneOrTwoEscapes u → u ≡ [] → ⊥
 escapes_some u is e = ⊎_elim (λ (a : u ≡ ESC). cc (a, e)) (λ (b : u ≡ ESC ++ ESC). cc (b, e)) is
@@ -315,7 +316,7 @@ some_kind reading u f (sequence held bytes is e n h m) = ⊎_elim
       (record { held = held; bytes = bytes; is_held = is; splits = e; some = n; unfinished = h }, other, m),
     ))
     (one_or_two_or_not u)
-some_kind reading u f (open_now is m) = (String, (is, m))
+some_kind reading u f (open_now is m reads) = (String, (is, m, reads))
 some_kind reading u f (character c is m) = (Character, (is, m))
 
 pub waiting_kinds : WaitingKinds

@@ -2,8 +2,11 @@
 use Rattle.std.proofs.Common.{◌≡◌, ◌+◌, ◌-◌, ℕ, suc, Bool, List, [], ◌∷◌, ◌++◌, take, drop, refl, sym, ap, ◌∙◌, take-append-drop, Option, Some, None, arith, Result, Ok, Err, IsErr}
 use Rattle.std.specs.Prelude.{IfOk, IfSome, OnErr}
 use Rattle.termwiz_keys.specs.Introducers.{ESC}
-use Rattle.termwiz_extended_events.specs.declared.types.ExtendedEvent.{ExtendedEvent}
-use Rattle.termwiz_extended_events.specs.declared.types.ExtendedEvent.TheVariants.{Input, Csi, Osc, Dcs, Apc, Key, FocusGained, FocusLost, CursorPosition, Resize, KeyboardFlags, SideButton, StringPart, StringCut}
+use Rattle.termwiz_keys.specs.declared.types.KeyCode.{KeyCode}
+use Rattle.termwiz_keys.specs.declared.types.InputEvent.{InputEvent}
+use Rattle.termwiz_keys.specs.declared.types.InputEvent.TheVariants as input
+use Rattle.termwiz_extended_events.specs.declared.types.Event.{Event}
+use Rattle.termwiz_extended_events.specs.declared.types.Event.TheVariants.{Mouse, Paste, Csi, Osc, Dcs, Apc, Key, FocusGained, FocusLost, CursorPosition, Resize, KeyboardFlags, StringPart, StringCut}
 use Rattle.termwiz_extended_events.specs.declared.types.Reading.{Reading}
 use Rattle.termwiz_extended_events.specs.Meanings.{IsKey, NeedsMemory}
 use Rattle.termwiz_extended_grammar.specs.ExtraSequences.{with_alt}
@@ -11,7 +14,7 @@ use Rattle.termwiz_extended_grammar.specs.Readings.{after_event, event_in}
 use Rattle.termwiz_extended_grammar.specs.ExtendedGrammar.{HasItem, IsRest, Steps}
 use Rattle.termwiz_extended_grammar.specs.ExtendedGrammar.Stands.{alt_key}
 use Rattle.termwiz_input_extended.specs.Buffered.{Buffered}
-use Rattle.termwiz_input_extended.specs.NextItems.{Emits, HasItemThatNeedsMemory, IsBareKeyAt}
+use Rattle.termwiz_input_extended.specs.NextItems.{Emits, HasItemThatNeedsMemory, IsBareKeyAt, told_by}
 
 -- a parser by its parts
 abbrev pub buffered : Reading → List ℕ → Buffered
@@ -22,7 +25,7 @@ pub still_buffered : (reading : Reading) (t u : List ℕ) (old : Buffered) → t
 still_buffered reading t u old same is = ap (λ x. buffered reading x) same ∙ is
 
 module _ {F : Type 0} (old new : Buffered) (more : Bool) where
-  pub emits_event : (event : ExtendedEvent) → Steps old.reading old.text more (event ∷ []) new.text
+  pub emits_event : (event : Event) → Steps old.reading old.text more (event ∷ []) new.text
       → new.reading ≡ after_event old.reading event → Emits {F = F} old more new (Ok (Some event))
   emits_event event steps reading =
       record { event = steps; reading = reading; none = tt; none_same = tt; refused = tt; refused_same = tt }
@@ -31,7 +34,7 @@ module _ {F : Type 0} (old new : Buffered) (more : Bool) where
   emits_none rest same =
       record { event = tt; reading = tt; none = rest; none_same = same; refused = tt; refused_same = tt }
 
-  pub emits_refused : (result : Result (Option ExtendedEvent) F) → IsErr result → HasItemThatNeedsMemory old.reading old.text more
+  pub emits_refused : (result : Result (Option Event) F) → IsErr result → HasItemThatNeedsMemory old.reading old.text more
       → new ≡ old → Emits old more new result
   emits_refused (Ok found) is item same = absurd (cc (is))
   emits_refused (Err fault) is item same =
@@ -56,15 +59,15 @@ on_refusal (Ok value) p = tt
 on_refusal (Err fault) p = p
 
 -- a bare key with ALT leaves the reading as it is, and needs memory if the key does
-pub alt_reading : (reading : Reading) (event : ExtendedEvent) → IsKey event → after_event reading (with_alt event) ≡ reading
+pub alt_reading : (reading : Reading) (event : Event) → IsKey event → after_event reading (with_alt event) ≡ reading
 alt_reading reading (Key report) is = refl
-alt_reading reading (Input event) is = absurd is
+alt_reading reading (Mouse report) is = absurd is
+alt_reading reading (Paste text) is = absurd is
 alt_reading reading FocusGained is = absurd is
 alt_reading reading FocusLost is = absurd is
 alt_reading reading (CursorPosition row column) is = absurd is
 alt_reading reading (Resize r c h w) is = absurd is
 alt_reading reading (KeyboardFlags flags) is = absurd is
-alt_reading reading (SideButton button) is = absurd is
 alt_reading reading (Csi bytes) is = absurd is
 alt_reading reading (Osc bytes) is = absurd is
 alt_reading reading (Dcs bytes) is = absurd is
@@ -72,15 +75,15 @@ alt_reading reading (Apc bytes) is = absurd is
 alt_reading reading (StringPart kind bytes) is = absurd is
 alt_reading reading (StringCut kind bytes) is = absurd is
 
-alt_needs : (event : ExtendedEvent) → IsKey event → NeedsMemory event → NeedsMemory (with_alt event)
+alt_needs : (event : Event) → IsKey event → NeedsMemory event → NeedsMemory (with_alt event)
 alt_needs (Key report) is needs = needs
-alt_needs (Input event) is needs = absurd is
+alt_needs (Mouse report) is needs = absurd is
+alt_needs (Paste text) is needs = absurd is
 alt_needs FocusGained is needs = absurd is
 alt_needs FocusLost is needs = absurd is
 alt_needs (CursorPosition row column) is needs = absurd is
 alt_needs (Resize r c h w) is needs = absurd is
 alt_needs (KeyboardFlags flags) is needs = absurd is
-alt_needs (SideButton button) is needs = absurd is
 alt_needs (Csi bytes) is needs = absurd is
 alt_needs (Osc bytes) is needs = absurd is
 alt_needs (Dcs bytes) is needs = absurd is
@@ -101,7 +104,7 @@ module _ (reading : Reading) (u v : List ℕ) (len : ℕ) (f : Bool) (split : u 
   alt_left : drop len v ≡ drop (1 + len) u
   alt_left = sym (ap (λ x. drop (suc len) x) split) ∙ ap (λ n. drop n u) (let one : suc len ≡ 1 + len = omega arith in one)
 
-  pub alt_step : (made : ExtendedEvent) → made ≡ with_alt (event_in reading (take len v)) → Steps reading u f (made ∷ []) (drop (1 + len) u)
+  pub alt_step : (made : Event) → made ≡ with_alt (event_in reading (take len v)) → Steps reading u f (made ∷ []) (drop (1 + len) u)
   alt_step made means = (
     drop len v,
     rw means (alt_key (take len v) (drop len v) (event_in reading (take len v)) is.0.1 is.1 alt_split),
@@ -122,3 +125,12 @@ module _ (reading : Reading) (u v : List ℕ) (len : ℕ) (f : Bool) (split : u 
     with_alt (event_in reading (take len v)),
     alt_key (take len v) (drop len v) (event_in reading (take len v)) is.0.1 is.1 alt_split,
   )
+
+-- no event of the port is a position, so it leaves the reading as it is
+pub told_keeps : (reading : Reading) (decided : Option KeyCode) (event : InputEvent) → after_event reading (told_by decided event) ≡ reading
+told_keeps reading decided (input.Key k) = refl
+told_keeps reading decided (input.Mouse event) = refl
+told_keeps reading decided (input.PixelMouse event) = refl
+told_keeps reading decided (input.Resized c r) = refl
+told_keeps reading decided (input.Paste text) = refl
+told_keeps reading decided input.Wake = refl

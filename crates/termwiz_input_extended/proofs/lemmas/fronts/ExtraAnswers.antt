@@ -10,59 +10,53 @@ use Rattle.termwiz_grammar.specs.MouseReports.{IsMouseReport}
 use Rattle.termwiz_grammar.specs.Sequences.{Meaning, IsSequence}
 use Rattle.termwiz_grammar.specs.Sequences.Meaning.{Row, Report}
 use Rattle.termwiz_grammar.specs.Grammar.{IsUnfinishedSequence}
-use Rattle.termwiz_extended_events.specs.declared.types.ExtendedEvent.{ExtendedEvent}
-use Rattle.termwiz_extended_events.specs.declared.types.ExtendedEvent.TheVariants.{Key}
+use Rattle.termwiz_extended_events.specs.declared.types.Event.{Event}
+use Rattle.termwiz_extended_events.specs.declared.types.Event.TheVariants.{Key}
 use Rattle.termwiz_extended_events.specs.declared.types.PlainReport.{PlainReport}
 use Rattle.termwiz_extended_events.specs.KeyReports.{plain_report}
 use Rattle.termwiz_extended_events.specs.declared.types.Reading.{Reading}
-use Rattle.termwiz_extended_events.specs.declared.types.Protocol.TheVariants.{Kitty}
 use Rattle.termwiz_extended_events.specs.Meanings.{event_of, IsKeyOrPosition}
 use Rattle.termwiz_extended_grammar.specs.Forms.{introducer, IsForm}
-use Rattle.termwiz_extended_grammar.specs.ExtraSequences.{IsFree, IsExtra, IsRow, Overrides}
-use Rattle.termwiz_extended_grammar.specs.Readings.{event_in, is_asking}
+use Rattle.termwiz_extended_grammar.specs.ExtraSequences.{IsFree, IsExtra, IsRow}
+use Rattle.termwiz_extended_grammar.specs.Readings.{ReadsMore, event_in, is_asking}
 use Rattle.termwiz_extended_grammar.specs.Strings.{IsUnfinishedOpening, StartsWithOpening}
 use Rattle.termwiz_extended_grammar.specs.ExtendedGrammar.{BeginsExtended, StartsExtended}
-use Rattle.termwiz_input_extended.specs.NextItems.{IsReported, IsSomeExtra, IsUnfinishedFront}
+use Rattle.termwiz_input_extended.specs.NextItems.{IsSomeExtra, IsUnfinishedFront}
 use Rattle.termwiz_extended_grammar.proofs.lemmas.forms.FormBytes.{IsMark, form_shape, opening_mark}
 use Rattle.termwiz_extended_grammar.proofs.lemmas.forms.FormEnds.{form_no_opening, mark_ends, sequence_after_mark}
 use Rattle.termwiz_extended_grammar.proofs.lemmas.forms.ExtraFacts.{completed_mark, free_from_none, mark_from_unfinished, unfinished_from_form}
 use Rattle.termwiz_extended_grammar.proofs.lemmas.items.StringItems.{mark_once}
 
 -- a mouse report is no extra sequence
-pub report_not_extra : (reading : Reading) (text : List ℕ) (r : MouseEvent) (event : ExtendedEvent) → IsMouseReport text r
+pub report_not_extra : (reading : Reading) (text : List ℕ) (r : MouseEvent) (event : Event) → IsMouseReport text r
     → IsExtra reading text event → ⊥
 unfolding IsSequence
 report_not_extra reading text r event is extra = let same : Report r ≡ Row (extra.is_free (Report r) is).0 = (extra.is_free (Report r) is).1 in cc (same)
 
 -- a form that is no mouse report and no row is an extra sequence
-pub unknown_is_extra : (reading : Reading) (text : List ℕ) → IsForm reading.x10_mouse text → (((r : MouseEvent) × IsMouseReport text r) → ⊥)
-    → (((key : KeyEvent) × Contains table_rows (text, key)) → ⊥) → (event : ExtendedEvent) × IsExtra reading text event
+pub unknown_is_extra : (reading : Reading) (text : List ℕ) → ReadsMore reading → IsForm reading.x10_mouse text → (((r : MouseEvent) × IsMouseReport text r) → ⊥)
+    → (((key : KeyEvent) × Contains table_rows (text, key)) → ⊥) → (event : Event) × IsExtra reading text event
 unfolding IsSequence
-unknown_is_extra reading text form no_report no_row =
-    (event_in reading text, record { is_form = form; is_free = free_from_none reading text unknown; means = refl })
+unknown_is_extra reading text reads form no_report no_row =
+    (event_in reading text, record { reads = reads; is_form = form; is_free = free_from_none reading text unknown; means = refl })
   where
     unknown : (m : Meaning) → IsSequence text m → ⊥
     unknown (Row key) is = no_row (key, is)
     unknown (Report r) is = no_report (r, is)
 
--- a row is one if it isn't left to the port
-pub reported_is_extra : (reading : Reading) (text : List ℕ) → IsForm reading.x10_mouse text → (((r : MouseEvent) × IsMouseReport text r) → ⊥)
-    → IsReported reading text → IsSomeExtra reading text
+-- a row is one if its event is a report of a key or of the cursor's position
+pub reported_is_extra : (reading : Reading) (text : List ℕ) → ReadsMore reading → IsForm reading.x10_mouse text → (((r : MouseEvent) × IsMouseReport text r) → ⊥)
+    → IsKeyOrPosition (event_in reading text) → IsSomeExtra reading text
 unfolding IsSequence
-reported_is_extra reading text form no_report reported = (event_in reading text, record { is_form = form; is_free = free; means = refl })
+reported_is_extra reading text reads form no_report reported =
+    (event_in reading text, record { reads = reads; is_form = form; is_free = free; means = refl })
   where
     free : IsFree reading text
     free (Row key) is = (key, refl, reported)
     free (Report r) is = absurd (no_report (r, is))
 
-pub reported_event_is : (reading : Reading) (text : List ℕ) (event : ExtendedEvent) → IsForm reading.x10_mouse text
-    → (((r : MouseEvent) × IsMouseReport text r) → ⊥) → IsReported reading text → event ≡ event_in reading text → IsExtra reading text event
-reported_event_is reading text event form no_report reported means =
-    let is = reported_is_extra reading text form no_report reported in
-    record { is_form = form; is_free = is.1.is_free; means = means }
-
 pub row_not_extra : (reading : Reading) (text : List ℕ) (key : KeyEvent) → Contains table_rows (text, key)
-    → (IsReported reading text → ⊥) → IsSomeExtra reading text → ⊥
+    → (IsKeyOrPosition (event_in reading text) → ⊥) → IsSomeExtra reading text → ⊥
 unfolding IsSequence
 row_not_extra reading text key row never h = never (h.1.is_free (Row key) row).2
 
@@ -78,14 +72,6 @@ plain_in reading text (Some report) asked unasked = go (is_asking reading)
     go true = asked
     go false = unasked
 
--- under `Protocol::Kitty` a report of a key or of a position isn't left to the port
-module _ (reading : Reading) (event : ExtendedEvent) (kitty : reading.protocol ≡ Kitty) where
-  pub kitty_reports : IsKeyOrPosition event → Overrides reading.protocol reading.questions event
-  kitty_reports is = subst (λ p. Overrides p reading.questions event) (sym kitty) is
-
-  pub reported_by_kitty : Overrides reading.protocol reading.questions event → IsKeyOrPosition event
-  reported_by_kitty is = subst (λ p. Overrides p reading.questions event) kitty is
-
 -- a row, by the table and as a sequence
 pub row_known : (text : List ℕ) → ((key : KeyEvent) × Contains table_rows (text, key)) → IsRow text
 unfolding IsSequence
@@ -97,7 +83,7 @@ row_stored text h = h
 
 -- the event of an extra sequence is that of its bytes
 pub event_is : (reading : Reading) (text : List ℕ) → IsSomeExtra reading text → IsExtra reading text (event_in reading text)
-event_is reading text is = record { is_form = is.1.is_form; is_free = is.1.is_free; means = refl }
+event_is reading text is = record { reads = is.1.reads; is_form = is.1.is_form; is_free = is.1.is_free; means = refl }
 
 -- a form has three bytes or more
 pub form_long : {x10_mouse : Bool} (text : List ℕ) → IsForm x10_mouse text → 2 < length text
@@ -108,13 +94,13 @@ module _ (reading : Reading) (u : List ℕ) (len : ℕ) (form : IsForm reading.x
   begins = (drop len u, sym (take-append-drop len u))
 
   -- where the form isn't extra, no extra sequence and no opening begins the text, and the text begins none
-  pub no_extra_starts : (((event : ExtendedEvent) × IsExtra reading (take len u) event) → ⊥) → StartsExtended reading u → ⊥
+  pub no_extra_starts : (((event : Event) × IsExtra reading (take len u) event) → ⊥) → StartsExtended reading u → ⊥
   no_extra_starts never (inl h) = never (
     h.event,
     subst (λ x. IsExtra reading x h.event) (mark_once u h.text (take len u) (inl h.is_extra.is_form) (inl form) h.begins begins)
         h.is_extra,
   )
-  no_extra_starts never (inr o) = form_no_opening (take len u) form (record {
+  no_extra_starts never (inr (reads, o)) = form_no_opening (take len u) form (record {
     kind = o.kind;
     head = o.head;
     is_head = o.is_head;
@@ -131,7 +117,7 @@ module _ (reading : Reading) (u : List ℕ) (len : ℕ) (form : IsForm reading.x
 pub no_extra_without_form : (reading : Reading) (u : List ℕ) → ((text : List ℕ) → IsForm reading.x10_mouse text → Begins text u → ⊥)
     → (StartsWithOpening u → ⊥) → StartsExtended reading u → ⊥
 no_extra_without_form reading u never none (inl h) = never h.text h.is_extra.is_form h.begins
-no_extra_without_form reading u never none (inr o) = none o
+no_extra_without_form reading u never none (inr o) = none o.1
 
 -- no form begins a text that properly begins a sequence of the port
 pub no_form_within : {x10_mouse : Bool} (u : List ℕ) → IsUnfinishedSequence u → (text : List ℕ) → IsForm x10_mouse text → Begins text u → ⊥
@@ -147,6 +133,7 @@ no_form_before {x10_mouse = x10_mouse} u h text form b =
     (subst (IsMark x10_mouse) (ap (λ t. t ++ m.0) b.1 ∙ append_assoc text b.0 m.0) m.2))
 
 -- what properly begins a form or an opening properly begins an extra sequence or an opening
-pub unfinished_from_front : (reading : Reading) (u : List ℕ) → IsUnfinishedFront reading.x10_mouse u → BeginsExtended reading u
-unfinished_from_front reading u (inl h) = inl (unfinished_from_form reading u h)
-unfinished_from_front reading u (inr o) = inr o
+pub unfinished_from_front : (reading : Reading) (u : List ℕ) → ReadsMore reading → IsUnfinishedFront reading.x10_mouse u
+    → BeginsExtended reading u
+unfinished_from_front reading u reads (inl h) = inl (unfinished_from_form reading u reads h)
+unfinished_from_front reading u reads (inr o) = inr (reads, o)

@@ -2,30 +2,30 @@
 use Rattle.std.proofs.Common.{◌≡◌, ◌≢◌, inl, inr, ⊎_elim, ℕ, Bool, true, List, [], ◌∷◌, ◌++◌, take, drop, refl, sym, ap, ◌∙◌, subst, take-append-drop}
 use Rattle.termwiz_keymap.specs.Bytes.{Begins}
 use Rattle.termwiz_keys.specs.Introducers.{ESC}
-use Rattle.termwiz_keys.specs.Keys.{escape}
 use Rattle.termwiz_keys.specs.declared.types.InputEvent.{InputEvent}
-use Rattle.termwiz_keys.specs.declared.types.InputEvent.TheVariants.{Key, Paste}
+use Rattle.termwiz_keys.specs.declared.types.InputEvent.TheVariants.{Paste}
 use Rattle.termwiz_grammar.specs.Grammar as port
 use Rattle.termwiz_grammar.specs.Grammar.{IsBeginning, IsUnfinishedSequence}
 use Rattle.termwiz_grammar.proofs.lemmas.items.ItemStable.{item_begins}
-use Rattle.termwiz_extended_events.specs.declared.types.ExtendedEvent.{ExtendedEvent}
-use Rattle.termwiz_extended_events.specs.declared.types.ExtendedEvent.TheVariants.{Input}
+use Rattle.termwiz_extended_events.specs.declared.types.Event.{Event}
+use Rattle.termwiz_extended_events.specs.declared.types.Dialect.TheVariants.{Termwiz}
 use Rattle.termwiz_extended_events.specs.declared.types.Reading.{Reading}
+use Rattle.termwiz_extended_events.specs.PortEvents.{told}
 use Rattle.termwiz_extended_events.specs.Meanings.{NeedsMemory}
 use Rattle.termwiz_extended_grammar.specs.ExtraSequences.{IsExtra}
 use Rattle.termwiz_extended_grammar.specs.Strings.{StartsWithOpening}
-use Rattle.termwiz_extended_grammar.specs.ExtendedGrammar.{BeginsExtended, BeginsKnown, HasItem, IsRest, Stands, StartsApart, StartsExtended, Steps}
+use Rattle.termwiz_extended_grammar.specs.ExtendedGrammar.{BeginsExtended, BeginsKnown, HasItem, IsRest, Stands, StartsApart, StartsExtended, Steps, escape_event}
 use Rattle.termwiz_extended_grammar.specs.ExtendedGrammar.Stands.{extra, alt_key, lone_escape, string, usual}
 use Rattle.termwiz_extended_grammar.specs.ExtendedLaws.{HasNoExtra}
 use Rattle.termwiz_extended_grammar.proofs.lemmas.forms.ExtraFacts.{completed_mark, mark_from_unfinished}
 use Rattle.termwiz_extended_grammar.proofs.lemmas.forms.FormBytes.{mark_shape}
 use Rattle.termwiz_extended_grammar.proofs.lemmas.items.StringItems.{string_opening}
 use Rattle.termwiz_extended_grammar.proofs.lemmas.items.ExtendedItems.{apart_starts, starts_shape, starts_with, second_not_escape}
-use Rattle.termwiz_extended_grammar.proofs.lemmas.cuts.SameAsPort.{usual_item, rest_of_port}
+use Rattle.termwiz_extended_grammar.proofs.lemmas.cuts.SameAsPort.{nothing_more, usual_item, rest_of_port}
 use Rattle.termwiz_extended_grammar.specs.Readings.{event_in}
 use Rattle.termwiz_input_extended.specs.NextItems.{HasItemThatNeedsMemory, IsPortsOwn, IsUnfinishedFront}
 use Rattle.termwiz_input_extended.specs.FormAnswers.{NoFormBegins}
-use Rattle.termwiz_input_extended.proofs.lemmas.fronts.ExtraAnswers.{no_extra_without_form, no_form_within}
+use Rattle.termwiz_input_extended.proofs.lemmas.fronts.ExtraAnswers.{no_extra_without_form}
 
 -- no extra sequence and no opening begins a text that doesn't begin with ESC, nor one that begins ESC ESC
 pub not_escaped : (reading : Reading) (u : List ℕ) → (Begins ESC u → ⊥) → StartsExtended reading u → ⊥
@@ -49,40 +49,35 @@ none_open reading u f none finished = record {
 
 -- where the port reads on by itself, its item stands
 pub own_item : (reading : Reading) (u bytes left : List ℕ) (event : InputEvent) (f : Bool) → IsPortsOwn reading u f
-    → port.Stands u f bytes event → u ≡ bytes ++ left → Stands reading u f left (Input event)
+    → port.Stands u f bytes event → u ≡ bytes ++ left → Stands reading u f left (told reading bytes event)
 own_item reading u bytes left event f own stands split =
     usual_item reading u bytes left event f stands split own.here (λ v is after. own.after v after)
 
 pub own_rest : (reading : Reading) (u : List ℕ) (f : Bool) → IsPortsOwn reading u f → port.IsRest u f → IsRest reading u f
 own_rest reading u f own rest = rest_of_port reading u f rest own.here (λ v is split. own.after v split)
 
--- one step of the port is one step
-pub own_step : (reading : Reading) (u left : List ℕ) (event : InputEvent) (f : Bool) → IsPortsOwn reading u f
-    → port.Steps u f (event ∷ []) left → Steps reading u f (Input event ∷ []) left
-own_step reading u left event f own (bytes, rest, stands, splits, same) =
-    (rest, own_item reading u bytes rest event f own stands splits, same)
-
 -- an item of the port is one here
 pub own_has_item : (reading : Reading) (u : List ℕ) (f : Bool) → IsPortsOwn reading u f → port.HasItem u f → HasItem reading u f
 own_has_item reading u f own (bytes, event, stands) =
-    let b = item_begins u bytes event f stands.item in (b.0, Input event, own_item reading u bytes b.0 event f own stands b.1)
+    let b = item_begins u bytes event f stands.item in
+    (b.0, told reading bytes event, own_item reading u bytes b.0 event f own stands b.1)
 
 -- a paste of the port needs memory
 pub own_refused : (reading : Reading) (u : List ℕ) (f : Bool) → IsPortsOwn reading u f → port.HasPaste u f → HasItemThatNeedsMemory reading u f
 own_refused reading u f own (bytes, text, stands) =
     let b = item_begins u bytes (Paste text) f stands.item in
-    record { left = b.0; event = Input (Paste text); stands = own_item reading u bytes b.0 (Paste text) f own stands b.1; needs = tt }
+    record { left = b.0; event = told reading bytes (Paste text); stands = own_item reading u bytes b.0 (Paste text) f own stands b.1; needs = tt }
 
 -- an extra sequence is one step, and needs memory if its event does
-pub extra_step : (reading : Reading) (u : List ℕ) (len : ℕ) (event : ExtendedEvent) (f : Bool) → IsExtra reading (take len u) event
-    → (made : ExtendedEvent) → made ≡ event_in reading (take len u) → Steps reading u f (made ∷ []) (drop len u)
+pub extra_step : (reading : Reading) (u : List ℕ) (len : ℕ) (event : Event) (f : Bool) → IsExtra reading (take len u) event
+    → (made : Event) → made ≡ event_in reading (take len u) → Steps reading u f (made ∷ []) (drop len u)
 extra_step reading u len event f is made means = (
   drop len u,
-  extra (take len u) (drop len u) made (record { is_form = is.is_form; is_free = is.is_free; means = means }) (sym (take-append-drop len u)),
+  extra (take len u) (drop len u) made (record { reads = is.reads; is_form = is.is_form; is_free = is.is_free; means = means }) (sym (take-append-drop len u)),
   refl,
 )
 
-pub extra_refused : (reading : Reading) (u : List ℕ) (len : ℕ) (event : ExtendedEvent) (f : Bool) → IsExtra reading (take len u) event
+pub extra_refused : (reading : Reading) (u : List ℕ) (len : ℕ) (event : Event) (f : Bool) → IsExtra reading (take len u) event
     → NeedsMemory event → HasItemThatNeedsMemory reading u f
 extra_refused reading u len event f is needs = record {
   left = drop len u;
@@ -93,7 +88,7 @@ extra_refused reading u len event f is needs = record {
 
 -- the Escape before an extra sequence or an opening is one step
 pub escape_step : (reading : Reading) (u v : List ℕ) (f : Bool) → u ≡ ESC ++ v → StartsApart reading v
-    → Steps reading u f (Input (Key escape) ∷ []) (drop 1 u)
+    → Steps reading u f (escape_event ∷ []) (drop 1 u)
 escape_step reading u v f split starts = (v, lone_escape v split starts, sym (ap (drop 1) split))
 
 -- a text that begins with no ESC properly begins no extra sequence and no opening
@@ -156,20 +151,15 @@ waits_for_known reading u f b one none m h left event (alt_key text left2 e is b
     let s = starts_shape reading (text ++ left2) (starts_with reading text left2 e is) in one (s.0 ∷ s.1, split ∙ ap (λ x. 27 ∷ x) s.2)
 waits_for_known reading u f b one none m h left event (lone_escape v split after) =
     let s = starts_shape reading v (apart_starts reading v after) in one (s.0 ∷ s.1, split ∙ ap (λ x. 27 ∷ x) s.2)
-waits_for_known reading u f b one none m h left event (string kind head bytes after left2 e is comes) =
-    none (inr (string_opening u kind head bytes after is))
+waits_for_known reading u f b one none m h left event (string kind head bytes after left2 e reads is comes) =
+    none (inr (reads, string_opening u kind head bytes after is))
 waits_for_known reading u f b one none m h left event (usual s left2 e stands split is gap) =
     is.closed (record { more_comes = m; some = (λ e. cc (e, b.1)); beginning = h })
 
--- so nothing stands where it waits for an extra sequence or an opening, or for a sequence of the port
+-- so nothing stands where it waits for an extra sequence or an opening
 pub waits_for_extra : (reading : Reading) (u : List ℕ) (f : Bool) → Begins ESC u → (Begins (ESC ++ ESC) u → ⊥)
     → (StartsExtended reading u → ⊥) → f ≡ true → BeginsExtended reading u → IsRest reading u f
 waits_for_extra reading u f b one none m h = waits_for_known reading u f b one none m (inr h)
-
-pub waits_for_sequence : (reading : Reading) (u : List ℕ) (f : Bool) → Begins ESC u → (Begins (ESC ++ ESC) u → ⊥)
-    → (StartsWithOpening u → ⊥) → f ≡ true → IsUnfinishedSequence u → IsRest reading u f
-waits_for_sequence reading u f b one never m h =
-    waits_for_known reading u f b one (no_extra_without_form reading u (no_form_within u h) never) m (inl (inl h))
 
 pub waits_after_escape : (reading : Reading) (v : List ℕ) (f : Bool) → Begins ESC v
     → (StartsExtended reading v → ⊥) → f ≡ true → BeginsExtended reading v → IsRest reading (27 ∷ v) f
@@ -179,7 +169,12 @@ waits_after_escape reading v f b none m h left event (alt_key text left2 e is ba
     none (subst (λ x. StartsExtended reading x) (let k : text ++ left2 ≡ v = cc (split) in k) (starts_with reading text left2 e is))
 waits_after_escape reading v f b none m h left event (lone_escape w split after) =
     none (subst (λ x. StartsExtended reading x) (let k : w ≡ v = cc (split) in k) (apart_starts reading w after))
-waits_after_escape reading v f b none m h left event (string kind head bytes after left2 e is comes) =
-    not_two_escapes reading v b (inr (string_opening (27 ∷ v) kind head bytes after is))
+waits_after_escape reading v f b none m h left event (string kind head bytes after left2 e reads is comes) =
+    not_two_escapes reading v b (inr (reads, string_opening (27 ∷ v) kind head bytes after is))
 waits_after_escape reading v f b none m h left event (usual s left2 e stands split is gap) =
     (gap v refl).closed (record { more_comes = m; some = (λ e. cc (e, b.1)); beginning = inr h })
+
+-- where no more is read than the port's sequences, every text is the port's own
+pub own_by_dialect : (reading : Reading) → reading.dialect ≡ Termwiz → (u : List ℕ) (f : Bool) → IsPortsOwn reading u f
+own_by_dialect reading only u f =
+    record { here = nothing_more reading only u f; after = λ v split. nothing_more reading only v f }

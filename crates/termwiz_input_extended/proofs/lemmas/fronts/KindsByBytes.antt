@@ -11,7 +11,7 @@ use Rattle.termwiz_input.proofs.lemmas.heads.FirstHighByte.{high_bytes, begins_h
 use Rattle.termwiz_extended_events.specs.declared.types.Reading.{Reading}
 use Rattle.termwiz_extended_grammar.specs.declared.waiting.ExtendedWaiting.TheVariants.{Escape, Sequence, Character, Paste, String}
 use Rattle.termwiz_extended_grammar.specs.Strings.{IsOpenString, StartsWithOpening}
-use Rattle.termwiz_extended_grammar.specs.ExtendedGrammar.{IsRest}
+use Rattle.termwiz_extended_grammar.specs.ExtendedGrammar.{IsRest, ReadsOpening}
 use Rattle.termwiz_extended_grammar.specs.ExtendedKinds.{IsKind}
 use Rattle.termwiz_extended_grammar.specs.ExtendedGrammar.Stands.{string}
 use Rattle.termwiz_extended_grammar.proofs.lemmas.items.ExtendedItems.{starts_shape}
@@ -23,7 +23,7 @@ use Rattle.termwiz_extended_grammar.proofs.lemmas.waiting.KindsOfRests.{Kinds, e
 use Rattle.termwiz_extended_grammar.proofs.lemmas.waiting.KindsOfRests.Kinds.{none, pasted, sequence, open_now, character}
 
 -- an opening has no high byte at its front, and begins no paste
-high_no_opening : (reading : Reading) (u : List ℕ) → CharacterBytes u → StartsWithOpening u → ⊥
+high_no_opening : (reading : Reading) (u : List ℕ) → CharacterBytes u → ReadsOpening reading u → ⊥
 high_no_opening reading u c o = (let s = starts_shape reading u (inr o) in ⊎_elim
     (λ (k : u ≡ c.first ∷ c.after). let first : c.first ≡ 27 = cc (k, s.2) in omega (arith, c.high))
     (λ (k : u ≡ 27 ∷ c.first ∷ c.after). let second : c.first ≡ s.0 = cc (k, s.2) in omega (arith, c.high, s.3))
@@ -44,7 +44,7 @@ module _ (reading : Reading) (u : List ℕ) (f : Bool) (rest : IsRest reading u 
       go (none e) = absurd (escapes_some u told e)
       go (pasted body e is) = absurd (escapes_no_paste u body told e)
       go (sequence held bytes is e n h m) = (told, m)
-      go (open_now o m) = (told, m)
+      go (open_now o m reads) = (told, m)
       go (character c is m) = (told, m)
 
   pub character_kind : BeginsWithHighByte u → IsKind reading u f Character
@@ -57,7 +57,7 @@ module _ (reading : Reading) (u : List ℕ) (f : Bool) (rest : IsRest reading u 
           (high_bytes u told).spells)
       go (pasted body e is) = absurd (start_no_character u (body, e) (high_bytes u told))
       go (sequence held bytes is e n h m) = absurd (no_high u held bytes (high_bytes u told) is e (unfinished_low reading bytes n h))
-      go (open_now o m) = absurd (high_no_opening reading u (high_bytes u told) (opening_of u o))
+      go (open_now o m reads) = absurd (high_no_opening reading u (high_bytes u told) (reads, opening_of u o))
       go (character c is m) = (is, m)
 
   pub paste_kind : Begins START u → IsKind reading u f Paste
@@ -67,11 +67,11 @@ module _ (reading : Reading) (u : List ℕ) (f : Bool) (rest : IsRest reading u 
       go (none e) = absurd (cc (e, told.1))
       go (pasted body e is) = is
       go (sequence held bytes is e n h m) = absurd (start_not_held reading u held bytes told is e n h)
-      go (open_now o m) = absurd (paste_no_opening u told (opening_of u o))
+      go (open_now o m reads) = absurd (paste_no_opening u told (opening_of u o))
       go (character c is m) = absurd (start_no_character u told c)
 
   -- what is told by none of these is an open string or the beginning of a sequence, by its opening
-  pub sequence_kind : IsNoOtherKind u → (StartsWithOpening u → ⊥) → IsKind reading u f Sequence
+  pub sequence_kind : IsNoOtherKind u → (ReadsOpening reading u → ⊥) → IsKind reading u f Sequence
   sequence_kind told no_opening = go (kinds reading u f rest)
     where
       go : Kinds reading u f → IsKind reading u f Sequence
@@ -79,13 +79,13 @@ module _ (reading : Reading) (u : List ℕ) (f : Bool) (rest : IsRest reading u 
       go (pasted body e is) = absurd (told.no_paste (body, e))
       go (sequence held bytes is e n h m) =
           (record { held = held; bytes = bytes; is_held = is; splits = e; some = n; unfinished = h }, told.no_escape, m)
-      go (open_now o m) = absurd (no_opening (opening_of u o))
+      go (open_now o m reads) = absurd (no_opening (reads, opening_of u o))
       go (character c is m) = absurd (told.no_character (begins_high u c))
 
-  pub string_kind : StartsWithOpening u → IsKind reading u f String
-  string_kind opening = go (settle_string u f opening)
+  pub string_kind : ReadsOpening reading u → IsKind reading u f String
+  string_kind (reads, opening) = go (settle_string u f opening)
     where
       go : SettledString u f → IsKind reading u f String
       go (given kind head bytes after left event is comes) =
-          absurd (rest left event (string kind head bytes after left event is comes))
-      go (stays_open is m) = (is, m)
+          absurd (rest left event (string kind head bytes after left event reads is comes))
+      go (stays_open is m) = (is, m, reads)

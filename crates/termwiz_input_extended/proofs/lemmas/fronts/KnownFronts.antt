@@ -1,14 +1,12 @@
 -- Where a sequence of the port is at the front of a text, or a character, the text is the port's own.
-use Rattle.std.proofs.Common.{◌≡◌, ◌≢◌, ◌⊎◌, inl, inr, ⊎_elim, ℕ, ◌<◌, ◌≤◌, Bool, List, [], ◌∷◌, ◌++◌, length, take, drop, refl, sym, ap, ◌∙◌, subst, arith, append_assoc, append-nil, take-append-drop, length-take-le, get_or}
+use Rattle.std.proofs.Common.{◌≡◌, ◌≢◌, ◌⊎◌, inl, inr, ⊎_elim, ℕ, ◌<◌, ◌≤◌, Bool, List, [], ◌∷◌, ◌++◌, length, take, drop, refl, sym, ap, ◌∙◌, subst, arith, append_assoc, append-nil, take-append-drop, get_or}
 use Rattle.std.specs.Prelude.{codes, slice_index_or, Option, Some, None, IfSome}
 use Rattle.termwiz_keymap.specs.Bytes.{Begins}
 use Rattle.termwiz_keymap.proofs.lemmas.lists.CommonPrefixes.{Overlaps, overlap, append-some}
 use Rattle.termwiz_keymap.proofs.lemmas.lists.CommonPrefixes.Overlaps.{within, past}
 use Rattle.termwiz_keys.specs.Introducers.{ESC, START}
 use Rattle.termwiz_keys.specs.Keys.{escape as escape_key, plain, with_alt}
-use Rattle.termwiz_keys.specs.declared.types.KeyEvent.{KeyEvent}
 use Rattle.termwiz_keys.specs.declared.types.MouseEvent.{MouseEvent}
-use Rattle.termwiz_keys.specs.declared.types.InputEvent.{InputEvent}
 use Rattle.termwiz_keys.specs.declared.types.InputEvent.TheVariants.{Key, Mouse}
 use Rattle.termwiz_grammar.specs.MouseReports.{IsMouseReport}
 use Rattle.termwiz_grammar.specs.Sequences.{Meaning, IsSequence}
@@ -18,14 +16,14 @@ use Rattle.termwiz_input.specs.Matches.{IsItemAt, character_of}
 use Rattle.termwiz_input.specs.PrintableAscii.{IsPrintableAscii}
 use Rattle.termwiz_input.proofs.lemmas.heads.HeadLookup.{character_closed, character_front}
 use Rattle.termwiz_input.proofs.lemmas.heads.StartsNoSequence.{apart_from_sequences, lone_escape}
-use Rattle.termwiz_input.proofs.lemmas.items.ItemByHead.{alt_row_stands, character_stands, row_stands}
+use Rattle.termwiz_input.proofs.lemmas.items.ItemByHead.{alt_row_stands, character_stands}
 use Rattle.termwiz_input.proofs.lemmas.items.PrintableAscii.{printable_run}
-use Rattle.termwiz_extended_events.specs.declared.types.ExtendedEvent.{ExtendedEvent}
-use Rattle.termwiz_extended_events.specs.declared.types.ExtendedEvent.TheVariants.{Input}
+use Rattle.termwiz_extended_events.specs.declared.types.Event.{Event}
+use Rattle.termwiz_extended_events.specs.declared.types.Event.TheVariants as event
 use Rattle.termwiz_extended_events.specs.declared.types.Reading.{Reading}
-use Rattle.termwiz_extended_events.specs.declared.types.Protocol.TheVariants.{Legacy}
+use Rattle.termwiz_extended_events.specs.MouseReports.{sgr_report}
 use Rattle.termwiz_extended_grammar.specs.Forms.{IsForm}
-use Rattle.termwiz_extended_grammar.specs.ExtraSequences.{IsExtra, Overrides}
+use Rattle.termwiz_extended_grammar.specs.ExtraSequences.{IsExtra}
 use Rattle.termwiz_extended_grammar.specs.Strings.{StartsWithOpening}
 use Rattle.termwiz_extended_grammar.specs.ExtendedGrammar.{BeginsExtended, StartsExtended, Steps}
 use Rattle.termwiz_extended_grammar.proofs.lemmas.cuts.PartsOfPastes.{start_not_extra}
@@ -33,9 +31,9 @@ use Rattle.termwiz_extended_grammar.proofs.lemmas.forms.ExtraFacts.{completed_ma
 use Rattle.termwiz_extended_grammar.proofs.lemmas.forms.FormBytes.{IsMark}
 use Rattle.termwiz_extended_grammar.proofs.lemmas.forms.FormEnds.{sequence_after_mark, mark_after_sequence}
 use Rattle.termwiz_extended_grammar.proofs.lemmas.items.StringFronts.{no_opening_after}
-use Rattle.termwiz_extended_grammar.specs.Readings.{event_in}
-use Rattle.termwiz_input_extended.specs.NextItems.{IsLongRowAt, IsPortsOwn, IsShortRowAt}
+use Rattle.termwiz_input_extended.specs.NextItems.{IsPlainCharacter, IsPortsOwn}
 use Rattle.termwiz_input_extended.proofs.lemmas.fronts.FrontItems.{not_two_escapes, own_after_escape, own_after_two_escapes, own_item, own_without_escape, two_escapes_finished}
+use Rattle.termwiz_input_extended.proofs.lemmas.fronts.ToldByFront.{front_none}
 use Rattle.termwiz_input_extended.proofs.lemmas.fronts.MouseForms.{report_escape, report_item, report_no_extra, report_not_unfinished, report_one}
 
 -- a sequence of more than two bytes properly begins no form and no opening
@@ -64,13 +62,13 @@ module _ (reading : Reading) (u y : List ℕ) (m : Meaning) (long : 2 < length y
 
   -- so the text is the port's own, unless the sequence is extra or an opening begins it
   pub own_by_sequence : (f : Bool) → Begins ESC u → (Begins (ESC ++ ESC) u → ⊥) → (StartsWithOpening u → ⊥)
-      → (((event : ExtendedEvent) × IsExtra reading y event) → ⊥) → IsPortsOwn reading u f
+      → (((event : Event) × IsExtra reading y event) → ⊥) → IsPortsOwn reading u f
   own_by_sequence f escape one no_opening never = own_after_escape reading u f escape one none (λ comes. finished)
     where
       none : StartsExtended reading u → ⊥
       none (inl h) = never
           (h.event, subst (λ z. IsExtra reading z h.event) (form_is h.text h.is_extra.is_form h.begins) h.is_extra)
-      none (inr o) = no_opening o
+      none (inr o) = no_opening o.1
 
       finished : BeginsExtended reading u → ⊥
       finished h =
@@ -110,54 +108,34 @@ own_high reading u f high = own_without_escape reading u f
 
 -- where the first byte is from 0x80 on, a character is an item
 pub high_character : (u : List ℕ) → 0 < length u → 0x80 ≤ slice_index_or u 0 0
-    → IfSome (character_of u) (λ found. (reading : Reading) (more : Bool)
-    → IsPortsOwn reading u more × IsItemAt u more (Key (plain found.0)) found.1)
+    → IfSome (character_of u) (λ found. (reading : Reading) (more : Bool) → IsPlainCharacter reading u more found.0 found.1)
 high_character u some high = go (character_of u) refl
   where
     go : (found : Option (ℕ × ℕ)) → character_of u ≡ found
-        → IfSome found (λ found. (reading : Reading) (more : Bool)
-        → IsPortsOwn reading u more × IsItemAt u more (Key (plain found.0)) found.1)
+        → IfSome found (λ found. (reading : Reading) (more : Bool) → IsPlainCharacter reading u more found.0 found.1)
     go None e = tt
-    go (Some (c, n)) e = λ reading more. (own_high reading u more high, character_item u more c n some high e)
-
--- an item of the port's is one step
-pub item_step : (reading : Reading) (u : List ℕ) (event : InputEvent) (len : ℕ) (f : Bool) → IsPortsOwn reading u f → IsItemAt u f event len
-    → Steps reading u f (Input event ∷ []) (drop len u)
-item_step reading u event len f own is =
-    (drop len u, own_item reading u (take len u) (drop len u) event f own is.1 (sym (take-append-drop len u)), refl)
-
--- a row of three or more bytes is the port's own under `Protocol::Legacy`, and an item
-module _ (reading : Reading) (u : List ℕ) (f : Bool) (key : KeyEvent) (len : ℕ) (is : IsLongRowAt reading u f key len) where
-  longer_than_two : 2 < length (take len u)
-  longer_than_two = omega (arith, is.long, is.row.0, length-take-le len u is.row.0)
-
-  row_is_never_extra : ((event : ExtendedEvent) × IsExtra reading (take len u) event) → ⊥
-  unfolding IsSequence
-  row_is_never_extra h =
-      let open_question : Overrides Legacy reading.questions (event_in reading (take len u)) =
-      subst (λ p. Overrides p reading.questions (event_in reading (take len u))) is.port.0 (h.1.is_free (Row key) is.row.1.is_sequence).2 in
-      omega (arith, open_question.0, is.port.1)
-
-  pub long_row_own : Begins ESC u → (Begins (ESC ++ ESC) u → ⊥) → (StartsWithOpening u → ⊥) → IsPortsOwn reading u f
-  long_row_own escape one no_opening = own_by_sequence reading u (take len u) (Row key) longer_than_two is.row.1.is_sequence
-      is.row.1.begins f escape one no_opening row_is_never_extra
-
-  pub long_row_item : (Begins START u → ⊥) → IsItemAt u f (Key key) len
-  long_row_item no_paste = row_stands u f key len is.closed is.row no_paste
-      (λ e. let one : length (take len u) ≡ 1 = ap length e in absurd (omega (arith, one, longer_than_two)))
-
--- a row of two bytes is an item of the port
-pub short_row_item : (u : List ℕ) (f : Bool) (key : KeyEvent) → IsShortRowAt u f key → (Begins START u → ⊥) → IsItemAt u f (Key key) 2
-short_row_item u f key is no_paste = row_stands u f key 2 is.closed is.row no_paste
-    (λ e. let one : length (take 2 u) ≡ 1 = ap length e in absurd (omega (arith, one, is.row.0, length-take-le 2 u is.row.0)))
+    go (Some (c, n)) e = λ reading more. record {
+      own = own_high reading u more high;
+      item = character_item u more c n some high e;
+      undecided = front_none reading u (omega (arith, high)) (λ e. omega (arith, high, e));
+    }
 
 -- a mouse report is one step
-pub mouse_report_step : (reading : Reading) (u : List ℕ) (event : MouseEvent) (len : ℕ) (f : Bool) → len ≤ length u
-    → IsMouseReport (take len u) event → Steps reading u f (Input (Mouse event) ∷ []) (drop len u)
-mouse_report_step reading u event len f inside is =
-    let own = own_after_escape reading u f (report_escape reading u len event is) (report_one reading u len event is)
-    (report_no_extra reading u len event is) (λ m. report_not_unfinished reading u len event is) in
-    item_step reading u (Mouse event) len f own (report_item reading u len event is f inside)
+pub report_step : (reading : Reading) (u : List ℕ) (report : MouseEvent) (len : ℕ) (f : Bool) → IsPortsOwn reading u f → len ≤ length u
+    → IsMouseReport (take len u) report → Steps reading u f (event.Mouse (sgr_report (take len u) report) ∷ []) (drop len u)
+report_step reading u report len f own inside is = (
+  drop len u,
+  own_item reading u (take len u) (drop len u) (Mouse report) f own (report_item reading u len report is f inside).1
+      (sym (take-append-drop len u)),
+  refl,
+)
+
+pub mouse_report_step : (reading : Reading) (u : List ℕ) (report : MouseEvent) (len : ℕ) (f : Bool) → len ≤ length u
+    → IsMouseReport (take len u) report → Steps reading u f (event.Mouse (sgr_report (take len u) report) ∷ []) (drop len u)
+mouse_report_step reading u report len f inside is =
+    let own = own_after_escape reading u f (report_escape reading u len report is) (report_one reading u len report is)
+    (report_no_extra reading u len report is) (λ m. report_not_unfinished reading u len report is) in
+    report_step reading u report len f own inside is
 
 -- ESC ESC before a third ESC is the Escape key with ALT
 three_escapes : (reading : Reading) (u : List ℕ) (f : Bool)
@@ -172,11 +150,12 @@ three_escapes reading u f =
     )
 
 pub escapes_front : (reading : Reading) (v : List ℕ) (f : Bool) → Begins ESC v → 1 < length v → slice_index_or v 1 0 ≡ 27
-    → IsPortsOwn reading (27 ∷ v) f × IsItemAt (27 ∷ v) f (Key (with_alt escape_key)) 2
+    → IsPortsOwn reading (27 ∷ v) f × IsItemAt (27 ∷ v) f (Key (with_alt escape_key)) 2 × Begins (ESC ++ ESC) (27 ∷ v)
 escapes_front reading [] f b long second = absurd (omega arith)
 escapes_front reading (x ∷ []) f b long second = absurd (omega arith)
 escapes_front reading (x ∷ y ∷ u) f b long second =
     let first : 27 ≡ x = cc (b.1) in
-    subst (λ z. IsPortsOwn reading (27 ∷ z ∷ y ∷ u) f × IsItemAt (27 ∷ z ∷ y ∷ u) f (Key (with_alt escape_key)) 2) first
+    let it = subst (λ z. IsPortsOwn reading (27 ∷ z ∷ y ∷ u) f × IsItemAt (27 ∷ z ∷ y ∷ u) f (Key (with_alt escape_key)) 2) first
     (subst (λ z. IsPortsOwn reading (27 ∷ 27 ∷ z ∷ u) f × IsItemAt (27 ∷ 27 ∷ z ∷ u) f (Key (with_alt escape_key)) 2) (sym second)
-    (three_escapes reading u f))
+    (three_escapes reading u f)) in
+    (it.0, it.1, (b.0, ap (λ t. 27 ∷ t) b.1))

@@ -1,5 +1,5 @@
 -- A mouse report has the form of a control sequence. Where one begins a text, no extra sequence and no opening does.
-use Rattle.std.proofs.Common.{◌≡◌, ℕ, ◌≤◌, codes, Bool, List, [], ◌∷◌, ◌++◌, length, take, drop, take-append-drop, sym, ap, ◌∙◌, subst, arith, append_assoc, length-append}
+use Rattle.std.proofs.Common.{◌≡◌, ℕ, ◌≤◌, codes, Bool, false, List, [], ◌∷◌, ◌++◌, length, take, drop, take-append-drop, refl, sym, ap, ◌∙◌, subst, arith, append_assoc, length-append}
 use Rattle.std.specs.List.{AllByRecursion}
 use Rattle.termwiz_keymap.specs.Bytes.{Begins}
 use Rattle.termwiz_keymap.proofs.lemmas.lists.CommonPrefixes.{true_from}
@@ -12,7 +12,9 @@ use Rattle.termwiz_grammar.specs.Sequences.Meaning.{Report}
 use Rattle.termwiz_grammar.specs.MouseReports.{IsDigit, IsMouseReport}
 use Rattle.termwiz_grammar.proofs.lemmas.mouse.OneReport.{laid_out, layout}
 use Rattle.termwiz_input.specs.Matches.{IsItemAt}
-use Rattle.termwiz_input.specs.MouseReportAnswers.{IsBegun}
+use Rattle.termwiz_input.specs.MouseReportAnswers.{IsBegun, IsMouseReportAnswer}
+use Rattle.termwiz_input.specs.declared.mouse_report.FrontReport.{FrontReport}
+use Rattle.termwiz_input.specs.declared.mouse_report.FrontReport.TheVariants.{Whole, Begun, Absent}
 use Rattle.termwiz_input.proofs.lemmas.heads.HeadLookup.{mouse_report_front, report_closed}
 use Rattle.termwiz_input.proofs.lemmas.items.ItemByHead.{report_stands}
 use Rattle.termwiz_extended_events.specs.declared.types.Reading.{Reading}
@@ -114,3 +116,11 @@ begun_no_form u (tail, r, some, is) = no_form_within u
 
 pub begun_unfinished : {x10_mouse : Bool} (u : List ℕ) → IsBegun u → IsUnfinishedForm x10_mouse u
 begun_unfinished u (tail, r, some, is) = record { tail = tail; longer = some; is_form = report_is_form (u ++ tail) r is }
+
+-- no mouse report begins a text where the recogniser finds no whole one
+pub no_report_there : (u : List ℕ) (found : FrontReport) → IsMouseReportAnswer u found
+    → ((report : MouseEvent) (len : ℕ) → found ≡ Whole report len → ⊥)
+    → (word : List ℕ) (report : MouseEvent) → IsMouseReport word report → Begins word u → ⊥
+no_report_there u (Whole given len) is other word report r b = other given len refl
+no_report_there u Begun is other word report r b = begun_no_form {x10_mouse = false} u is word (report_is_form word report r) b
+no_report_there u Absent is other word report r b = is.0 word report r b

@@ -1,6 +1,6 @@
 -- What a call answers that moves the event of the item at the front to a list.
 use Rattle.std.proofs.Common.{◌≡◌, ◌∙◌, Bool, true, false, List, [], ◌∷◌, ◌++◌, sym, ap, subst, arith, Result, Ok, Err, IsErr}
-use Rattle.termwiz_extended_events.specs.declared.types.ExtendedEvent.{ExtendedEvent}
+use Rattle.termwiz_extended_events.specs.declared.types.Event.{Event}
 use Rattle.termwiz_extended_events.specs.declared.types.Reading.{Reading}
 use Rattle.termwiz_extended_grammar.specs.ExtendedGrammar.{HasItem, IsRest, Steps}
 use Rattle.termwiz_extended_grammar.specs.Readings.{after_event, after_events}
@@ -8,8 +8,8 @@ use Rattle.termwiz_extended_grammar.proofs.lemmas.cuts.ExtendedCuts.{after_both,
 use Rattle.termwiz_input_extended.specs.Buffered.{Buffered}
 use Rattle.termwiz_input_extended.specs.NextItems.{Stores}
 
-module _ {F : Type 0} (old new : Buffered) (more : Bool) (before after : List ExtendedEvent) where
-  pub stores_event : (event : ExtendedEvent) → Steps old.reading old.text more (event ∷ []) new.text
+module _ {F : Type 0} (old new : Buffered) (more : Bool) (before after : List Event) where
+  pub stores_event : (event : Event) → Steps old.reading old.text more (event ∷ []) new.text
       → new.reading ≡ after_event old.reading event → after ≡ before ++ event ∷ [] → Stores {F = F} old more before new after (Ok true)
   stores_event event step reading is = record {
     stored = λ first text steps read. (

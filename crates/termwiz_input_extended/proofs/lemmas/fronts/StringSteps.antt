@@ -3,12 +3,12 @@ use Rattle.std.proofs.Common.{◌≡◌, ℕ, ◌+◌, ◌-◌, ◌≤◌, Bool,
 use Rattle.std.proofs.lemmas.List.{drop-take}
 use Rattle.termwiz_keymap.specs.Bytes.{Begins}
 use Rattle.termwiz_keys.specs.Introducers.{ESC}
-use Rattle.termwiz_extended_events.specs.declared.types.ExtendedEvent.{ExtendedEvent}
+use Rattle.termwiz_extended_events.specs.declared.types.Event.{Event}
 use Rattle.termwiz_extended_events.specs.declared.types.Reading.{Reading}
 use Rattle.termwiz_extended_events.specs.declared.types.StringKind.{StringKind}
 use Rattle.termwiz_extended_events.specs.declared.types.StringKind.TheVariants as kinds
 use Rattle.termwiz_extended_events.specs.Meanings.{NeedsMemory}
-use Rattle.termwiz_extended_grammar.specs.Readings.{after_event}
+use Rattle.termwiz_extended_grammar.specs.Readings.{ReadsMore, after_event}
 use Rattle.termwiz_extended_grammar.specs.ExtendedGrammar.{Steps}
 use Rattle.termwiz_extended_grammar.specs.ExtendedGrammar.Stands.{string}
 use Rattle.termwiz_extended_grammar.proofs.lemmas.forms.FormBytes.{introducer_shape}
@@ -44,16 +44,17 @@ module _ (reading : Reading) (u : List ℕ) (more : Bool) (item : StringItem) (i
   abbrev pub left_of : List ℕ
   left_of = take item.kept u ++ drop item.taken u
 
-  pub string_step : (event : ExtendedEvent) → event ≡ string_event item.manner item.kind (is.head ++ is.bytes)
+  pub string_step : ReadsMore reading → (event : Event) → event ≡ string_event item.manner item.kind (is.head ++ is.bytes)
       → Steps reading u more (event ∷ []) left_of
-  string_step event made = (left_of, rw made (string item.kind is.head is.bytes is.after left_of _ is.is_string is.comes), refl)
+  string_step reads event made =
+      (left_of, rw made (string item.kind is.head is.bytes is.after left_of _ reads is.is_string is.comes), refl)
 
   -- it needs memory
-  pub string_refused : NeedsMemory (string_event item.manner item.kind (is.head ++ is.bytes)) → HasItemThatNeedsMemory reading u more
-  string_refused needs = record {
+  pub string_refused : ReadsMore reading → NeedsMemory (string_event item.manner item.kind (is.head ++ is.bytes)) → HasItemThatNeedsMemory reading u more
+  string_refused reads needs = record {
     left = left_of;
     event = string_event item.manner item.kind (is.head ++ is.bytes);
-    stands = string item.kind is.head is.bytes is.after left_of _ is.is_string is.comes;
+    stands = string item.kind is.head is.bytes is.after left_of _ reads is.is_string is.comes;
     needs = needs;
   }
 

@@ -1,17 +1,13 @@
--- Whether a text is a row of the table as a whole, or properly begins one, by a lookup.
-use Rattle.std.proofs.Common.{◌≡◌, ⊎_elim, ℕ, ◌<◌, ◌≤◌, List, ◌++◌, length, take, refl, ap, subst, arith, Contains, Option, Some, None, IsSome}
+-- Whether a text is a row of the table as a whole, by a lookup.
+use Rattle.std.proofs.Common.{◌≡◌, ⊎_elim, ℕ, ◌<◌, ◌≤◌, List, length, subst, arith, Contains, Some, None}
 use Rattle.std.specs.FinMap.{get}
 use Rattle.std.proofs.Math.Seq.{take-length}
 use Rattle.std.proofs.lemmas.List.{take_all}
 use Rattle.std.proofs.lemmas.Bool.{cases_lt}
-use Rattle.termwiz_keymap.specs.Lookup.{IsExtended, IsLongestKey, NoKeyBegins}
+use Rattle.termwiz_keymap.specs.Lookup.{IsLongestKey, NoKeyBegins}
 use Rattle.termwiz_keys.specs.declared.types.KeyEvent.{KeyEvent}
-use Rattle.termwiz_grammar.specs.Sequences.{IsSequence}
-use Rattle.termwiz_grammar.specs.Sequences.Meaning.{Row}
-use Rattle.termwiz_grammar.specs.Grammar.{IsUnfinishedSequence}
 use Rattle.termwiz_grammar.specs.Table.{rows, table}
 use Rattle.termwiz_grammar.proofs.lemmas.table.TableAsMap.{row_from_table, table_from_row}
-use Rattle.termwiz_input_extended.specs.NextItems.{HasNoLongRow}
 
 -- the longest row that begins a text, where it is as long as the text
 pub row_whole : (u : List ℕ) (len : ℕ) (key : KeyEvent) → IsLongestKey table u len key → len ≡ length u
@@ -35,27 +31,3 @@ row_len u len key other is row = ⊎_elim
     absurd (cc (gone, table_from_row u other row)))
     (λ (all : length u ≤ len). (let within : len ≤ length u = is.within in omega arith))
     (cases_lt len (length u))
-
--- a text that properly begins a row properly begins a sequence
-pub row_unfinished : (u : List ℕ) → IsExtended table u → IsUnfinishedSequence u
-unfolding IsSequence
-row_unfinished u (tail, longer, stored) = go (get table (u ++ tail)) refl stored
-  where
-    go : (found : Option KeyEvent) → get table (u ++ tail) ≡ found → IsSome found → IsUnfinishedSequence u
-    go (Some key) e is = record {
-      tail = tail;
-      longer = λ none. omega (arith, ap length none);
-      meaning = Row key;
-      is_sequence = row_from_table (u ++ tail) key e;
-    }
-    go None e is = absurd (cc (is))
-
--- where the longest row that begins a text has two bytes at most, or none begins it, none of three or more does
-pub no_longer_row : (u : List ℕ) (len : ℕ) (key : KeyEvent) → len ≤ 2 → IsLongestKey table u len key → HasNoLongRow u
-no_longer_row u len key short is n other long within row =
-    let gone : get table (take n u) ≡ None = is.longest n (omega arith) within in
-    cc (gone, table_from_row (take n u) other row)
-
-pub no_row_begins : (u : List ℕ) → NoKeyBegins table u → HasNoLongRow u
-no_row_begins u none n other long within row =
-    let gone : get table (take n u) ≡ None = none n within in cc (gone, table_from_row (take n u) other row)

@@ -6,7 +6,7 @@ use Rattle.std.proofs.lemmas.Bool.{cases_lt}
 use Rattle.std.proofs.Math.Seq.{take-add}
 use Rattle.termwiz_keys.specs.Introducers.{ESC}
 use Rattle.termwiz_grammar.specs.Laws.{IsHeldEscape}
-use Rattle.termwiz_extended_events.specs.declared.types.ExtendedEvent.TheVariants.{StringCut}
+use Rattle.termwiz_extended_events.specs.declared.types.Event.TheVariants.{StringCut}
 use Rattle.termwiz_extended_events.specs.declared.types.StringKind.{StringKind}
 use Rattle.termwiz_extended_events.specs.declared.types.StringKind.TheVariants.{Osc, Dcs, Apc}
 use Rattle.termwiz_extended_grammar.specs.Forms.{introducer, IsData, IsStringEnd}

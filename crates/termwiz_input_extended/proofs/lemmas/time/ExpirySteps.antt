@@ -1,11 +1,11 @@
 -- What is noted and flushed step by step is what `Expires` says.
-use Rattle.std.proofs.Common.{◌≡◌, ◌↔◌, ℕ, Bool, true, false, IsTrue, List, [], ◌∷◌, sym, ap, subst, Option, Some, None, Result, Ok, Err, IfOk, IfSome, IfNone, OnErr}
+use Rattle.std.proofs.Common.{◌≡◌, ◌∙◌, ◌↔◌, ℕ, Bool, true, false, IsTrue, List, [], ◌∷◌, sym, ap, subst, Option, Some, None, Result, Ok, Err, IfOk, IfSome, IfNone, OnErr}
 use Rattle.termwiz_grammar.specs.WaitingKinds.{IsOpenPaste}
 use Rattle.termwiz_input.specs.declared.time.Policy.{Policy}
 use Rattle.termwiz_input.specs.declared.time.Seen.{Seen}
 use Rattle.termwiz_input.specs.declared.time.Timer.{Timer}
 use Rattle.termwiz_input.specs.Time.{IsDue, noted}
-use Rattle.termwiz_extended_events.specs.declared.types.ExtendedEvent.{ExtendedEvent}
+use Rattle.termwiz_extended_events.specs.declared.types.Event.{Event}
 use Rattle.termwiz_extended_events.specs.declared.types.Reading.{Reading}
 use Rattle.termwiz_extended_grammar.specs.ExtendedGrammar.{IsRest, Steps}
 use Rattle.termwiz_extended_grammar.specs.Readings.{after_event, after_events}
@@ -14,6 +14,7 @@ use Rattle.termwiz_input_extended.specs.ExtendedExpiry.{Expires, FlushStep, Flus
 use Rattle.termwiz_input_extended.specs.ExtendedExpiry.Expires.{stays, flushed}
 use Rattle.termwiz_input_extended.specs.ExtendedExpiry.FlushStep.{item_read}
 use Rattle.termwiz_input_extended.specs.NextItems.{IsPasteEvent}
+use Rattle.termwiz_input_extended.proofs.lemmas.fronts.EmittedItems.{told_keeps}
 use Rattle.termwiz_input_extended.proofs.lemmas.time.FlushedRests.{closed_is_nothing}
 
 module _ (policy : Policy) (reading : Reading) (text : List ℕ) (timer : Timer) (now : ℕ) (seen : Seen) (first : Timer)
@@ -26,7 +27,7 @@ module _ (policy : Policy) (reading : Reading) (text : List ℕ) (timer : Timer)
       subst P (sym first_is)
       (stays seen is_seen (λ is. let yes : due ≡ true = tells.1 (subst Q (sym first_is) is) in cc))
 
-  pub flushed_noted : (after : Seen) (last : Timer) (events : List ExtendedEvent) (left : List ℕ) → due ≡ true
+  pub flushed_noted : (after : Seen) (last : Timer) (events : List Event) (left : List ℕ) → due ≡ true
       → Flushes reading text events left → IsSeen policy (after_events reading events) left false true after → last ≡ noted first now after
       → Expires policy reading text timer now false events left last
   flushed_noted after last events left is_due flush is_after last_is =
@@ -44,12 +45,12 @@ refused_noted (Ok value) policy reading text timer now seen first is_seen first_
 refused_noted (Err fault) policy reading text timer now seen first is_seen first_is = (seen, is_seen, first_is)
 
 -- a paste answers no question
-pub paste_keeps : (reading : Reading) (text : List ℕ) (event : ExtendedEvent) → IsPasteEvent text event → after_event reading event ≡ reading
-paste_keeps reading text event (paste, so_far, same) = ap (after_event reading) same
+pub paste_keeps : (reading : Reading) (text : List ℕ) (event : Event) → IsPasteEvent text event → after_event reading event ≡ reading
+paste_keeps reading text event (paste, so_far, same) = ap (after_event reading) same ∙ told_keeps reading None paste
 
 -- what is read with no more to come, where no paste is open, is one event of a flush, or nothing is buffered
 module _ {F : Type 0} (old before : Buffered) (same : before ≡ old) (closed : ¬ IsOpenPaste old.text) where
-  pub items_flushed : (left : List ℕ) (result : Result (Option ExtendedEvent) F)
+  pub items_flushed : (left : List ℕ) (result : Result (Option Event) F)
       → IfOk result (λ found. IfSome found (λ event. Steps before.reading before.text false (event ∷ []) left))
       → IfOk result (λ found. IfSome found (λ event. FlushStep old.reading old.text event left))
   items_flushed left (Ok (Some event)) steps =
@@ -57,14 +58,14 @@ module _ {F : Type 0} (old before : Buffered) (same : before ≡ old) (closed : 
   items_flushed left (Ok None) steps = tt
   items_flushed left (Err fault) steps = tt
 
-  pub reading_flushed : (new : Buffered) (result : Result (Option ExtendedEvent) F)
+  pub reading_flushed : (new : Buffered) (result : Result (Option Event) F)
       → IfOk result (λ found. IfSome found (λ event. new.reading ≡ after_event before.reading event))
       → IfOk result (λ found. IfSome found (λ event. new.reading ≡ after_event old.reading event))
   reading_flushed new (Ok (Some event)) is = subst (λ (b : Buffered). new.reading ≡ after_event b.reading event) same is
   reading_flushed new (Ok None) is = tt
   reading_flushed new (Err fault) is = tt
 
-  pub nothing_flushed : (result : Result (Option ExtendedEvent) F)
+  pub nothing_flushed : (result : Result (Option Event) F)
       → IfOk result (λ found. IfNone found (IsRest before.reading before.text false)) → IfOk result (λ found. IfNone found (old.text ≡ []))
   nothing_flushed (Ok (Some event)) rest = tt
   nothing_flushed (Ok None) rest =

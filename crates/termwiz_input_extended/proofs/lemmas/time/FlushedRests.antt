@@ -3,7 +3,7 @@ use Rattle.std.proofs.Common.{◌≡◌, ◌⊎◌, inl, inr, ⊎_elim, ℕ, Boo
 use Rattle.std.specs.List.{AllByRecursion}
 use Rattle.termwiz_grammar.specs.Laws.{IsHeldEscape}
 use Rattle.termwiz_grammar.specs.WaitingKinds.{IsOpenPaste}
-use Rattle.termwiz_extended_events.specs.declared.types.ExtendedEvent.{ExtendedEvent}
+use Rattle.termwiz_extended_events.specs.declared.types.Event.{Event}
 use Rattle.termwiz_extended_events.specs.declared.types.Reading.{Reading}
 use Rattle.termwiz_extended_events.specs.declared.types.StringKind.{StringKind}
 use Rattle.termwiz_extended_grammar.specs.ExtendedGrammar.{IsRest, Means, Steps}
@@ -49,12 +49,12 @@ paste_or_no_start reading u f rest = by_shape (waiting_shape reading u f rest)
     by_shape (open_paste body e never) = inl (record { body = body; splits = e; endless = never })
     by_shape (undecided held bytes is e some beginning short m) =
         inr (subst HasNoStart (sym e) (beginning_no_start reading held bytes is some beginning))
-    by_shape (open_string is short m) = inr (no_start_in_string u is)
+    by_shape (open_string is short m reads) = inr (no_start_in_string u is)
 
 closed_rest : (reading : Reading) (u : List ℕ) (f : Bool) → IsRest reading u f → ¬ IsOpenPaste u → HasNoStart u
 closed_rest reading u f rest closed = ⊎_elim (λ is_open. absurd (closed is_open)) (λ none. none) (paste_or_no_start reading u f rest)
 
-pub flush_leaves_nothing : (reading : Reading) (text left : List ℕ) (events : List ExtendedEvent) → IsRest reading text true
+pub flush_leaves_nothing : (reading : Reading) (text left : List ℕ) (events : List Event) → IsRest reading text true
     → ¬ IsOpenPaste text → Means reading text false events left → left ≡ []
 flush_leaves_nothing reading text left events rest closed means =
     flush_leaves reading text left events (closed_rest reading text true rest closed) (read_of means)
@@ -65,12 +65,12 @@ closed_is_nothing reading text rest closed =
     flush_leaves reading text text [] (closed_rest reading text false rest closed) (refl, rest)
 
 -- one event of a flush, where no paste begins
-item_of_step : (reading : Reading) (text left : List ℕ) (event : ExtendedEvent) → HasNoStart text → FlushStep reading text event left
+item_of_step : (reading : Reading) (text left : List ℕ) (event : Event) → HasNoStart text → FlushStep reading text event left
     → Steps reading text false (event ∷ []) left
 item_of_step reading text left event none (paste_ended given (paste, so_far, same)) = absurd (none [] text refl (so_far.body, so_far.splits))
 item_of_step reading text left event none (item_read given end closed steps) = steps
 
-flushed_steps : (reading : Reading) (events : List ExtendedEvent) (text : List ℕ) → HasNoStart text
+flushed_steps : (reading : Reading) (events : List Event) (text : List ℕ) → HasNoStart text
     → FlushedOneByOne reading text events [] → Steps reading text false events []
 flushed_steps reading [] text none same = same
 flushed_steps reading (event ∷ events) text none (between, step, later) =
@@ -80,18 +80,18 @@ flushed_steps reading (event ∷ events) text none (between, step, later) =
     (flushed_steps (after_event reading event) events between after later)
 
 -- nothing more comes of no bytes
-no_step_of_nothing : (reading : Reading) (left : List ℕ) (event : ExtendedEvent) → FlushStep reading [] event left → ⊥
+no_step_of_nothing : (reading : Reading) (left : List ℕ) (event : Event) → FlushStep reading [] event left → ⊥
 no_step_of_nothing reading left event step =
     let none = nothing_steps reading (event ∷ []) left false (item_of_step reading [] left event no_start_in_nothing step) in cc (none)
 
-after_paste : (reading : Reading) (events : List ExtendedEvent) (event : ExtendedEvent) (text between : List ℕ) → IsOpenPaste text
+after_paste : (reading : Reading) (events : List Event) (event : Event) (text between : List ℕ) → IsOpenPaste text
     → FlushStep reading text event between → FlushedOneByOne (after_event reading event) between events [] → Flushes reading text (event ∷ events) []
 after_paste reading [] event text between is_open (paste_ended given is) later = ends_paste given is
 after_paste reading (next ∷ events) event text between is_open (paste_ended given is) later =
     absurd (no_step_of_nothing (after_event reading given) later.0 next later.1)
 after_paste reading events event text between is_open (item_read given end closed steps) later = absurd (closed is_open)
 
-paste_one_by_one : (reading : Reading) (text : List ℕ) (events : List ExtendedEvent) → IsOpenPaste text
+paste_one_by_one : (reading : Reading) (text : List ℕ) (events : List Event) → IsOpenPaste text
     → FlushedOneByOne reading text events [] → Flushes reading text events []
 paste_one_by_one reading text [] is_open same = let splits = is_open.splits in absurd (cc (splits, same))
 paste_one_by_one reading text (event ∷ events) is_open (between, step, later) =

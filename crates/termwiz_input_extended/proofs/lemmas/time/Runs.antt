@@ -10,7 +10,7 @@ use Rattle.termwiz_input.specs.declared.time.Timer.{Timer}
 use Rattle.termwiz_input.specs.ExpiryLaws.{Turn, bytes_of_turn, bytes_of_turns}
 use Rattle.termwiz_input.specs.ExpiryLaws.Turn.{Expire}
 use Rattle.termwiz_input.specs.Time.{IsDue, noted}
-use Rattle.termwiz_extended_events.specs.declared.types.ExtendedEvent.{ExtendedEvent}
+use Rattle.termwiz_extended_events.specs.declared.types.Event.{Event}
 use Rattle.termwiz_extended_events.specs.declared.types.Reading.{Reading}
 use Rattle.termwiz_extended_grammar.specs.declared.waiting.ExtendedWaiting.{ExtendedWaiting}
 use Rattle.termwiz_extended_grammar.specs.declared.waiting.ExtendedWaiting.TheVariants.{Nothing, Paste}
@@ -43,7 +43,7 @@ not_due : (timer : Timer) (now : ℕ) → timer.limit.millis ≡ None → ¬ IsD
 not_due timer now none due = let limited = due.limited in cc
 
 -- a flush of a rest leaves nothing
-nothing_left : (reading : Reading) (text left : List ℕ) (events : List ExtendedEvent) → IsRest reading text true
+nothing_left : (reading : Reading) (text left : List ℕ) (events : List Event) → IsRest reading text true
     → Flushes reading text events left → left ≡ []
 nothing_left reading text left events rest (ends_paste event is) = refl
 nothing_left reading text left events rest (reads_all given last closed means) =
@@ -58,7 +58,7 @@ nothing_due policy reading left timer now time seen none is =
     not_due (noted timer now seen) time (ap (λ (l : Limit). l.millis) limit)
 
 flushed_ends : (policy : Policy) (reading : Reading) (text : List ℕ) (timer : Timer) (now : ℕ) (more : Bool)
-    (events : List ExtendedEvent) (left : List ℕ) (after : Timer) → more ≡ false → IsRest reading text true
+    (events : List Event) (left : List ℕ) (after : Timer) → more ≡ false → IsRest reading text true
     → Expires policy reading text timer now more events left after → (left ≡ []) × ((time : ℕ) → ¬ IsDue after time)
 flushed_ends policy reading text timer now more events left after last rest (stays seen is waits) = absurd (cc (last))
 flushed_ends policy reading text timer now more events left after last rest (flushed seen then_seen given end is due flush is_then) =
@@ -86,7 +86,7 @@ others_not_due policy read others (inl forever) = inl forever
 others_not_due policy read others (inr open_reads) = inr (All-tail (λ (r : OneRead). r.1 ≡ true) read others open_reads)
 
 -- A turn that is a read: it has that read's bytes, and leaves a rest. It has that read's events, if no paste is due.
-record IsRead (policy : Policy) (reading : Reading) (text : List ℕ) (turn : Turn) (read : OneRead) (events : List ExtendedEvent)
+record IsRead (policy : Policy) (reading : Reading) (text : List ℕ) (turn : Turn) (read : OneRead) (events : List Event)
     (left : List ℕ) : Type 0 where
   means : NoPasteDue policy read → Means reading (text ++ read.0) read.1 events left
   rests : IsRest (after_events reading events) left true
@@ -100,7 +100,7 @@ module _ (policy : Policy) (reading : Reading) where
       record { means = λ none_due. record { steps = append-nil text; rest = rest }; rests = rest; bytes = none }
 
   -- an open paste isn't due, if pastes wait forever
-  flush_means : (text : List ℕ) (timer : Timer) (now : ℕ) (seen : Seen) (events : List ExtendedEvent) (left : List ℕ)
+  flush_means : (text : List ℕ) (timer : Timer) (now : ℕ) (seen : Seen) (events : List Event) (left : List ℕ)
       → policy.paste ≡ None → IsRest reading text true → IsSeen policy reading text false false seen → IsDue (noted timer now seen) now
       → Flushes reading text events left → Means reading text false events left
   flush_means text timer now seen events left forever rest is due (ends_paste event (paste, so_far, same)) =
@@ -109,7 +109,7 @@ module _ (policy : Policy) (reading : Reading) where
       absurd (not_due (noted timer now seen) now (ap (λ (l : Limit). l.millis) limit ∙ forever) due)
   flush_means text timer now seen events left forever rest is due (reads_all given last closed means) = means
 
-  due_means : (text : List ℕ) (timer : Timer) (now : ℕ) (seen : Seen) (events : List ExtendedEvent) (left : List ℕ)
+  due_means : (text : List ℕ) (timer : Timer) (now : ℕ) (seen : Seen) (events : List Event) (left : List ℕ)
       → IsRest reading text true → IsSeen policy reading text false false seen → IsDue (noted timer now seen) now
       → Flushes reading text events left → NoPasteDue policy ([], false) → Means reading (text ++ []) false events left
   due_means text timer now seen events left rest is due flush (inl forever) =
@@ -117,7 +117,7 @@ module _ (policy : Policy) (reading : Reading) where
       (flush_means text timer now seen events left forever rest is due flush)
   due_means text timer now seen events left rest is due flush (inr more) = absurd (cc (more))
 
-  expiry_is_read : (text : List ℕ) (timer : Timer) (now : ℕ) (more : Bool) (events : List ExtendedEvent) (left : List ℕ) (after : Timer)
+  expiry_is_read : (text : List ℕ) (timer : Timer) (now : ℕ) (more : Bool) (events : List Event) (left : List ℕ) (after : Timer)
       → IsRest reading text true → Expires policy reading text timer now more events left after
       → IsRead policy reading text (Expire now) ([], more) events left
   expiry_is_read text timer now more events left after rest (stays seen is waits) = no_events text (Expire now) refl rest
@@ -128,7 +128,7 @@ module _ (policy : Policy) (reading : Reading) where
     bytes = refl;
   }
 
-  turn_is_read : (text : List ℕ) (timer : Timer) (turn : Turn) (read : OneRead) (events : List ExtendedEvent) (left : List ℕ) (after : Timer)
+  turn_is_read : (text : List ℕ) (timer : Timer) (turn : Turn) (read : OneRead) (events : List Event) (left : List ℕ) (after : Timer)
       → IsRest reading text true → TakesTurn policy reading text timer turn read events left after
       → IsRead policy reading text turn read events left
   turn_is_read text timer turn read events left after rest (by_question now seen is) = no_events text turn refl rest
@@ -139,7 +139,7 @@ module _ (policy : Policy) (reading : Reading) where
 
 -- turns that are reads, each by the reading after the events before it
 turns_are_reads : (policy : Policy) (reading : Reading) (turns : List Turn) (text : List ℕ) (timer : Timer) (reads : List OneRead)
-    (events : List ExtendedEvent) (left : List ℕ) → IsRest reading text true
+    (events : List Event) (left : List ℕ) → IsRest reading text true
     → TakesTurns policy reading text timer turns reads events left
     → (NoPastesDue policy reads → ReadInTurn Means reading text reads events left) × (bytes_of_reads reads ≡ bytes_of_turns turns)
 turns_are_reads policy reading [] text timer reads events left rest (no_reads, none, same) = (
@@ -165,7 +165,7 @@ turns_are_reads policy reading (turn ∷ turns) text timer reads events left res
     )
 
 -- reads that all have more to come are one text
-reads_are_one : (reading : Reading) (reads : List OneRead) (text left : List ℕ) (events : List ExtendedEvent) → IsRest reading text true
+reads_are_one : (reading : Reading) (reads : List OneRead) (text left : List ℕ) (events : List Event) → IsRest reading text true
     → ReadInTurn Means reading text reads events left → All (λ read. read.1 ≡ true) reads
     → Means reading (text ++ bytes_of_reads reads) true events left
 reads_are_one reading [] text left events rest (none, same) open_reads =

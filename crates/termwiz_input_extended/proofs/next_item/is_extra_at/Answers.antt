@@ -1,18 +1,8 @@
-use Rattle.std.proofs.Common.{take, arith, length-take-le}
+use Rattle.std.proofs.Common.{take}
 use Rattle.termwiz_keymap.proofs.lemmas.lists.PrefixTest.{denied}
-use Rattle.termwiz_input_extended.proofs.lemmas.fronts.ExtraAnswers.{event_is, form_long, no_extra_starts, no_extra_unfinished, unknown_is_extra}
+use Rattle.termwiz_input_extended.proofs.lemmas.fronts.ExtraAnswers.{event_is, no_extra_starts, no_extra_unfinished}
 use Rattle.termwiz_input_extended.proofs.lemmas.fronts.FrontItems.{own_after_escape}
 use Rattle.termwiz_input_extended.proofs.next_item.is_extra_at.Goals as goal
-
-pub returns-then-leaves_rows-clause-some : goal.returns-then-leaves_rows-clause-some
-returns-then-leaves_rows-clause-some c = λ t.
-    let form = c.requires.form.plain in
-    let text = take c.args.len c.args.text.now in (
-      form.within,
-      event_is c.args.reading text (unknown_is_extra c.args.reading text form.form (λ h. form.no_mouse h.0 h.1)
-          (λ h. c.requires.form.no_row (c.leaves_rows.ensures.0 c.if-leaves_rows.true) c.args.len h.0
-          (omega (arith, form_long text form.form, length-take-le c.args.len c.args.text.now form.within)) form.within h.1)),
-    )
 
 pub returns-clause-some : goal.returns-clause-some
 returns-clause-some c = λ t. (

@@ -14,7 +14,8 @@ none : (reading : Reading) (x10_mouse : Bool) (u : List ℕ) → reading.x10_mou
 none reading x10_mouse u same never = subst (λ x. NoFormBegins x u) (sym same) never
 
 pub returns-in-Whole : goal.returns-in-Whole
-returns-in-Whole c = λ reading same no_row. record {
+returns-in-Whole c = λ reading reads same. record {
+  reads = reads;
   plain = record {
     within = c.in-Whole.ensures.0;
     form = subst (λ x. IsForm x (take c.in-Whole.len c.args.text.now)) (sym same) c.in-Whole.ensures.1;
@@ -23,26 +24,25 @@ returns-in-Whole c = λ reading same no_row. record {
   };
   escape = c.requires.escape;
   one = c.requires.one;
-  no_row = no_row;
 }
 
 pub returns-in-Unfinished : goal.returns-in-Unfinished
-returns-in-Unfinished c = λ reading same no_row. (
+returns-in-Unfinished c = λ reading reads same. (
   waits_for_extra reading c.args.text.now c.args.maybe_more c.requires.escape c.requires.one
       (no_extra_without_form reading c.args.text.now (none reading c.args.x10_mouse c.args.text.now same c.in-Unfinished.ensures.0) c.requires.no_opening.0) c.if-maybe_more.true
-      (inl (unfinished_from_form reading c.args.text.now
+      (inl (unfinished_from_form reading c.args.text.now reads
       (subst (λ x. IsUnfinishedForm x c.args.text.now) (sym same) c.in-Unfinished.ensures.1))),
   scanned_once c.args.text.now c.next_scan.result c.requires.one c.next_scan.ensures.within c.next_scan.ensures.place,
 )
 
 pub returns-in-Unfinished-2 : goal.returns-in-Unfinished-2
-returns-in-Unfinished-2 c = λ reading same no_row.
+returns-in-Unfinished-2 c = λ reading reads same.
     own_without_form reading c.args.text.now c.args.maybe_more c.requires.escape c.requires.one
     (none reading c.args.x10_mouse c.args.text.now same c.in-Unfinished-2.ensures.0)
     c.requires.no_opening.0 (λ m. absurd (cc (m, c.if-maybe_more.false)))
 
 pub returns-in-Absent : goal.returns-in-Absent
-returns-in-Absent c = λ reading same no_row.
+returns-in-Absent c = λ reading reads same.
     own_without_form reading c.args.text.now c.args.maybe_more c.requires.escape c.requires.one
     (none reading c.args.x10_mouse c.args.text.now same c.in-Absent.ensures.0)
     c.requires.no_opening.0 (λ m h. ⊎_elim

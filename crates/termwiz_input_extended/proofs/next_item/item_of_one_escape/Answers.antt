@@ -9,7 +9,7 @@ returns-in-Unfinished c =
     let found = c.in-Unfinished.ensures in (
       waits_for_extra c.args.reading c.args.text.now c.args.maybe_more c.requires.escape c.requires.one
           (no_extra_without_form c.args.reading c.args.text.now (no_form_before c.args.text.now found.1) found.0) c.if-maybe_more.true
-          (inr found.1),
+          (inr (c.requires.reads, found.1)),
       scanned_none c.args.text.now,
     )
 
@@ -19,3 +19,6 @@ returns-in-Unfinished-2 c =
     own_after_escape c.args.reading c.args.text.now c.args.maybe_more c.requires.escape c.requires.one
     (no_extra_without_form c.args.reading c.args.text.now (no_form_before c.args.text.now found.1) found.0)
     (λ m. absurd (cc (m, c.if-maybe_more.false)))
+
+pub returns-in-Opening : goal.returns-in-Opening
+returns-in-Opening c = (c.requires.reads, c.in-Opening.ensures)

@@ -35,7 +35,7 @@ returns-in-Apart c =
     )
 
 pub returns-in-Opening : goal.returns-in-Opening
-returns-in-Opening c = (c.args.after.now, refl, inr c.in-Opening.ensures)
+returns-in-Opening c = (c.args.after.now, refl, inr (c.requires.reads, c.in-Opening.ensures))
 
 pub returns-in-OfPort : goal.returns-in-OfPort
 returns-in-OfPort c =
@@ -55,7 +55,7 @@ returns-in-Unfinished c =
     let found = c.in-Unfinished.ensures in (
       waits_after_escape c.args.reading c.args.after.now c.args.maybe_more c.requires.escape
           (no_extra_without_form c.args.reading c.args.after.now found.0.no_form found.0.no_opening) c.if-maybe_more.true
-          (unfinished_from_front c.args.reading c.args.after.now found.1),
+          (unfinished_from_front c.args.reading c.args.after.now c.requires.reads found.1),
       scanned_twice c.args.after.now c.in-Unfinished.place c.requires.escape found.3 found.2,
     )
 

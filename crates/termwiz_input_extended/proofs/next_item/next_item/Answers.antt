@@ -1,17 +1,5 @@
-use Rattle.termwiz_input_extended.proofs.lemmas.fronts.ScannedPlaces.{no_second_escape}
+use Rattle.termwiz_input_extended.proofs.lemmas.fronts.FrontItems.{own_by_dialect}
 use Rattle.termwiz_input_extended.proofs.next_item.next_item.Goals as goal
 
-pub returns-in-None : goal.returns-in-None
-returns-in-None c = c.item_without_escape.ensures c.args.reading c.args.maybe_more
-
-pub item_of_two_escapes-requires-clause-scanned : goal.item_of_two_escapes-requires-clause-scanned
-item_of_two_escapes-requires-clause-scanned c =
-    rw c.saturating_sub.ensures (c.requires.after c.in-Some.after.now c.in-Some.ensures.some
-    (c.in-Some-follows_escape.field-0.now, c.in-Some-follows_escape.ensures.some))
-
-pub item_of_one_escape-requires-clause-scanned : goal.item_of_one_escape-requires-clause-scanned
-item_of_one_escape-requires-clause-scanned c = c.requires.here
-    (no_second_escape c.args.text.now c.in-Some.after.now c.in-Some.ensures.some c.in-None-follows_escape.ensures.none)
-
-pub returns-in-Some-follows_escape : goal.returns-in-Some-follows_escape
-returns-in-Some-follows_escape c = rw c.in-Some.ensures.some c.item_of_two_escapes.ensures
+pub returns-in-Termwiz : goal.returns-in-Termwiz
+returns-in-Termwiz c = own_by_dialect c.args.reading c.in-Termwiz.is c.args.text.now c.args.maybe_more

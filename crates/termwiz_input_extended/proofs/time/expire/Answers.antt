@@ -1,6 +1,6 @@
 use Rattle.std.proofs.Common.{◌≡◌, ◌∷◌, ◌∙◌, [], List, true, false, sym, refl, ap, subst}
 use Rattle.termwiz_grammar.specs.WaitingKinds.{IsOpenPaste}
-use Rattle.termwiz_extended_events.specs.declared.types.ExtendedEvent.{ExtendedEvent as Event}
+use Rattle.termwiz_extended_events.specs.declared.types.Event.{Event}
 use Rattle.termwiz_extended_grammar.specs.ExtendedGrammar.{Means}
 use Rattle.termwiz_extended_grammar.specs.Readings.{after_events}
 use Rattle.termwiz_input_extended.specs.Buffered.{Buffered}

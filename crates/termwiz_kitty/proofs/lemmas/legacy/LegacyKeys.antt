@@ -5,7 +5,6 @@ use Rattle.std.specs.Fmt.{digits}
 use Rattle.std.specs.Char.{IsScalar, encode_utf8, is_control, is_ascii_lowercase, is_ascii_alphanumeric, is_ascii_punctuation}
 use Rattle.std.proofs.lemmas.Bool.Decides.{nat_tests}
 use Rattle.std.proofs.lemmas.List.Elements.{Contains-append_left, Contains-append_right}
-use Rattle.termwiz_base.specs.Modifiers.{xterm_number}
 use Rattle.termwiz_keys.specs.Encoding.{enc, key_text, char_text, plain_char_text, other_text}
 use Rattle.termwiz_keys.specs.Introducers.{ESC}
 use Rattle.termwiz_keys.specs.Keys.{key_with, ALT as port_alt}
@@ -27,11 +26,15 @@ use Rattle.termwiz_laws.proofs.lemmas.key_streams.FourKeys.{four_go_on, others_a
 use Rattle.termwiz_laws.proofs.lemmas.shared_texts.TwinKeys.{sent_means}
 use Rattle.termwiz_extended_events.specs.declared.types.KeyReport.{KeyReport}
 use Rattle.termwiz_extended_events.specs.declared.types.ReportedKey.TheVariants.{Named}
-use Rattle.termwiz_extended_events.specs.declared.types.ExtendedEvent.TheVariants.{Input}
+use Rattle.termwiz_extended_events.specs.declared.types.Dialect.{Dialect}
+use Rattle.termwiz_extended_events.specs.declared.types.Dialect.TheVariants.{Extended, Termwiz}
 use Rattle.termwiz_extended_events.specs.declared.types.Reading.{Reading}
-use Rattle.termwiz_extended_events.specs.EventKeys.{pressed_key}
+use Rattle.termwiz_laws.proofs.lemmas.first_bytes.EncodedBytes.{IsSeveral, encode_forms}
+use Rattle.termwiz_extended_events.specs.PortEvents.{pressed_key, kitty_bits, typed_key, told}
 use Rattle.termwiz_extended_events.proofs.Examples.{written_out as events_written_out}
 use Rattle.termwiz_extended_grammar.proofs.lemmas.forms.FormBytes.{form_shape}
+use Rattle.termwiz_extended_events.specs.declared.types.Event.TheVariants.{Key}
+use Rattle.termwiz_extended_grammar.specs.ExtendedGrammar.{Means}
 use Rattle.termwiz_extended_grammar.specs.Readings.{is_asking}
 use Rattle.termwiz_kitty.specs.declared.legacy.LegacyText.{LegacyText}
 use Rattle.termwiz_kitty.specs.declared.legacy.LegacyText.TheVariants.{AfterEscape}
@@ -39,7 +42,7 @@ use Rattle.termwiz_kitty.specs.declared.telling.Telling.TheVariants.{Nothing, Ty
 use Rattle.termwiz_kitty.specs.LegacyTexts.{ALT, CTRL, SHIFT_ALT, CTRL_ALT, is_text_key, with_shift, character_text, legacy_text}
 use Rattle.termwiz_kitty.specs.Telling.{is_silent_release, is_silent_modifier, tells_all_keys, sends_control, is_release, types, without_locks, told_key, is_legacy_press, legacy_of, or_reported, telling}
 use Rattle.termwiz_kitty.specs.KittyTexts.{legacy_bytes, kitty_text}
-use Rattle.termwiz_kitty.specs.KittyLaws.{IsKey, IsScalarOrMissing, IsReadBack, keys_read_back, keys_that_wait, press_of, IsReadAs, LegacyReadBack, AltReadBack}
+use Rattle.termwiz_kitty.specs.KittyLaws.{IsKey, IsScalarOrMissing, IsReadBack, keys_read_back, keys_that_wait, press_of, read_key, IsReadAs, LegacyReadBack, AltReadBack}
 use Rattle.termwiz_kitty.specs.KittyLaws.IsReadBack.{listed, ctrl_letter}
 use Rattle.termwiz_kitty.proofs.lemmas.PortKeys.{xterm_modes, held_that_wait, at_number}
 use Rattle.termwiz_kitty.proofs.lemmas.read_back.SequencesMean.{told_is_key}
@@ -48,7 +51,7 @@ use Rattle.termwiz_kitty.proofs.lemmas.typed.TypedTexts.{IsShown, IsShownOrMissi
 use Rattle.termwiz_kitty.proofs.lemmas.legacy.ReadAsOne.{second_range, no_escape_before, IsRead, ReadAs, read_as}
 use Rattle.termwiz_kitty.proofs.lemmas.legacy.ReadAsOne.ReadAs.{as_key, as_report, apart}
 use Rattle.termwiz_kitty.proofs.lemmas.legacy.WaitingKeys.{text_waits, rest_waits}
-use Rattle.termwiz_kitty.proofs.lemmas.legacy.ComputedReports.{AllTold, told_in, told_is_read}
+use Rattle.termwiz_kitty.proofs.lemmas.legacy.ComputedReports.{AllTold, AllTyped, read_report, told_in, typed_in, told_is_read}
 
 -- the key sends the text in xterm's encoding, with every mode off
 abbrev Sends : KeyCode → ℕ → List ℕ → Type 0
@@ -56,7 +59,7 @@ Sends key held text = enc key (record { 0 = held }) xterm_modes ≡ Some text
 
 -- the text is read as the key
 abbrev Back : Reading → KeyCode → ℕ → List ℕ → Bool → Type 0
-Back reading key held text more = IsReadAs reading text more (pressed_key (key_with key held))
+Back reading key held text more = IsReadAs reading text more (pressed_key (key_with (read_key reading key) held))
 
 abbrev press : KeyCode → ℕ → Press
 press key held = record { key = key; modifiers = record { 0 = held }; modes = xterm_modes }
@@ -91,14 +94,15 @@ is_read reading key held text more back sends apart' = record {
 
 -- by what was computed of a list of keys
 by_list : (reading : Reading) (cases : List Held) (key : KeyCode) (held : ℕ) (text : List ℕ) (more : Bool) → AllRead xterm_modes cases
-    → AllTold cases
+    → AllTold cases → AllTyped cases
     → Contains cases (key, held) → Sends key held text → (more ≡ true → ¬ Contains held_that_wait (key, held))
     → Back reading key held text more
-by_list reading cases key held text more read told here sends apart' =
+by_list reading cases key held text more read told typed here sends apart' =
     let back = reads_back_in xterm_modes cases key (record { 0 = held }) read here in
-    told_is_read reading text (key_with key held) more
+    told_is_read reading text (key_with key held) (read_report reading (key, held)) more
     (read_as reading text (key_with key held) more (is_read reading key held text more back sends apart'))
-    (told_in cases (key, held) (is_asking reading) text told here sends)
+    (ap (λ k. pressed_key (key_with k held)) (typed_in cases (key, held) reading text typed here sends))
+    (told_in cases (key, held) reading (is_asking reading) text told here sends)
 
 in_chars : (codes' held' : List ℕ) (c held : ℕ) → Contains codes' c → Contains held' held
     → Contains (pairs (chars codes') held') (Char c, held)
@@ -113,7 +117,7 @@ abbrev in_port : KeyCode × ℕ → Held
 in_port p = (p.0, port_bits p.1)
 
 abbrev in_kitty : Held → KeyCode × ℕ
-in_kitty p = (p.0, xterm_number p.1)
+in_kitty p = (p.0, kitty_bits p.1)
 
 waits_same : map in_kitty held_that_wait ≡ keys_that_wait
 waits_same = refl
@@ -153,7 +157,7 @@ own_keys_sent : (shifted : Option ℕ) → map (sent_of shifted) own_keys ≡ ma
 unfolding legacy_bytes legacy_text enc_written_out numbers
 own_keys_sent shifted = refl
 
-own_bits : map (λ (p : KeyCode × ℕ). xterm_number (port_bits p.1)) own_keys ≡ map (λ p. p.1) own_keys
+own_bits : map (λ (p : KeyCode × ℕ). kitty_bits (port_bits p.1)) own_keys ≡ map (λ p. p.1) own_keys
 unfolding numbers
 own_bits = refl
 
@@ -163,8 +167,12 @@ own_keys_read = refl
 
 own_keys_told : AllTold (map in_port own_keys)
 unfolding enc_written_out events_written_out numbers digits
-own_keys_told true = refl
-own_keys_told false = refl
+own_keys_told reading true = refl
+own_keys_told reading false = refl
+
+own_keys_typed : AllTyped (map in_port own_keys)
+unfolding enc_written_out numbers
+own_keys_typed reading = refl
 
 -- what is sent as before the protocol is that text
 
@@ -203,8 +211,8 @@ written_as r flags sent tells = rw tells refl
 
 pub legacy_read_back : LegacyReadBack
 legacy_read_back reading r key flags sent text more is named tells writes own apart' =
-    subst (λ b. IsReadAs reading text more (press_of key b)) bits
-    (by_list reading (map in_port own_keys) key (port_bits held) text more own_keys_read own_keys_told
+    subst (λ b. IsReadAs reading text more (press_of (read_key reading key) b)) bits
+    (by_list reading (map in_port own_keys) key (port_bits held) text more own_keys_read own_keys_told own_keys_typed
     (in_map in_port own_keys (key, held) here) sends (λ e waits. apart' e (waiting waits)))
   where
     held : ℕ
@@ -213,8 +221,8 @@ legacy_read_back reading r key flags sent text more is named tells writes own ap
     here : Contains own_keys (key, held)
     here = is_own_key key held own
 
-    bits : xterm_number (port_bits held) ≡ held
-    bits = same_on (λ (p : KeyCode × ℕ). xterm_number (port_bits p.1)) (λ p. p.1) own_keys (key, held) own_bits here
+    bits : kitty_bits (port_bits held) ≡ held
+    bits = same_on (λ (p : KeyCode × ℕ). kitty_bits (port_bits p.1)) (λ p. p.1) own_keys (key, held) own_bits here
 
     legacy : legacy_text (Named key) held r.shifted ≡ Some sent
     legacy = subst (λ k. legacy_text k held r.shifted ≡ Some sent) named (legacy_is r flags sent tells)
@@ -225,7 +233,7 @@ legacy_read_back reading r key flags sent text more is named tells writes own ap
 
     waiting : Contains held_that_wait (key, port_bits held) → Contains keys_that_wait (key, held)
     waiting w = subst (λ b. Contains keys_that_wait (key, b)) bits
-        (subst (λ l. Contains l (key, xterm_number (port_bits held))) waits_same (in_map in_kitty held_that_wait (key, port_bits held) w))
+        (subst (λ l. Contains l (key, kitty_bits (port_bits held))) waits_same (in_map in_kitty held_that_wait (key, port_bits held) w))
 
 -- characters after ESC
 
@@ -243,8 +251,12 @@ printable_read = refl
 
 printable_told : AllTold printable_with_alt
 unfolding enc_written_out events_written_out numbers digits
-printable_told true = refl
-printable_told false = refl
+printable_told reading true = refl
+printable_told reading false = refl
+
+printable_typed : AllTyped printable_with_alt
+unfolding enc_written_out numbers
+printable_typed reading = refl
 
 -- a character beyond ASCII
 char_with_alt : (c : ℕ) → 128 ≤ c → Sends (Char c) port_alt (ESC ++ encode_utf8 c)
@@ -253,9 +265,21 @@ char_with_alt c high =
     let no_letter : is_ascii_alphanumeric c || is_ascii_punctuation c ≡ false = grind (arith, nat_tests) in
     rw (key_with_alt c (λ e. omega arith) (λ e. omega arith), held_with_alt c, no_letter)
 
+-- ESC and several bytes are typed as they are
+several_typed : (reading : Reading) (c : ℕ) (u : List ℕ) → IsSeveral u → typed_key Extended reading (27 ∷ u) (Char c) ≡ Char c
+several_typed reading c [] s = refl
+several_typed reading c (x ∷ []) s = absurd (s.2 refl)
+several_typed reading c (x ∷ y ∷ u) s = refl
+
 alt_back : (reading : Reading) (c : ℕ) (text : List ℕ) (f : Bool) → IsScalar c → 128 ≤ c → 27 ∷ encode_utf8 c ≡ text
     → ReadAs reading text (key_with (Char c) port_alt) f → Back reading (Char c) port_alt text f
-alt_back reading c text f scalar high e (as_key means) = (Input (input.Key (key_with (Char c) port_alt)), means, refl)
+alt_back reading c text f scalar high e (as_key means) =
+    subst (λ k. Means reading text f (Key (pressed_key (key_with k port_alt)) ∷ []) []) (go reading.dialect (encode_forms c scalar)) means
+  where
+    go : (dialect : Dialect) → ((c < 128) × (encode_utf8 c ≡ c ∷ [])) ⊎ IsSeveral (encode_utf8 c) → typed_key dialect reading text (Char c) ≡ Char c
+    go Termwiz forms = refl
+    go Extended (inl one) = absurd (omega (arith, one.0))
+    go Extended (inr several) = subst (λ t. typed_key Extended reading t (Char c) ≡ Char c) e (several_typed reading c (encode_utf8 c) several)
 alt_back reading c text f scalar high e (as_report is means) =
     let shape = form_shape text is.is_extra.is_form in
     let first = first_high c shape.0 shape.1 high (cc (e, shape.2)) in
@@ -279,7 +303,7 @@ escaped_back reading c more is apart' = go (below_or_not 32) (below_or_not 127) 
     go (inl low) b d = control (low_is_control c low)
     go (inr low) (inl high) d =
         let here = at_number 32 95 c low (omega arith) in
-        by_list reading printable_with_alt (Char c) port_alt (27 ∷ encode_utf8 c) more printable_read printable_told
+        by_list reading printable_with_alt (Char c) port_alt (27 ∷ encode_utf8 c) more printable_read printable_told printable_typed
         (in_chars (numbers 32 95) (port_alt ∷ []) c port_alt here (0, lit< tt, refl))
         (same_on (λ c. enc (Char c) (record { 0 = port_alt }) xterm_modes) (λ c. Some (27 ∷ encode_utf8 c)) (numbers 32 95) c
         printable_sent here) apart'

@@ -18,17 +18,14 @@ use Rattle.termwiz_laws.proofs.lemmas.first_bytes.NoSequence.{first_byte}
 use Rattle.termwiz_laws.proofs.lemmas.further_keys.SingleKey.{Plainly, Single, single}
 use Rattle.termwiz_laws.proofs.lemmas.further_keys.SingleKey.Plainly.{by_row, by_character, by_broken_byte}
 use Rattle.termwiz_laws.proofs.lemmas.further_keys.SingleKey.Single.{plainly, after_escape}
-use Rattle.termwiz_extended_events.specs.declared.types.ExtendedEvent.{ExtendedEvent}
-use Rattle.termwiz_extended_events.specs.declared.types.ExtendedEvent.TheVariants.{Input, Key, FocusGained, FocusLost, CursorPosition, Resize, KeyboardFlags, SideButton, Csi, Osc, Dcs, Apc, StringPart, StringCut}
-use Rattle.termwiz_extended_events.specs.declared.types.Protocol.{Protocol}
-use Rattle.termwiz_extended_events.specs.declared.types.Protocol.TheVariants.{Legacy, Kitty}
 use Rattle.termwiz_extended_events.specs.declared.types.Reading.{Reading}
-use Rattle.termwiz_extended_events.specs.Meanings.{IsPosition, IsKeyOrPosition}
+use Rattle.termwiz_extended_events.specs.Meanings.{IsKeyOrPosition}
 use Rattle.termwiz_extended_grammar.specs.Forms.{introducer}
-use Rattle.termwiz_extended_grammar.specs.ExtraSequences.{Overrides, IsExtra}
+use Rattle.termwiz_extended_grammar.specs.ExtraSequences.{IsExtra}
 use Rattle.termwiz_extended_grammar.specs.Readings.{event_in}
+use Rattle.termwiz_extended_events.specs.PortEvents.{told}
 use Rattle.termwiz_extended_grammar.specs.Strings.{StartsWithOpening}
-use Rattle.termwiz_extended_grammar.specs.ExtendedGrammar.{StartsExtended, IsOpen, IsUsual, Steps, Means}
+use Rattle.termwiz_extended_grammar.specs.ExtendedGrammar.{StartsExtended, IsOpen, IsUsual, Stands, Steps, Means}
 use Rattle.termwiz_extended_grammar.specs.ExtendedGrammar.Stands.{usual}
 use Rattle.termwiz_extended_grammar.proofs.lemmas.forms.FormBytes.{IsSecond, IsStringIntroducer, head_some, introducer_shape, mark_shape}
 use Rattle.termwiz_extended_grammar.proofs.lemmas.forms.ExtraFacts.{starts_extended_or_not, starts_mark}
@@ -75,28 +72,6 @@ row_no_opening v j is o = go (sequence_layout v (Row j) is)
     go (paired b e l) = append-some_left o.head o.begins.0 (head_some o.kind o.head o.is_head) (cc (all, e))
     go (longer b r e k p) = let same : b ≡ i.0 = cc (all, e) in omega (arith, i.2)
 
-position_is_report : (event : ExtendedEvent) → IsPosition event → IsKeyOrPosition event
-position_is_report (Input event) is = absurd is
-position_is_report (Key r) is = absurd is
-position_is_report FocusGained is = absurd is
-position_is_report FocusLost is = absurd is
-position_is_report (CursorPosition row column) is = is
-position_is_report (Resize r c h w) is = absurd is
-position_is_report (KeyboardFlags flags) is = absurd is
-position_is_report (SideButton event) is = absurd is
-position_is_report (Csi bytes) is = absurd is
-position_is_report (Osc bytes) is = absurd is
-position_is_report (Dcs bytes) is = absurd is
-position_is_report (Apc bytes) is = absurd is
-position_is_report (StringPart kind bytes) is = absurd is
-position_is_report (StringCut kind bytes) is = absurd is
-
--- a row that isn't left to the port is such a report
-override_reports : (protocol : Protocol) (questions : ℕ) (event : ExtendedEvent) → Overrides protocol questions event
-    → IsKeyOrPosition event
-override_reports Legacy questions event is = position_is_report event is.1
-override_reports Kitty questions event is = is
-
 -- an extra sequence that begins what is read as one key is all of it, and no opening begins that
 whole : (reading : Reading) (v : List ℕ) (j : KeyEvent) → Plainly v j → StartsExtended reading v → IsReportText reading v
 whole reading v j (by_row c) (inl s) =
@@ -105,10 +80,10 @@ whole reading v j (by_row c) (inl s) =
     let same : v ≡ s.text = same_length s.text s.begins.0 v s.begins.1 longest in
     let extra : IsExtra reading v s.event = subst (λ t. IsExtra reading t s.event) (sym same) s.is_extra in
     record {
-      is_extra = record { is_form = extra.is_form; is_free = extra.is_free; means = refl };
-      reports = override_reports reading.protocol reading.questions (event_in reading v) (extra.is_free (Row j) is).2;
+      is_extra = record { reads = extra.reads; is_form = extra.is_form; is_free = extra.is_free; means = refl };
+      reports = (extra.is_free (Row j) is).2;
     }
-whole reading v j (by_row c) (inr o) = absurd (row_no_opening v j (row_is v j c) o)
+whole reading v j (by_row c) (inr o) = absurd (row_no_opening v j (row_is v j c) o.1)
 whole reading v j (by_character c scalar e k) s =
     let shape = starts_shape reading v s in absurd (no_escape_before c shape.0 shape.1 scalar (sym e ∙ shape.2))
 whole reading v j (by_broken_byte b e k) s = (let shape = starts_shape reading v s in absurd (cc (e, shape.2)))
@@ -176,18 +151,24 @@ after_first reading c v text k e (plainly p) s = absurd (go p)
         (encode_forms d scalar)
     go (by_broken_byte b is g) = cc (is, all)
 
--- where no extra sequence and no opening begins the text, nor what follows its ESC, and neither is open, the port's key is the event
-as_in_port : (reading : Reading) (text : List ℕ) (k : KeyEvent) (f : Bool) → port.Means text f (input.Key k ∷ []) []
+-- where no extra sequence and no opening begins the text, nor what follows its ESC, and neither is open, the event is the port's key as it is told
+pub as_in_port : (reading : Reading) (text : List ℕ) (k : KeyEvent) (f : Bool) → port.Means text f (input.Key k ∷ []) []
     → IsUsual reading text f
-    → ((v : List ℕ) → text ≡ ESC ++ v → IsUsual reading v f) → Means reading text f (Input (input.Key k) ∷ []) []
+    → ((v : List ℕ) → text ≡ ESC ++ v → IsUsual reading v f) → Means reading text f (told reading text (input.Key k) ∷ []) []
 as_in_port reading text k f means whole' after = record { steps = from means.steps; rest = empty_is_rest reading f }
   where
-    from : port.Steps text f (input.Key k ∷ []) [] → Steps reading text f (Input (input.Key k) ∷ []) []
-    from (bytes, rest, stands, splits, nothing) = (rest, usual bytes rest (input.Key k) stands splits whole' after, nothing)
+    from : port.Steps text f (input.Key k ∷ []) [] → Steps reading text f (told reading text (input.Key k) ∷ []) []
+    from (bytes, rest, stands, splits, nothing) =
+        let all : bytes ≡ text = sym (splits ∙ ap (λ r. bytes ++ r) nothing ∙ append-nil bytes) in (
+          rest,
+          subst (λ t. Stands reading text f rest (told reading t (input.Key k))) all
+              (usual bytes rest (input.Key k) stands splits whole' after),
+          nothing,
+        )
 
 -- what a text that the port reads as one key is read as
 pub data ReadAs (reading : Reading) (text : List ℕ) (k : KeyEvent) (f : Bool) : Type 0 where
-  as_key : Means reading text f (Input (input.Key k) ∷ []) [] → ReadAs reading text k f
+  as_key : Means reading text f (told reading text (input.Key k) ∷ []) [] → ReadAs reading text k f
   as_report : IsReportText reading text → Means reading text f (event_in reading text ∷ []) [] → ReadAs reading text k f
   apart : (v : List ℕ) → text ≡ ESC ++ v → IsReportText reading v → ReadAs reading text k f
 

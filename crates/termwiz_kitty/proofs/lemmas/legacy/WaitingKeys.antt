@@ -27,7 +27,7 @@ use Rattle.termwiz_laws.proofs.lemmas.shared_texts.TwinKeys.{read_once, sent_mea
 use Rattle.termwiz_extended_events.specs.declared.types.Reading.{Reading}
 use Rattle.termwiz_extended_grammar.specs.ExtendedGrammar.{BeginsExtended, BeginsKnown}
 use Rattle.termwiz_extended_grammar.proofs.lemmas.forms.FormBytes.{IsSecond, mark_shape}
-use Rattle.termwiz_extended_grammar.proofs.lemmas.forms.ExtraFacts.{completed_mark, mark_from_unfinished}
+use Rattle.termwiz_extended_grammar.proofs.lemmas.forms.ExtraFacts.{completed_mark, mark_from_unfinished, unfinished_reads}
 use Rattle.termwiz_extended_grammar.proofs.lemmas.items.ExtraHeads.{four_beginnings}
 use Rattle.termwiz_kitty.proofs.lemmas.PortKeys.{xterm_modes, held_that_wait}
 use Rattle.termwiz_kitty.proofs.lemmas.legacy.ReadAsOne.{row_is, second_byte, no_escape_before}
@@ -103,7 +103,7 @@ row_front reading text k is x = ⊎_elim
     (λ (e : text ≡ ESC ++ codes "P"). with_second 80 (inr (inr (inr (inl refl)))) e)
     last)
     rest)
-    ((four_beginnings reading text (Row k) is).0 x)
+    ((four_beginnings reading text (Row k) (unfinished_reads reading text x) is).0 x)
 
 -- a first byte of a character that is ESC is all of it
 escape_character : (c : ℕ) (r : List ℕ) → IsScalar c → encode_utf8 c ≡ 27 ∷ r → r ≡ []

@@ -5,14 +5,13 @@ use Rattle.termwiz_keymap.proofs.lemmas.lists.CommonPrefixes.{append-some, true_
 use Rattle.termwiz_grammar.specs.Sequences.{IsSequence}
 use Rattle.termwiz_grammar.specs.Sequences.Meaning.{Row, Report}
 use Rattle.termwiz_grammar.proofs.lemmas.mouse.OneReport.{report_plain}
-use Rattle.termwiz_extended_events.specs.declared.types.ExtendedEvent.{ExtendedEvent}
-use Rattle.termwiz_extended_events.specs.declared.types.Protocol.TheVariants.{Kitty}
+use Rattle.termwiz_extended_events.specs.declared.types.Event.{Event}
 use Rattle.termwiz_extended_events.specs.declared.types.Reading.{Reading}
 use Rattle.termwiz_extended_events.specs.Meanings.{IsKeyOrPosition}
 use Rattle.termwiz_extended_grammar.specs.Forms.{IsInner, IsControl}
 use Rattle.termwiz_extended_grammar.specs.Forms.IsForm.{control}
-use Rattle.termwiz_extended_grammar.specs.ExtraSequences.{Overrides, IsFree, IsExtra}
-use Rattle.termwiz_extended_grammar.specs.Readings.{event_in}
+use Rattle.termwiz_extended_grammar.specs.ExtraSequences.{IsFree, IsExtra}
+use Rattle.termwiz_extended_grammar.specs.Readings.{ReadsMore, event_in}
 
 -- a digit, a colon or a semicolon
 abbrev pub IsParameter : ℕ → Type 0
@@ -71,21 +70,22 @@ is_control body l a end short = record {
 }
 
 -- where the sequence is read as a key or the cursor's position, a row is too
-is_free : (reading : Reading) (body : List ℕ) (l : ℕ) (e : ExtendedEvent) → reading.protocol ≡ Kitty → AllByRecursion IsParameter body
+is_free : (reading : Reading) (body : List ℕ) (l : ℕ) (e : Event) → AllByRecursion IsParameter body
     → IsKeyEnd l → IsKeyOrPosition e → event_in reading (written body l) ≡ e → IsFree reading (written body l)
 unfolding IsSequence
-is_free reading body l e kitty a end reports same (Row key) s =
+is_free reading body l e a end reports same (Row key) s =
     let told : IsKeyOrPosition (event_in reading (written body l)) = subst IsKeyOrPosition (sym same) reports in
-    (key, refl, subst (λ p. Overrides p reading.questions (event_in reading (written body l))) (sym kitty) told)
-is_free reading body l e kitty a end reports same (Report report) s =
+    (key, refl, told)
+is_free reading body l e a end reports same (Report report) s =
     let plain = report_plain (written body l) report s in
     absurd (no_sign body l plain.0 a end (cc (plain.1)))
 
-pub is_extra : (reading : Reading) (body : List ℕ) (l : ℕ) (e : ExtendedEvent) → reading.protocol ≡ Kitty → AllByRecursion IsParameter body
+pub is_extra : (reading : Reading) (body : List ℕ) (l : ℕ) (e : Event) → ReadsMore reading → AllByRecursion IsParameter body
     → IsKeyEnd l → length (written body l) ≤ 256 → IsKeyOrPosition e → event_in reading (written body l) ≡ e
     → IsExtra reading (written body l) e
-is_extra reading body l e kitty a end short reports same = record {
+is_extra reading body l e reads a end short reports same = record {
+  reads = reads;
   is_form = control (is_control body l a end short);
-  is_free = is_free reading body l e kitty a end reports same;
+  is_free = is_free reading body l e a end reports same;
   means = sym same;
 }

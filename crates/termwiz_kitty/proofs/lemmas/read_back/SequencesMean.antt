@@ -15,9 +15,8 @@ use Rattle.termwiz_extended_events.specs.declared.types.KeyReport.{KeyReport}
 use Rattle.termwiz_extended_events.specs.declared.types.KeyEventKind.{KeyEventKind}
 use Rattle.termwiz_extended_events.specs.declared.types.ReportedKey.{ReportedKey}
 use Rattle.termwiz_extended_events.specs.declared.types.ReportedKey.TheVariants.{Named, Functional}
-use Rattle.termwiz_extended_events.specs.declared.types.ExtendedEvent.{ExtendedEvent}
-use Rattle.termwiz_extended_events.specs.declared.types.ExtendedEvent.TheVariants.{Key}
-use Rattle.termwiz_extended_events.specs.declared.types.Protocol.TheVariants.{Kitty}
+use Rattle.termwiz_extended_events.specs.declared.types.Event.{Event}
+use Rattle.termwiz_extended_events.specs.declared.types.Event.TheVariants.{Key}
 use Rattle.termwiz_extended_events.specs.declared.types.Reading.{Reading}
 use Rattle.termwiz_extended_events.specs.Numbers.{is_scalar}
 use Rattle.termwiz_extended_events.specs.ReportedKeys.{entry_at, lettered_keys, key_of, tilde_key}
@@ -25,7 +24,7 @@ use Rattle.termwiz_extended_events.specs.KeyReports.{key_report}
 use Rattle.termwiz_extended_grammar.specs.ExtraSequences.{IsExtra}
 use Rattle.termwiz_extended_grammar.specs.ExtendedGrammar.{Means}
 use Rattle.termwiz_extended_grammar.specs.ExtendedGrammar.Stands.{extra}
-use Rattle.termwiz_extended_grammar.specs.Readings.{after_event, is_asking}
+use Rattle.termwiz_extended_grammar.specs.Readings.{ReadsMore, after_event, is_asking}
 use Rattle.termwiz_extended_grammar.proofs.lemmas.items.ExtendedRests.{empty_is_rest}
 use Rattle.termwiz_extended_grammar.proofs.lemmas.forms.FormBytes.{all_append}
 use Rattle.termwiz_kitty.specs.declared.key_forms.KeyForm.{KeyForm}
@@ -42,7 +41,7 @@ use Rattle.termwiz_kitty.proofs.lemmas.read_back.KeysOfForms.{key_read, is_sound
 use Rattle.termwiz_kitty.proofs.lemmas.read_back.SequenceForms.{IsParameter, IsKeyEnd, written, is_extra}
 
 -- an extra sequence alone means its event
-pub means_alone : (reading : Reading) (text : List ℕ) (more : Bool) (e : ExtendedEvent) → IsExtra reading text e
+pub means_alone : (reading : Reading) (text : List ℕ) (more : Bool) (e : Event) → IsExtra reading text e
     → Means reading text more (e ∷ []) []
 means_alone reading text more e is = record {
   steps = ([], extra text [] e is (sym (append-nil text)), refl);
@@ -50,13 +49,13 @@ means_alone reading text more e is = record {
 }
 
 -- parameters and a last byte that a rule reads as a key mean that key
-written_means : (reading : Reading) (body : List ℕ) (l : ℕ) (r : KeyReport) (more : Bool) → reading.protocol ≡ Kitty
+written_means : (reading : Reading) (body : List ℕ) (l : ℕ) (r : KeyReport) (more : Bool) → ReadsMore reading
     → AllByRecursion IsParameter body → IsKeyEnd l → l ≢ 73 → l ≢ 79
     → length (written body l) ≤ 256 → key_report (body ++ l ∷ []) ≡ Some r
     → Means reading (written body l) more (Key r ∷ []) []
-written_means reading body l r more kitty a end gained lost short e =
+written_means reading body l r more reads a end gained lost short e =
     means_alone reading (written body l) more (Key r)
-    (is_extra reading body l (Key r) kitty a end short tt (event_back (is_asking reading) body l r gained lost e))
+    (is_extra reading body l (Key r) reads a end short tt (event_back (is_asking reading) body l r gained lost e))
 
 in_parameters : (b : ℕ) → IsFieldByte b → IsParameter b
 in_parameters b f = (omega arith, omega arith)
@@ -91,18 +90,18 @@ fields_parameters bits kind (c ∷ cs) h a = (
 )
 
 -- the sequence of a letter
-letter_means : (reading : Reading) (l bits : ℕ) (kind : KeyEventKind) (key : KeyCode) (more : Bool) → reading.protocol ≡ Kitty → bits < 256
+letter_means : (reading : Reading) (l bits : ℕ) (kind : KeyEventKind) (key : KeyCode) (more : Bool) → ReadsMore reading → bits < 256
     → is_sound (Letter l) ≡ true
     → entry_at lettered_keys l ≡ Some key → length (lettered_text l bits kind) ≤ 256
     → Means reading (lettered_text l bits kind) more (Key (bare (Named key) bits kind) ∷ []) []
 unfolding lettered_text
-letter_means reading l bits kind key more kitty h sound e short =
+letter_means reading l bits kind key more reads h sound e short =
     let ascii = encode_ascii l (omega (arith, facts.1)) in
     subst (λ t. length (27 ∷ 91 ∷ (manner_behind (49 ∷ 59 ∷ []) bits kind ++ t)) ≤ 256
     → Means reading (27 ∷ 91 ∷ (manner_behind (49 ∷ 59 ∷ []) bits kind ++ t)) more
     (Key (bare (Named key) bits kind) ∷ []) [])
     (sym ascii)
-    (λ fits. written_means reading (manner_behind (49 ∷ 59 ∷ []) bits kind) l _ more kitty
+    (λ fits. written_means reading (manner_behind (49 ∷ 59 ∷ []) bits kind) l _ more reads
     (behind_parameters (49 ∷ 59 ∷ []) bits kind h ((omega arith, omega arith), semicolon_parameter))
     (omega (arith, facts.0), omega (arith, facts.1), facts.2, (λ same. omega (arith, facts.1, same)))
     facts.3 facts.4 fits
@@ -124,13 +123,13 @@ letter_means reading l bits kind key more kitty h sound e short =
         (grind (arith, nat_tests), grind (arith, nat_tests), grind (arith, nat_tests), grind (arith, nat_tests), grind (arith, nat_tests))
 
 -- the sequence of a number and a tilde
-number_means : (reading : Reading) (n bits : ℕ) (kind : KeyEventKind) (key : ReportedKey) (more : Bool) → reading.protocol ≡ Kitty
+number_means : (reading : Reading) (n bits : ℕ) (kind : KeyEventKind) (key : ReportedKey) (more : Bool) → ReadsMore reading
     → bits < 256 → is_sound (Number n) ≡ true
     → tilde_key n ≡ Some key → length (numbered_text n bits kind) ≤ 256
     → Means reading (numbered_text n bits kind) more (Key (bare key bits kind) ∷ []) []
 unfolding numbered_text
-number_means reading n bits kind key more kitty h sound e short =
-    written_means reading (decimal n ++ manner_behind (59 ∷ []) bits kind) 126 _ more kitty
+number_means reading n bits kind key more reads h sound e short =
+    written_means reading (decimal n ++ manner_behind (59 ∷ []) bits kind) 126 _ more reads
     (join (decimal n) (manner_behind (59 ∷ []) bits kind) (field_parameters (decimal n) digits)
     (behind_parameters (59 ∷ []) bits kind h semicolon_parameter))
     (omega arith, omega arith, (λ same. omega arith), (λ same. omega arith)) (λ same. omega arith) (λ same. omega arith) short
@@ -144,13 +143,13 @@ number_means reading n bits kind key more kitty h sound e short =
 
 -- the sequence of a number and the letter u
 code_means : (reading : Reading) (own : ℕ) (shifted base : Option ℕ) (bits : ℕ) (kind : KeyEventKind) (cs : List ℕ) (more : Bool)
-    → reading.protocol ≡ Kitty → is_scalar own ≡ true
+    → ReadsMore reading → is_scalar own ≡ true
     → IsCharacterOrMissing shifted → IsCharacterOrMissing base → bits < 256 → AreCharacters cs
     → length (written (codes_text own shifted base ++ fields_behind bits kind cs) 117) ≤ 256
     → Means reading (written (codes_text own shifted base ++ fields_behind bits kind cs) 117) more
     (Key (carried own shifted base bits kind (encode_utf8_all cs)) ∷ []) []
-code_means reading own shifted base bits kind cs more kitty o s b h a short =
-    written_means reading (codes_text own shifted base ++ fields_behind bits kind cs) 117 _ more kitty
+code_means reading own shifted base bits kind cs more reads o s b h a short =
+    written_means reading (codes_text own shifted base ++ fields_behind bits kind cs) 117 _ more reads
     (join (codes_text own shifted base) (fields_behind bits kind cs)
     (field_parameters (codes_text own shifted base) (codes_bytes own shifted base o s b)) (fields_parameters bits kind cs h a))
     (omega arith, omega arith, (λ same. omega arith), (λ same. omega arith)) (λ same. omega arith) (λ same. omega arith) short
@@ -194,26 +193,26 @@ letter_carries l q is = go (entry_at lettered_keys l) refl
     go None e = absurd (let none : None ≡ Some q.key = ap (option_map Named) (sym e) ∙ is.read in cc (none))
     go (Some key) e = (key, e, (let some : Some (Named key) ≡ Some q.key = ap (option_map Named) (sym e) ∙ is.read in cc (some)))
 
-pub sequence_means : (reading : Reading) (form : KeyForm) (q : KeyReport) (more : Bool) → reading.protocol ≡ Kitty → IsCarried form q
+pub sequence_means : (reading : Reading) (form : KeyForm) (q : KeyReport) (more : Bool) → ReadsMore reading → IsCarried form q
     → length (sequence_text form q) ≤ 256
     → Means reading (sequence_text form q) more (Key q ∷ []) []
 unfolding sequence_text coded_text
-sequence_means reading (Letter l) q more kitty is short =
+sequence_means reading (Letter l) q more reads is short =
     let found = letter_carries l q is in
     subst (λ x. Means reading (lettered_text l q.modifiers q.kind) more (Key x ∷ []) [])
     (alone_is (Named found.0) q found.2 (is.alone refl))
-    (letter_means reading l q.modifiers q.kind found.0 more kitty is.fits is.sound found.1 short)
-sequence_means reading (Number n) q more kitty is short =
+    (letter_means reading l q.modifiers q.kind found.0 more reads is.fits is.sound found.1 short)
+sequence_means reading (Number n) q more reads is short =
     subst (λ x. Means reading (numbered_text n q.modifiers q.kind) more (Key x ∷ []) [])
     (alone_is q.key q refl (is.alone refl))
-    (number_means reading n q.modifiers q.kind q.key more kitty is.fits is.sound is.read short)
-sequence_means reading (Code n) q more kitty is short =
+    (number_means reading n q.modifiers q.kind q.key more reads is.fits is.sound is.read short)
+sequence_means reading (Code n) q more reads is short =
     let same : key_of n ≡ q.key = cc (is.read) in
     subst (λ x. Means reading (written (codes_text n q.shifted q.base ++ fields_behind q.modifiers q.kind (chars q.text)) 117) more
     (Key x ∷ []) [])
     (same_parts (key_of n) q.key q.modifiers q.kind q.shifted q.shifted q.base q.base (encode_utf8_all (chars q.text)) q.text
     same refl refl (encodes-chars q.text is.text_is))
-    (code_means reading n q.shifted q.base q.modifiers q.kind (chars q.text) more kitty is.sound (scalar_or_missing q.shifted is.shifted_is)
+    (code_means reading n q.shifted q.base q.modifiers q.kind (chars q.text) more reads is.sound (scalar_or_missing q.shifted is.shifted_is)
     (scalar_or_missing q.base is.base_is) is.fits (characters_from (chars q.text) (scalars-chars q.text is.text_is)) short)
 
 -- what is told of a report can be carried
@@ -299,7 +298,7 @@ unfolding kitty_text
 written_as r flags tells = rw tells refl
 
 pub kitty_read_back : KittyReadBack
-kitty_read_back reading r flags text more kitty is tells writes short = go (form_of (told_key r flags)) refl
+kitty_read_back reading r flags text more reads is tells writes short = go (form_of (told_key r flags)) refl
   where
     whole : option_map (λ form. sequence_text form (reported r flags)) (form_of (told_key r flags)) ≡ Some text
     whole = written_as r flags tells ∙ writes
@@ -311,4 +310,4 @@ kitty_read_back reading r flags text more kitty is tells writes short = go (form
         ap (option_map (λ form. sequence_text form (reported r flags))) (sym e) ∙ whole in
         let same : sequence_text form (reported r flags) ≡ text = cc (some) in
         subst (λ t. length t ≤ 256 → Means reading t more (Key (reported r flags) ∷ []) []) same
-        (λ fits. sequence_means reading form (reported r flags) more kitty (told_carried r flags form is e) fits) short
+        (λ fits. sequence_means reading form (reported r flags) more reads (told_carried r flags form is e) fits) short

@@ -11,7 +11,7 @@ use Rattle.termwiz_extended_events.specs.declared.types.KeyEventKind.{KeyEventKi
 use Rattle.termwiz_extended_events.specs.declared.types.KeyEventKind.TheVariants.{Press, Repeat, Release}
 use Rattle.termwiz_extended_events.specs.declared.types.ReportedKey.{ReportedKey}
 use Rattle.termwiz_extended_events.specs.declared.types.ReportedKey.TheVariants.{Named}
-use Rattle.termwiz_extended_events.specs.declared.types.ExtendedEvent.TheVariants.{Key}
+use Rattle.termwiz_extended_events.specs.declared.types.Event.TheVariants.{Key}
 use Rattle.termwiz_extended_events.specs.Numbers.{fields, number, is_scalar}
 use Rattle.termwiz_extended_events.specs.ReportedKeys.{entry_at, lettered_keys, key_of, tilde_key, last_functional}
 use Rattle.termwiz_extended_events.specs.KeyReports.{manner_with, manner_of, character_of_fields, character_key, lettered_of_fields, lettered_key, numbered_of_fields, numbered_key, key_report}

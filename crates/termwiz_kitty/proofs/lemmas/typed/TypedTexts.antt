@@ -7,7 +7,7 @@ use Rattle.std.proofs.lemmas.Bool.{and_parts}
 use Rattle.std.proofs.lemmas.Bool.Decides.{nat_tests}
 use Rattle.termwiz_keys.specs.Encoding.{enc, key_text, normal_key, normal_held, shows_shift, named_key, enter_text, tab_text, backspace_text}
 use Rattle.termwiz_keys.specs.KeyCodes.{shifted}
-use Rattle.termwiz_keys.specs.Keys.{NONE}
+use Rattle.termwiz_keys.specs.Keys.{NONE, key_with}
 use Rattle.termwiz_keys.specs.declared.types.KeyCode.{KeyCode}
 use Rattle.termwiz_keys.specs.declared.types.KeyCode.TheVariants.{Char, Enter, Tab, Backspace}
 use Rattle.termwiz_grammar.specs.Grammar as port
@@ -24,7 +24,11 @@ use Rattle.termwiz_laws.proofs.lemmas.shared_texts.TwinKeys.{sent_means}
 use Rattle.termwiz_extended_events.specs.declared.types.KeyReport.{KeyReport}
 use Rattle.termwiz_extended_events.specs.declared.types.ReportedKey.{ReportedKey}
 use Rattle.termwiz_extended_events.specs.declared.types.ReportedKey.TheVariants.{Named, Functional}
+use Rattle.termwiz_extended_events.specs.declared.types.Event.TheVariants.{Key}
+use Rattle.termwiz_extended_events.specs.declared.types.Dialect.{Dialect}
+use Rattle.termwiz_extended_events.specs.declared.types.Dialect.TheVariants.{Extended, Termwiz}
 use Rattle.termwiz_extended_events.specs.declared.types.Reading.{Reading}
+use Rattle.termwiz_extended_events.specs.PortEvents.{pressed_key, typed_key, decided_key, told}
 use Rattle.termwiz_extended_grammar.specs.ExtendedGrammar.{Means}
 use Rattle.termwiz_kitty.specs.declared.telling.Telling.TheVariants.{Nothing, Typed, Reported}
 use Rattle.termwiz_kitty.specs.declared.legacy.LegacyText.{LegacyText}
@@ -34,7 +38,8 @@ use Rattle.termwiz_kitty.specs.KittyTexts.{shown, typed_by, typed_text, kitty_te
 use Rattle.termwiz_kitty.specs.KittyLaws.{IsKey, IsScalarOrMissing, IsReport, pressed, characters_pressed, typed_by_events, typed_events, TypedReadBack}
 use Rattle.termwiz_kitty.proofs.lemmas.PortKeys.{xterm_modes, at_number}
 use Rattle.termwiz_kitty.proofs.lemmas.read_back.SequencesMean.{told_is_key}
-use Rattle.termwiz_kitty.proofs.lemmas.typed.NoEscape.{same_without_escape}
+use Rattle.termwiz_kitty.proofs.lemmas.typed.NoEscape.{has_no_extra}
+use Rattle.termwiz_kitty.proofs.lemmas.legacy.ReadAsOne.{as_in_port}
 use Rattle.termwiz_kitty.proofs.lemmas.typed.TypedCharacters.{characters_mean, character_means}
 
 not_true : (b : Bool) → not b ≡ true → b ≡ false
@@ -115,10 +120,16 @@ alone_held key = record { key = key; modifiers = record { 0 = NONE }; modes = xt
 -- the text of a key that is sent as one control character
 control_means : (reading : Reading) (key : KeyCode) (b : ℕ) (more : Bool) → ReadsBackToo key NONE xterm_modes
     → enc key (record { 0 = NONE }) xterm_modes ≡ Some (b ∷ []) → b ≢ 27 → b < 128
-    → Means reading (b ∷ []) more (pressed key ∷ []) []
+    → Means reading (b ∷ []) more (told reading (b ∷ []) (event_of (alone_held key)) ∷ []) []
 control_means reading key b more too sends other low =
-    same_without_escape reading (b ∷ []) [] (event_of (alone_held key) ∷ []) more (other, tt) (means_to_port more)
+    let none = has_no_extra reading (b ∷ []) more (other, tt) in
+    as_in_port reading (b ∷ []) (key_with key NONE) more (means_to_port more)
+    (record { none = none.none; closed = λ h. closed more (none.open_to_port h) }) (λ v split. absurd (other (cc (split))))
   where
+    closed : (m : Bool) → port.IsOpen (b ∷ []) m → ⊥
+    closed m h = goes_not_on b other low
+        (record { held = []; bytes = b ∷ []; is_held = inl refl; some = h.some; splits = refl; beginning = h.beginning })
+
     flushed : port.Means (b ∷ []) false (event_of (alone_held key) ∷ []) []
     flushed = sent_means (alone_held key) (b ∷ []) (further_keys_read_back key (record { 0 = NONE }) xterm_modes too) sends
 
@@ -130,18 +141,28 @@ without_false : (b : Bool) → (b || false) ≡ true → b ≡ true
 without_false true e = refl
 without_false false e = e
 
+-- the key of a byte that no reading decides
+as_itself : (reading : Reading) (key : KeyCode) (b : ℕ) → decided_key reading b ≡ None
+    → told reading (b ∷ []) (event_of (alone_held key)) ≡ pressed key
+as_itself reading key b none = ap (λ k. Key (pressed_key (key_with k NONE))) (go reading.dialect)
+  where
+    go : (dialect : Dialect) → typed_key dialect reading (b ∷ []) key ≡ key
+    go Extended = rw none refl
+    go Termwiz = refl
+
 -- what a key types by itself
 by_itself_means : (reading : Reading) (key : ReportedKey) (r : KeyReport) (more : Bool) → IsReport r → IsKey key
-    → (types_character key || sends_control key) ≡ true → Means reading (typed_by key r) more (typed_by_events key (typed_by key r)) []
+    → (types_character key || sends_control key) ≡ true → Means reading (typed_by key r) more (typed_by_events reading key (typed_by key r)) []
 unfolding enc key_text normal_key normal_held shows_shift named_key shifted enter_text tab_text backspace_text
 by_itself_means reading (Named (Char c)) r more is k e =
     let types : not (is_control c) ≡ true = without_false (not (is_control c)) e in
     let one = shown_is c r.modifiers r.shifted (record { scalar = k; no_control = not_true (is_control c) types }) is.shifted_is in
     character_means reading (shown c r.modifiers r.shifted) more one.scalar one.no_control
 by_itself_means reading (Named Enter) r more is k e =
-    control_means reading Enter 13 more (enter NONE xterm_modes refl (zero, lit< tt, refl)) refl (λ same. omega arith) (lit< tt)
+    subst (λ e. Means reading (13 ∷ []) more (e ∷ []) []) (as_itself reading Enter 13 refl) (control_means reading Enter 13 more (enter NONE xterm_modes refl (zero, lit< tt, refl)) refl (λ same. omega arith) (lit< tt))
 by_itself_means reading (Named Tab) r more is k e =
-    control_means reading Tab 9 more (alone Tab xterm_modes (4, lit< tt, refl)) refl (λ same. omega arith) (lit< tt)
+    subst (λ e. Means reading (9 ∷ []) more (e ∷ []) []) (as_itself reading Tab 9 refl)
+    (control_means reading Tab 9 more (alone Tab xterm_modes (4, lit< tt, refl)) refl (λ same. omega arith) (lit< tt))
 by_itself_means reading (Named Backspace) r more is k e =
     control_means reading Backspace 127 more (none_or_alt Backspace NONE xterm_modes (1, lit< tt, refl) (zero, lit< tt, refl)) refl
     (λ same. omega arith) (lit< tt)
@@ -157,11 +178,11 @@ by_itself false t false false b e h = h
 by_itself true true false false b e h = cc (e)
 
 typed_means : (reading : Reading) (key : ReportedKey) (r : KeyReport) (more : Bool) → IsReport r → IsKey key → types key r ≡ true
-    → Means reading (typed_text key r) more (typed_events key r (typed_text key r)) []
+    → Means reading (typed_text key r) more (typed_events reading key r (typed_text key r)) []
 unfolding typed_text
 typed_means reading key r more is k e = go (is_typed_text r.text) refl
   where
-    go : (v : Bool) → is_typed_text r.text ≡ v → Means reading (typed_text key r) more (typed_events key r (typed_text key r)) []
+    go : (v : Bool) → is_typed_text r.text ≡ v → Means reading (typed_text key r) more (typed_events reading key r (typed_text key r)) []
     go true typed = rw typed (text_means reading r.text more is.text_is typed)
     go false none = rw none (by_itself_means reading key r more is k
         (by_itself (is_at_most_shifted r.modifiers) (is_typed_text r.text) (types_character key) (sends_control key)
@@ -197,5 +218,5 @@ pub typed_read_back : TypedReadBack
 typed_read_back reading r flags text more is tells writes =
     let whole : Some (typed_text (told_key r flags) r) ≡ Some text = written_as r flags tells ∙ writes in
     let same : typed_text (told_key r flags) r ≡ text = cc (whole) in
-    subst (λ t. Means reading t more (typed_events (told_key r flags) r t) []) same
+    subst (λ t. Means reading t more (typed_events reading (told_key r flags) r t) []) same
     (typed_means reading (told_key r flags) r more is (told_is_key r flags is.key_is) (types_it r flags tells))

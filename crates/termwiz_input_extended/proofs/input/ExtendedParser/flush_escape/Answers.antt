@@ -8,5 +8,5 @@ use Rattle.termwiz_input_extended.proofs.input.ExtendedParser.flush_escape.Goals
 pub returns-in-Some-clause-event : goal.returns-in-Some-clause-event
 returns-in-Some-clause-event c =
     let text : c.self.inside.parser ≡ c.args.self.now.text = ap (λ (b : Buffered). b.text) c.self.view_is in
-    escapes_flushed _ _ _ _ (subst IsOneOrTwoEscapes text (c.in-Some.ensures.when.0 refl))
-    (subst (λ t. port.Means t false (c.in-Some.event ∷ []) c.flush_escape.new.self) text c.in-Some.ensures.event)
+    rw c.told_event.ensures (escapes_flushed _ _ _ _ (subst IsOneOrTwoEscapes text (c.in-Some.ensures.when.0 refl))
+    (subst (λ t. port.Means t false (c.in-Some.event ∷ []) c.flush_escape.new.self) text c.in-Some.ensures.event))

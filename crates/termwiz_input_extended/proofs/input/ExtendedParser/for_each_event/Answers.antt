@@ -26,7 +26,7 @@ loop-event-preserved g c =
     let step = rw c.in-Some.is at c.in_ok-event.ensures.event in
     let reading = rw c.in-Some.is at c.in_ok-event.ensures.reading in
     record {
-      protocol = c.in_ok-event.ensures.protocol ∙ c.loop-event.invariant.protocol;
+      dialect = c.in_ok-event.ensures.dialect ∙ c.loop-event.invariant.dialect;
       given = given_one_more g.F.FnMut c.args.maybe_more c.args.self.now _ here now c.in-Some.event left next
           c.loop-event.invariant.given step reading c.callback.ensures;
       callable = may_give_more g.F.FnMut c.args.maybe_more here now c.in-Some.event left next c.loop-event.invariant.callable step

@@ -1,6 +1,6 @@
 use Rattle.std.proofs.Common.{arith}
 use Rattle.termwiz_extended_grammar.proofs.lemmas.cuts.ExtendedCuts.{few_events}
-use Rattle.termwiz_input_extended.proofs.lemmas.calls.ProtocolKept.{protocol_kept}
+use Rattle.termwiz_input_extended.proofs.lemmas.calls.DialectKept.{dialect_kept}
 use Rattle.termwiz_input_extended.proofs.input.ExtendedParser.store_events.Goals as goal
 
 pub loop-smaller : goal.loop-smaller
@@ -26,9 +26,9 @@ pub returns-in_err-store_next-clause-reading : goal.returns-in_err-store_next-cl
 returns-in_err-store_next-clause-reading c =
     (c.store_next.ensures.stored c.args.self.now.reading c.args.self.now.text c.loop.invariant.steps c.loop.invariant.reading).1
 
-pub returns-in_err-store_next-clause-protocol : goal.returns-in_err-store_next-clause-protocol
-returns-in_err-store_next-clause-protocol c =
-    protocol_kept c.args.self.now.reading c.store_next.new.self.reading c.store_next.new.events.items
+pub returns-in_err-store_next-clause-dialect : goal.returns-in_err-store_next-clause-dialect
+returns-in_err-store_next-clause-dialect c =
+    dialect_kept c.args.self.now.reading c.store_next.new.self.reading c.store_next.new.events.items
     (c.store_next.ensures.stored c.args.self.now.reading c.args.self.now.text c.loop.invariant.steps c.loop.invariant.reading).1
 
 pub returns-in_err-store_next-clause-few : goal.returns-in_err-store_next-clause-few
@@ -44,9 +44,9 @@ pub returns-clause-reading : goal.returns-clause-reading
 returns-clause-reading c =
     (c.store_next.ensures.stored c.args.self.now.reading c.args.self.now.text c.loop.invariant.steps c.loop.invariant.reading).1
 
-pub returns-clause-protocol : goal.returns-clause-protocol
-returns-clause-protocol c =
-    protocol_kept c.args.self.now.reading c.store_next.new.self.reading c.store_next.new.events.items
+pub returns-clause-dialect : goal.returns-clause-dialect
+returns-clause-dialect c =
+    dialect_kept c.args.self.now.reading c.store_next.new.self.reading c.store_next.new.events.items
     (c.store_next.ensures.stored c.args.self.now.reading c.args.self.now.text c.loop.invariant.steps c.loop.invariant.reading).1
 
 pub returns-clause-few : goal.returns-clause-few

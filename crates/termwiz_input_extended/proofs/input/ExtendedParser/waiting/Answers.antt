@@ -1,4 +1,4 @@
-use Rattle.std.proofs.Common.{ap, subst}
+use Rattle.std.proofs.Common.{sym, ap, ◌∙◌, subst}
 use Rattle.termwiz_keymap.specs.Bytes.{Begins}
 use Rattle.termwiz_keys.specs.Introducers.{START}
 use Rattle.termwiz_grammar.specs.WaitingKinds.{IsOneOrTwoEscapes}
@@ -27,17 +27,26 @@ returns-in-Paste-clause-kind c = λ more rest.
 pub returns-in-Opening-clause-kind : goal.returns-in-Opening-clause-kind
 returns-in-Opening-clause-kind c = λ more rest.
     let o = c.in-Opening.ensures in
-    string_kind c.args.self.now.reading c.args.self.now.text more rest (subst StartsWithOpening c.waiting_text.ensures
-    (record { kind = c.in-Opening.field-0; head = o.head; is_head = o.is_head; begins = o.begins }))
+    string_kind c.args.self.now.reading c.args.self.now.text more rest (
+      ap (λ (b : Buffered). b.reading.dialect) (sym c.self.view_is) ∙ c.in-Extended.is,
+      subst StartsWithOpening c.waiting_text.ensures
+          (record { kind = c.in-Opening.field-0; head = o.head; is_head = o.is_head; begins = o.begins }),
+    )
 
 pub returns-in-Unfinished-clause-kind : goal.returns-in-Unfinished-clause-kind
 returns-in-Unfinished-clause-kind c = λ more rest.
     sequence_kind c.args.self.now.reading c.args.self.now.text more rest
     (subst IsNoOtherKind (ap (λ (b : Buffered). b.text) c.self.view_is) c.in-Sequence.ensures.bytes)
-    (subst (λ t. ¬ StartsWithOpening t) c.waiting_text.ensures c.in-Unfinished.ensures.0)
+    (λ o. subst (λ t. ¬ StartsWithOpening t) c.waiting_text.ensures c.in-Unfinished.ensures.0 o.1)
 
 pub returns-in-Absent-clause-kind : goal.returns-in-Absent-clause-kind
 returns-in-Absent-clause-kind c = λ more rest.
     sequence_kind c.args.self.now.reading c.args.self.now.text more rest
     (subst IsNoOtherKind (ap (λ (b : Buffered). b.text) c.self.view_is) c.in-Sequence.ensures.bytes)
-    (subst (λ t. ¬ StartsWithOpening t) c.waiting_text.ensures c.in-Absent.ensures.0)
+    (λ o. subst (λ t. ¬ StartsWithOpening t) c.waiting_text.ensures c.in-Absent.ensures.0 o.1)
+
+pub returns-in-Termwiz-clause-kind : goal.returns-in-Termwiz-clause-kind
+returns-in-Termwiz-clause-kind c = λ more rest.
+    sequence_kind c.args.self.now.reading c.args.self.now.text more rest
+    (subst IsNoOtherKind (ap (λ (b : Buffered). b.text) c.self.view_is) c.in-Sequence.ensures.bytes)
+    (λ o. cc (o.0, c.in-Termwiz.is))
