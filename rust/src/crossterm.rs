@@ -13,20 +13,20 @@
 //!
 //! ```
 //! use crossterm::event::{Event, KeyCode, KeyEvent, KeyModifiers};
-//! use hedrugal::extended::{ExtendedEvent, ExtendedParser, Protocol};
+//! use hedrugal::extended::{self, Dialect, ExtendedParser};
 //!
-//! let mut events = ExtendedParser::new(Protocol::Legacy).parse_as_vec(b"\x1b[1;5A\x1b[?0u", true);
+//! let mut events = ExtendedParser::new(Dialect::Extended).parse_as_vec(b"\x1b[1;5A\x1b[?0u", true);
 //! let reply = events.pop().unwrap();
 //! let up = KeyEvent::new(KeyCode::Up, KeyModifiers::CONTROL);
 //! assert_eq!(Event::try_from(events.remove(0)), Ok(Event::Key(up)));
-//! assert_eq!(Event::try_from(reply), Err(ExtendedEvent::KeyboardFlags(0)));
+//! assert_eq!(Event::try_from(reply), Err(extended::Event::KeyboardFlags(0)));
 //! ```
 //!
 //! crossterm's type can't say:
 //!
 //! - replies: `CursorPosition`, `KeyboardFlags`, `Csi`, `Osc`, `Dcs`, `Apc`, `StringPart` and
 //!   `StringCut`
-//! - a wheel that is turned to a side, a `SideButton`, and a mouse report in pixels
+//! - a wheel that is turned to a side, and one of the mouse buttons 8 to 11
 //! - the keys `Cancel`, `Clear`, `Select`, `Print`, `Execute`, `Help`, `Sleep`, `Copy`, `Cut` and
 //!   `Paste`, those of browsers, the marks of a paste, the modifiers without a side, and a functional
 //!   key of Kitty's table that is neither a modifier nor of a media player
@@ -34,10 +34,10 @@
 //!   text. A text of several characters is a paste
 //! - that the program goes on after it was stopped: [`event::read`] returns its size then
 use crate::extended::{
-    typed_text, ExtendedEvent, KeyEventKind, KeyPress, KeyReport, KittyModifiers, Protocol,
+    self, typed_text, KeyEventKind, KeyPress, KeyReport, KittyModifiers, MouseKind, MouseReport,
     Reading, ReportedKey,
 };
-use crate::input::{InputEvent, KeyCode, Modifiers, MouseButtons, MouseEvent};
+use crate::input::{KeyCode, Modifiers};
 use crate::terminal::{restore, Event, Modes, RawMode, Terminal};
 use ::crossterm::event as theirs;
 use ::crossterm::terminal::{disable_raw_mode, enable_raw_mode, is_raw_mode_enabled};
@@ -51,27 +51,27 @@ pub mod event {
     pub use ::crossterm::event::*;
 }
 
-/// Converts events to crossterm's. A mouse report says which button is down, and crossterm's event
-/// what happened to it: so this keeps which one was down before. [`TryFrom`] takes none for that.
+/// Converts events to crossterm's. Some mouse reports don't tell which button was released. So this
+/// keeps which one was down before. [`TryFrom`] takes the left one for that, as crossterm does.
 ///
 /// ```
 /// use crossterm::event::{Event, MouseButton, MouseEventKind};
 /// use hedrugal::crossterm::Converter;
-/// use hedrugal::extended::{ExtendedParser, Protocol};
+/// use hedrugal::extended::{Dialect, ExtendedParser};
 ///
-/// let (press, moved, release) = (b"\x1b[<0;1;1M", b"\x1b[<32;2;1M", b"\x1b[<0;2;1m");
+/// let (press, moved, release) = (b"\x1b[<2;1;1M", b"\x1b[<34;2;1M", b"\x1b[35;2;1M");
 /// let sent = [&press[..], moved, release].concat();
 /// let mut converter = Converter::default();
 /// let mut kinds = Vec::new();
-/// for event in ExtendedParser::new(Protocol::Legacy).parse_as_vec(&sent, true) {
+/// for event in ExtendedParser::new(Dialect::Extended).parse_as_vec(&sent, true) {
 ///     if let Ok(Event::Mouse(mouse)) = converter.convert(event) {
 ///         kinds.push(mouse.kind);
 ///     }
 /// }
-/// let left = MouseButton::Left;
+/// let right = MouseButton::Right;
 /// assert_eq!(
 ///     kinds,
-///     [MouseEventKind::Down(left), MouseEventKind::Drag(left), MouseEventKind::Up(left)]
+///     [MouseEventKind::Down(right), MouseEventKind::Drag(right), MouseEventKind::Up(right)]
 /// );
 /// ```
 #[derive(Debug, Clone, Copy, Default)]
@@ -85,80 +85,72 @@ impl Converter {
     /// ```
     /// use crossterm::event::Event;
     /// use hedrugal::crossterm::Converter;
-    /// use hedrugal::extended::ExtendedEvent;
+    /// use hedrugal::extended;
     ///
     /// let mut converter = Converter::default();
-    /// assert_eq!(converter.convert(ExtendedEvent::FocusLost), Ok(Event::FocusLost));
+    /// assert_eq!(converter.convert(extended::Event::FocusLost), Ok(Event::FocusLost));
     /// ```
     ///
     /// # Errors
     ///
     /// The event, if crossterm's type can't say it.
-    pub fn convert(&mut self, event: ExtendedEvent) -> Result<theirs::Event, ExtendedEvent> {
+    pub fn convert(&mut self, event: extended::Event) -> Result<theirs::Event, extended::Event> {
         let converted = match &event {
-            ExtendedEvent::FocusGained => Some(theirs::Event::FocusGained),
-            ExtendedEvent::FocusLost => Some(theirs::Event::FocusLost),
-            ExtendedEvent::Resize { columns, rows, .. } => {
+            extended::Event::Key(report) => match typed_text(report) {
+                "" => key(report).map(theirs::Event::Key),
+                text => Some(theirs::Event::Paste(text.to_string())),
+            },
+            extended::Event::Mouse(report) => self.mouse(report).map(theirs::Event::Mouse),
+            extended::Event::Paste(text) => Some(theirs::Event::Paste(text.clone())),
+            extended::Event::FocusGained => Some(theirs::Event::FocusGained),
+            extended::Event::FocusLost => Some(theirs::Event::FocusLost),
+            extended::Event::Resize { columns, rows, .. } => {
                 Some(theirs::Event::Resize(*columns, *rows))
             }
-            ExtendedEvent::Input(InputEvent::Paste(text)) => {
-                Some(theirs::Event::Paste(text.clone()))
-            }
-            ExtendedEvent::Input(InputEvent::Mouse(mouse)) => {
-                self.mouse(mouse).map(theirs::Event::Mouse)
-            }
-            event => event.key().and_then(|report| match typed_text(&report) {
-                "" => key(&report).map(theirs::Event::Key),
-                text => Some(theirs::Event::Paste(text.to_string())),
-            }),
+            _ => None,
         };
         converted.ok_or(event)
     }
 
-    fn mouse(&mut self, event: &MouseEvent) -> Option<theirs::MouseEvent> {
-        let kind = if event.mouse_buttons.contains(MouseButtons::HORZ_WHEEL) {
-            return None;
-        } else if event.mouse_buttons.contains(MouseButtons::VERT_WHEEL) {
-            wheel(event.mouse_buttons)
-        } else {
-            self.button(event.mouse_buttons)
-        };
+    fn mouse(&mut self, report: &MouseReport) -> Option<theirs::MouseEvent> {
         Some(theirs::MouseEvent {
-            kind,
-            column: event.x.saturating_sub(1),
-            row: event.y.saturating_sub(1),
-            modifiers: modifiers(xterm_modifiers(event.modifiers)),
+            kind: self.mouse_kind(report)?,
+            column: report.x.saturating_sub(1),
+            row: report.y.saturating_sub(1),
+            modifiers: modifiers(xterm_modifiers(report.modifiers)),
         })
     }
 
-    fn button(&mut self, buttons: MouseButtons) -> theirs::MouseEventKind {
-        let before = std::mem::replace(&mut self.down, button_of(buttons));
-        match (before, self.down) {
-            (None, None) => theirs::MouseEventKind::Moved,
-            (Some(button), None) => theirs::MouseEventKind::Up(button),
-            (Some(before), Some(now)) if before == now => theirs::MouseEventKind::Drag(now),
-            (_, Some(now)) => theirs::MouseEventKind::Down(now),
-        }
+    fn mouse_kind(&mut self, report: &MouseReport) -> Option<theirs::MouseEventKind> {
+        let named = report.button.map(button_of);
+        Some(match report.kind {
+            MouseKind::Press => theirs::MouseEventKind::Down(*self.down.insert(named??)),
+            MouseKind::Drag => theirs::MouseEventKind::Drag(*self.down.insert(named??)),
+            MouseKind::Release => {
+                let button = match named {
+                    Some(button) => button?,
+                    None => self.down.unwrap_or(theirs::MouseButton::Left),
+                };
+                self.down = self.down.filter(|down| *down != button);
+                theirs::MouseEventKind::Up(button)
+            }
+            MouseKind::Move => theirs::MouseEventKind::Moved,
+            MouseKind::Wheel => match report.button {
+                Some(4) => theirs::MouseEventKind::ScrollUp,
+                Some(5) => theirs::MouseEventKind::ScrollDown,
+                _ => return None,
+            },
+        })
     }
 }
 
-fn wheel(buttons: MouseButtons) -> theirs::MouseEventKind {
-    if buttons.contains(MouseButtons::WHEEL_POSITIVE) {
-        theirs::MouseEventKind::ScrollUp
-    } else {
-        theirs::MouseEventKind::ScrollDown
+fn button_of(number: u8) -> Option<theirs::MouseButton> {
+    match number {
+        1 => Some(theirs::MouseButton::Left),
+        2 => Some(theirs::MouseButton::Middle),
+        3 => Some(theirs::MouseButton::Right),
+        _ => None,
     }
-}
-
-fn button_of(buttons: MouseButtons) -> Option<theirs::MouseButton> {
-    [
-        (MouseButtons::LEFT, theirs::MouseButton::Left),
-        (MouseButtons::RIGHT, theirs::MouseButton::Right),
-        (MouseButtons::MIDDLE, theirs::MouseButton::Middle),
-    ]
-    .into_iter()
-    .find(|(flag, _)| buttons.contains(*flag))
-    .map(|(_, button)| button)
 }
 
 // SHIFT, ALT and CTRL have the same bits in xterm's number.
@@ -193,11 +185,15 @@ fn state(held: KittyModifiers, is_keypad: bool) -> theirs::KeyEventState {
     state
 }
 
+// Text without a key. One character is the key that types it.
+const TEXT: ReportedKey = ReportedKey::Functional(0);
+
 fn key(report: &KeyReport) -> Option<theirs::KeyEvent> {
     let (key, held) = match report.key {
         ReportedKey::Named(KeyCode::Char(c)) if c.is_ascii_control() => {
             control_key(c, report.modifiers)?
         }
+        TEXT => (KeyPress::of_report(report)?.key(), report.modifiers),
         key => (key, report.modifiers),
     };
     let (code, is_keypad) = code_of(key)?;
@@ -352,11 +348,11 @@ fn functional_code(number: u32) -> Option<(theirs::KeyCode, bool)> {
     })
 }
 
-impl TryFrom<ExtendedEvent> for theirs::Event {
-    type Error = ExtendedEvent;
+impl TryFrom<extended::Event> for theirs::Event {
+    type Error = extended::Event;
 
     /// Does what a [`Converter`] does, of which no mouse button was down before.
-    fn try_from(event: ExtendedEvent) -> Result<theirs::Event, ExtendedEvent> {
+    fn try_from(event: extended::Event) -> Result<theirs::Event, extended::Event> {
         Converter::default().convert(event)
     }
 }
@@ -374,13 +370,6 @@ impl TryFrom<Event> for theirs::Event {
         }
     }
 }
-
-// Nobody tells which protocol and which mouse reports the program turned on by crossterm's commands.
-// As crossterm does, this reads them all.
-const READING: Reading = Reading {
-    x10_mouse: true,
-    ..Reading::new(Protocol::Kitty)
-};
 
 // The terminal of `read` and `poll`.
 struct Reader {
@@ -403,7 +392,14 @@ impl Reader {
             saved = Some(before?);
         }
         let mut terminal = Terminal::begin(Modes::NONE, saved)?;
-        terminal.parser().set_reading(READING);
+        // Nobody tells which mouse reports the program turned on by crossterm's commands. As
+        // crossterm does, this reads them all.
+        let parser = terminal.parser();
+        let x10_mouse = true;
+        parser.set_reading(Reading {
+            x10_mouse,
+            ..parser.reading()
+        });
         Ok(Reader {
             terminal,
             converter: Converter::default(),
@@ -457,9 +453,8 @@ fn wait(reader: &mut Option<Reader>, time: Option<Duration>) -> io::Result<bool>
 }
 
 /// Waits for an event, as `crossterm::event::read` does. What crossterm's type can't say is left
-/// out. Keys are read by Kitty's keyboard protocol too, and mouse reports in each form, whatever the
-/// program has turned on. ESC `[1;5R` is F3 with Ctrl, since nothing here asks for the cursor's
-/// position.
+/// out. Keys are read by each keyboard protocol, and mouse reports in each form, whatever the program
+/// has turned on. ESC `[1;5R` is F3 with Ctrl, since nothing here asks for the cursor's position.
 ///
 /// The first call opens the program's terminal, in raw mode; the program turns on what it wants
 /// of it by crossterm's commands, and calls `enable_raw_mode` before. A signal that ends or stops the

@@ -2,8 +2,8 @@
 //! sends, the bytes that it sends for a key, and a map from byte strings to values. The items of
 //! [`input`] and [`keymap`] have termwiz's names, and so has [`escape::csi::KittyKeyboardFlags`].
 //! Left out are termwiz's modules `terminal`, `caps`, `surface`, `lineedit` and `readbuf`, the rest
-//! of `escape`, and Windows. [`extended`] is beyond termwiz: a parser that also reads what
-//! terminals reply, and Kitty's keyboard protocol. So is [`terminal`]: raw mode, and the events of the
+//! of `escape`, and Windows. [`extended`] is beyond termwiz: a parser of all that terminals send, by
+//! any keyboard protocol, and of what they reply. So is [`terminal`]: raw mode, and the events of the
 //! program's own terminal.
 //!
 //! Behind them is a library whose calls are proved against their contracts. The proof ends at those

@@ -76,14 +76,12 @@ pub const FOUND_NO_MAP: u32 = 4;
 // numbers.txt: kind const
 /// None of these. No event has this kind.
 pub const KIND_OTHER: u8 = 0;
-/// A key was pressed: an entry of the sequence table, or a character.
+/// A key: of a hed_parser one that was pressed, and of an extended parser a key report.
 pub const KIND_KEY: u8 = 1;
 /// The mouse was moved, one of its buttons was pressed or released, or a wheel was turned.
 pub const KIND_MOUSE: u8 = 2;
 /// Text was pasted, in bracketed paste mode.
 pub const KIND_PASTE: u8 = 3;
-/// A key report: a key was pressed, held down or released.
-pub const KIND_REPORT: u8 = 4;
 /// The terminal's window gained the focus (mode 1004).
 pub const KIND_FOCUS_GAINED: u8 = 5;
 /// The terminal's window lost the focus.
@@ -108,24 +106,40 @@ pub const KIND_PASTE_PART: u8 = 14;
 pub const KIND_STRING_PART: u8 = 15;
 /// A string that was cut off before its end.
 pub const KIND_STRING_CUT: u8 = 16;
-/// One of the mouse buttons 8 to 11 was pressed, released or dragged.
-pub const KIND_SIDE_BUTTON: u8 = 17;
 // numbers.txt: end
 
-// numbers.txt: protocol const
-/// For programs that leave Kitty's keyboard protocol off: each entry keeps its key.
-pub const PROTOCOL_LEGACY: u32 = 0;
-/// For programs that turn it on: an entry that reports a key or the cursor's position is read as that report.
-pub const PROTOCOL_KITTY: u32 = 1;
+// numbers.txt: dialect const
+/// What terminals send in any mode. For every program.
+pub const DIALECT_EXTENDED: u32 = 0;
+/// What termwiz reads, and nothing else: the other fields of a reading say nothing then.
+pub const DIALECT_TERMWIZ: u32 = 1;
 // numbers.txt: end
 
-// numbers.txt: side_button const
-/// It was pressed.
-pub const SIDE_BUTTON_PRESS: u8 = 1;
-/// It was released. Only SGR reports (mode 1006) tell which button was.
-pub const SIDE_BUTTON_RELEASE: u8 = 2;
-/// The mouse was moved while it was down.
-pub const SIDE_BUTTON_DRAG: u8 = 3;
+// numbers.txt: erase const
+/// 127, as most terminals send it. Byte 8 is Ctrl-H.
+pub const ERASE_DELETE: u32 = 0;
+/// 8. Byte 127 is Ctrl-Backspace.
+pub const ERASE_BACKSPACE: u32 = 1;
+// numbers.txt: end
+
+// numbers.txt: newline const
+/// Ctrl-J. The Enter key sends the byte 13.
+pub const NEWLINE_CTRL_J: u32 = 0;
+/// The Enter key: the terminal's settings turn CR into it (ICRNL), or the input is no terminal.
+pub const NEWLINE_ENTER: u32 = 1;
+// numbers.txt: end
+
+// numbers.txt: mouse_kind const
+/// A button was pressed.
+pub const MOUSE_KIND_PRESS: u8 = 1;
+/// A button was released. Only SGR reports (mode 1006) tell which.
+pub const MOUSE_KIND_RELEASE: u8 = 2;
+/// The mouse was moved while a button was down.
+pub const MOUSE_KIND_DRAG: u8 = 3;
+/// The mouse was moved, and no button is down.
+pub const MOUSE_KIND_MOVE: u8 = 4;
+/// A wheel was turned.
+pub const MOUSE_KIND_WHEEL: u8 = 5;
 // numbers.txt: end
 
 // numbers.txt: key_event_kind const
@@ -405,7 +419,7 @@ pub struct Policy {
 
 /// A mouse report that is sent.
 #[repr(C)]
-pub struct MouseReport {
+pub struct SentMouse {
     pub x: u16,
     pub y: u16,
     pub modifiers: u16,
@@ -531,6 +545,18 @@ pub struct KeyReport {
     pub base: u32,
 }
 
+/// A mouse report that was read.
+#[repr(C)]
+#[derive(Clone, Copy, Default)]
+pub struct MouseReport {
+    pub kind: u8,
+    pub button: u8,
+    pub buttons: u8,
+    pub modifiers: u16,
+    pub x: u16,
+    pub y: u16,
+}
+
 /// A key, and the modifiers held with it.
 #[repr(C)]
 #[derive(Clone, Copy, Default, PartialEq, Eq, Hash)]
@@ -588,7 +614,7 @@ pub struct ExtendedEvent {
     pub height: u16,
     pub width: u16,
     pub report: KeyReport,
-    pub input: Event,
+    pub mouse: MouseReport,
     pub text_len: usize,
 }
 
@@ -596,7 +622,9 @@ pub struct ExtendedEvent {
 #[repr(C)]
 #[derive(Clone, Copy, Default)]
 pub struct Reading {
-    pub protocol: u32,
+    pub dialect: u32,
+    pub erase: u32,
+    pub newline: u32,
     pub x10_mouse: bool,
     pub questions: u8,
 }
@@ -659,16 +687,22 @@ const _: () = {
             && offset_of!(KeyPress, detail) == 4
     );
     assert!(
-        size_of::<ExtendedEvent>() == 64
+        size_of::<ExtendedEvent>() == 56
             && offset_of!(ExtendedEvent, row) == 2
             && offset_of!(ExtendedEvent, width) == 12
     );
-    assert!(offset_of!(ExtendedEvent, report) == 16 && offset_of!(ExtendedEvent, input) == 32);
-    assert!(offset_of!(ExtendedEvent, text_len) == 56);
+    assert!(offset_of!(ExtendedEvent, report) == 16 && offset_of!(ExtendedEvent, mouse) == 32);
+    assert!(offset_of!(ExtendedEvent, text_len) == 48);
     assert!(
-        size_of::<Reading>() == 8
-            && offset_of!(Reading, x10_mouse) == 4
-            && offset_of!(Reading, questions) == 5
+        size_of::<MouseReport>() == 10
+            && offset_of!(MouseReport, modifiers) == 4
+            && offset_of!(MouseReport, y) == 8
+    );
+    assert!(
+        size_of::<Reading>() == 16
+            && offset_of!(Reading, erase) == 4
+            && offset_of!(Reading, x10_mouse) == 12
+            && offset_of!(Reading, questions) == 13
     );
     assert!(
         size_of::<Reply>() == 32
@@ -731,15 +765,15 @@ extern "C" {
         found: *mut Match,
     ) -> u32;
     pub fn hed_keymap_len(map: *mut KeyMap) -> usize;
-    pub fn hed_extended_init(parser: *mut Extended, protocol: u32) -> bool;
+    pub fn hed_extended_init(parser: *mut Extended, dialect: u32) -> bool;
     pub fn hed_extended_init_sharing(
         parser: *mut Extended,
-        protocol: u32,
+        dialect: u32,
         other: *mut Extended,
     ) -> bool;
     pub fn hed_extended_init_sharing_parser(
         parser: *mut Extended,
-        protocol: u32,
+        dialect: u32,
         other: *mut Parser,
     ) -> bool;
     pub fn hed_extended_free(parser: *mut Extended);
@@ -794,7 +828,7 @@ extern "C" {
         sent_len: *mut usize,
     ) -> u32;
     pub fn hed_encode_mouse(
-        report: *const MouseReport,
+        report: *const SentMouse,
         tracking: u32,
         encoding: u32,
         out: *mut u8,

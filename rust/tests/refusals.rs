@@ -5,8 +5,8 @@
 mod malloc;
 
 use hedrugal::extended::{
-    BindErrorKind, Bindings, Chord, EncodeEventError, ExtendedEvent, ExtendedParser, KeyEventKind,
-    KeyReport, KittyEncodeError, KittyModifiers, Protocol, Reading, ReportedKey, StringKind,
+    BindErrorKind, Bindings, Chord, Dialect, EncodeEventError, Event, ExtendedParser, KeyEventKind,
+    KeyReport, KittyEncodeError, KittyModifiers, Reading, ReportedKey, StringKind,
 };
 use hedrugal::input::{try_encode_paste, MouseButton, MouseEncoding, MouseError};
 use hedrugal::input::{
@@ -122,8 +122,8 @@ const REPLIES: &[u8] =
 
 // Reads these in pieces by the extended parser with one request refused. Returns the events, and
 // how many refusals were told.
-fn read_replies(piece: usize, number: usize) -> (Vec<ExtendedEvent>, usize) {
-    let mut parser = ExtendedParser::new(Protocol::Kitty);
+fn read_replies(piece: usize, number: usize) -> (Vec<Event>, usize) {
+    let mut parser = ExtendedParser::new(Dialect::Extended);
     let mut events = Vec::with_capacity(64);
     let (told, refused) = refusing(number, || {
         let mut told = 0;
@@ -165,7 +165,7 @@ fn goes_on_with_the_extended_parser() {
 fn answers_each_question_once_after_a_refusal() {
     let bytes = b"\x1b[1;5R\x1b]4;\x07\x1b[1;5R\x1b[?1;5c\x1b[1;5R";
     for number in 1.. {
-        let mut parser = ExtendedParser::new(Protocol::Legacy);
+        let mut parser = ExtendedParser::new(Dialect::Extended);
         parser.expect_position();
         parser.expect_position();
         let (first, refused) = refusing(number, || parser.try_parse_as_vec(bytes, true));
@@ -178,10 +178,10 @@ fn answers_each_question_once_after_a_refusal() {
                 events
             }
         };
-        let position = ExtendedEvent::CursorPosition { row: 1, column: 5 };
+        let position = Event::CursorPosition { row: 1, column: 5 };
         let is_position: Vec<bool> = events.iter().map(|event| *event == position).collect();
         assert_eq!(is_position, [true, false, true, false, false]);
-        assert_eq!(parser.reading(), Reading::new(Protocol::Legacy));
+        assert_eq!(parser.reading(), Reading::new(Dialect::Extended));
         if refused == 0 {
             assert!(number > 3);
             break;
@@ -191,11 +191,11 @@ fn answers_each_question_once_after_a_refusal() {
 
 #[test]
 fn changes_a_reading_without_memory() {
-    let mut parser = ExtendedParser::new(Protocol::Legacy);
+    let mut parser = ExtendedParser::new(Dialect::Extended);
     let reading = Reading {
-        protocol: Protocol::Kitty,
         x10_mouse: true,
         questions: 3,
+        ..Reading::new(Dialect::Extended)
     };
     assert_eq!(refusing(1, || parser.set_reading(reading)).1, 0);
     assert_eq!(refusing(1, || parser.reading()), (reading, 0));
@@ -210,14 +210,14 @@ fn changes_a_reading_without_memory() {
 #[test]
 fn reads_replies_after_a_refusal() {
     for event in [
-        ExtendedEvent::Csi(b"?62;4;22c".to_vec()),
-        ExtendedEvent::Csi(b">41;379;0c".to_vec()),
-        ExtendedEvent::Csi(b"?25;1$y".to_vec()),
-        ExtendedEvent::Dcs(b"!|7E565445".to_vec()),
-        ExtendedEvent::Dcs(b">|XTerm(379)".to_vec()),
-        ExtendedEvent::Dcs(b">|a\xff".to_vec()),
-        ExtendedEvent::Osc(b"11;rgb:0/0/0".to_vec()),
-        ExtendedEvent::Osc(b"52;c;Y2xpcA==".to_vec()),
+        Event::Csi(b"?62;4;22c".to_vec()),
+        Event::Csi(b">41;379;0c".to_vec()),
+        Event::Csi(b"?25;1$y".to_vec()),
+        Event::Dcs(b"!|7E565445".to_vec()),
+        Event::Dcs(b">|XTerm(379)".to_vec()),
+        Event::Dcs(b">|a\xff".to_vec()),
+        Event::Osc(b"11;rgb:0/0/0".to_vec()),
+        Event::Osc(b"52;c;Y2xpcA==".to_vec()),
     ] {
         let whole = event.reply();
         assert!(whole.is_some());
@@ -585,7 +585,7 @@ fn cuts_a_string_in_time_after_a_refusal() {
     let start = Instant::now();
     let due = start + Duration::from_millis(5008);
     for number in 1.. {
-        let mut parser = ExtendedParser::new(Protocol::Legacy);
+        let mut parser = ExtendedParser::new(Dialect::Extended);
         assert_eq!(parser.parse_as_vec(b"\x1b]11;rgb", true), []);
         assert_eq!(parser.timeout(start), Some(due - start));
         let mut events = Vec::with_capacity(1);
@@ -596,7 +596,7 @@ fn cuts_a_string_in_time_after_a_refusal() {
             assert_eq!(parser.timeout(due), Some(Duration::ZERO));
             assert_eq!(parser.expire(due, |event| events.push(event)), Ok(()));
         }
-        let cut = ExtendedEvent::StringCut {
+        let cut = Event::StringCut {
             kind: StringKind::Osc,
             bytes: b"11;rgb".to_vec(),
         };
@@ -642,7 +642,7 @@ fn check_new<Parser>(make: fn() -> Result<Parser, AllocError>) {
 #[test]
 fn makes_a_parser_after_a_refusal() {
     check_new(InputParser::try_new);
-    check_new(|| ExtendedParser::try_new(Protocol::Legacy));
+    check_new(|| ExtendedParser::try_new(Dialect::Extended));
 }
 
 #[test]
@@ -729,7 +729,7 @@ fn sends_pastes_and_mouse_reports_after_a_refusal() {
 
 #[test]
 fn writes_events_after_a_refusal() {
-    let mut parser = ExtendedParser::new(Protocol::Legacy);
+    let mut parser = ExtendedParser::new(Dialect::Extended);
     for written in [
         &b"\x1b[A"[..],
         b"\x1b[<0;1;1M",
@@ -844,7 +844,7 @@ impl Session for InputParser {
 
 impl Session for ExtendedParser {
     fn make() -> Self {
-        ExtendedParser::new(Protocol::Kitty)
+        ExtendedParser::new(Dialect::Extended)
     }
 
     fn read(&mut self, bytes: &[u8]) -> usize {

@@ -10,7 +10,7 @@
 //! What is typed meanwhile comes as events like any other. This program counts them; an editor would
 //! handle them. The terminal is restored whenever the program ends, also by SIGHUP, SIGINT, SIGQUIT
 //! and SIGTERM. A SIGTSTP stops it once the terminal is restored.
-use hedrugal::extended::ExtendedEvent;
+use hedrugal::extended;
 use hedrugal::terminal::{Answers, Event, Terminal};
 use std::io;
 use std::process::ExitCode;
@@ -20,16 +20,16 @@ const QUESTIONS: &str = "\x1b[6n\x1b]11;?\x1b\\\x1b[?u";
 const LONGEST_WAIT: Duration = Duration::from_secs(1);
 
 /// Returns a line for a reply that was asked for.
-fn line(reply: &ExtendedEvent) -> Option<String> {
+fn line(reply: &extended::Event) -> Option<String> {
     Some(match reply {
-        ExtendedEvent::CursorPosition { row, column } => {
+        extended::Event::CursorPosition { row, column } => {
             format!("cursor in row {row}, column {column}")
         }
-        ExtendedEvent::Osc(bytes) if bytes.starts_with(b"11;") => {
+        extended::Event::Osc(bytes) if bytes.starts_with(b"11;") => {
             format!("background {}", bytes[3..].escape_ascii())
         }
-        ExtendedEvent::KeyboardFlags(flags) => format!("keyboard flags {flags}"),
-        ExtendedEvent::Csi(bytes) if bytes.starts_with(b"?") && bytes.ends_with(b"c") => {
+        extended::Event::KeyboardFlags(flags) => format!("keyboard flags {flags}"),
+        extended::Event::Csi(bytes) if bytes.starts_with(b"?") && bytes.ends_with(b"c") => {
             format!("attributes {}", bytes.escape_ascii())
         }
         _ => return None,

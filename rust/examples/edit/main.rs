@@ -15,8 +15,8 @@ mod text;
 
 use chords::Chords;
 use commands::{Command, FileError};
-use hedrugal::extended::{typed_text, Bindings, ExtendedEvent, KeyPress, KeyReport};
-use hedrugal::input::{InputEvent, KittyKeyboardFlags};
+use hedrugal::extended::{self, typed_text, Bindings, KeyPress, KeyReport};
+use hedrugal::input::KittyKeyboardFlags;
 use hedrugal::terminal::{Event, Modes, Terminal};
 use screen::Screen;
 use std::io;
@@ -69,12 +69,11 @@ impl Edit {
 
     fn handle(&mut self, event: &Event) -> io::Result<bool> {
         match event {
-            Event::Input(ExtendedEvent::Input(InputEvent::Paste(text))) => self.insert(text),
-            Event::PastePart(text) => self.insert(text),
-            event => match event.key() {
-                Some(report) => self.handle_key(&report),
-                None => Ok(true),
-            },
+            Event::Input(extended::Event::Key(report)) => self.handle_key(report),
+            Event::Input(extended::Event::Paste(text)) | Event::PastePart(text) => {
+                self.insert(text)
+            }
+            _ => Ok(true),
         }
     }
 

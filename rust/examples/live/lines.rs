@@ -1,55 +1,62 @@
 //! The lines that the live programs print.
-use hedrugal::extended::ExtendedEvent;
-use hedrugal::input::{InputEvent, KeyCode, KeyEvent, Modifiers, MouseEvent, MouseTracking};
+use hedrugal::extended::{self, KeyEventKind, KeyReport, KittyModifiers, MouseReport, ReportedKey};
+use hedrugal::input::{KeyCode, Modifiers, MouseTracking};
 use hedrugal::terminal::{Event, Modes, Terminal};
 use std::io::{self, Write};
 use std::process::ExitCode;
 
-fn with_modifiers(mut line: String, modifiers: Modifiers) -> String {
+fn key_line(report: &KeyReport) -> String {
+    let mut line = match report.key {
+        ReportedKey::Named(KeyCode::Char(c)) => format!("Char U+{:04X}", u32::from(c)),
+        ReportedKey::Named(KeyCode::Function(number)) => format!("Function {number}"),
+        ReportedKey::Named(named) => format!("{named:?}"),
+        ReportedKey::Functional(number) => format!("Functional {number}"),
+    };
+    for (flag, name) in [
+        (KittyModifiers::SHIFT, " shift"),
+        (KittyModifiers::ALT, " alt"),
+        (KittyModifiers::CTRL, " ctrl"),
+        (KittyModifiers::SUPER, " super"),
+    ] {
+        if report.modifiers.contains(flag) {
+            line.push_str(name);
+        }
+    }
+    line.push_str(match report.kind {
+        KeyEventKind::Press => "",
+        KeyEventKind::Repeat => " repeat",
+        KeyEventKind::Release => " release",
+    });
+    line
+}
+
+fn mouse_line(report: &MouseReport) -> String {
+    let (x, y, buttons) = (report.x, report.y, report.buttons.bits());
+    let mut line = format!("mouse at {x}, {y}, buttons {buttons}");
     for (flag, name) in [
         (Modifiers::SHIFT, " shift"),
         (Modifiers::ALT, " alt"),
         (Modifiers::CTRL, " ctrl"),
     ] {
-        if modifiers.contains(flag) {
+        if report.modifiers.contains(flag) {
             line.push_str(name);
         }
     }
     line
 }
 
-fn key_line(event: &KeyEvent) -> String {
-    let key = match event.key {
-        KeyCode::Char(c) => format!("Char U+{:04X}", u32::from(c)),
-        KeyCode::Function(number) => format!("Function {number}"),
-        named => format!("{named:?}"),
-    };
-    with_modifiers(key, event.modifiers)
-}
-
-fn mouse_line(event: &MouseEvent) -> String {
-    let report = format!(
-        "mouse at {}, {}, buttons {}",
-        event.x,
-        event.y,
-        event.mouse_buttons.bits()
-    );
-    with_modifiers(report, event.modifiers)
-}
-
-fn input_line(event: &InputEvent) -> String {
+fn input_line(event: &extended::Event) -> String {
     match event {
-        InputEvent::Key(key) => key_line(key),
-        InputEvent::Mouse(mouse) => mouse_line(mouse),
-        InputEvent::Paste(text) => format!("paste of {} bytes", text.len()),
+        extended::Event::Key(report) => key_line(report),
+        extended::Event::Mouse(report) => mouse_line(report),
+        extended::Event::Paste(text) => format!("paste of {} bytes", text.len()),
         other => format!("{other:?}"),
     }
 }
 
 fn line(event: &Event) -> Option<String> {
     Some(match event {
-        Event::Input(ExtendedEvent::Input(event)) => input_line(event),
-        Event::Input(other) => format!("{other:?}"),
+        Event::Input(event) => input_line(event),
         Event::PastePart(text) => format!("part of a paste, {} bytes", text.len()),
         Event::Resized { columns, rows } => format!("size {columns} x {rows}"),
         Event::Resumed => return None,

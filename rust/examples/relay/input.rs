@@ -1,9 +1,9 @@
 //! What the child gets for the events of its terminal, in the modes that it set.
 use crate::keys::key_text;
 use crate::modes::ChildModes;
-use crate::mouse::{gets_side_button, Mouse};
-use hedrugal::extended::{encode_cursor_position, ExtendedEvent, ExtendedParser};
-use hedrugal::input::{encode_paste, InputEvent, KeyCode, KeyEvent};
+use crate::mouse::mouse_bytes;
+use hedrugal::extended::{encode_cursor_position, Event, ExtendedParser, KeyReport, ReportedKey};
+use hedrugal::input::{encode_paste, KeyCode};
 
 const PASTE_START: &str = "\x1b[200~";
 const PASTE_END: &str = "\x1b[201~";
@@ -18,39 +18,38 @@ struct OpenPaste {
 /// Writes events for the child.
 #[derive(Default)]
 pub struct Sender {
-    mouse: Mouse,
     paste: Option<OpenPaste>,
     /// The next string is the rest of one that was too long.
     is_rest: bool,
+    /// The terminal tells keys by Kitty's protocol.
+    has_kitty: bool,
 }
 
 impl Sender {
     /// Returns what the child gets for an event of the terminal's parser.
-    pub fn bytes(
-        &mut self,
-        event: &ExtendedEvent,
-        modes: &ChildModes,
-        parser: &ExtendedParser,
-    ) -> Vec<u8> {
+    pub fn bytes(&mut self, event: &Event, modes: &ChildModes, parser: &ExtendedParser) -> Vec<u8> {
         match event {
-            ExtendedEvent::Input(InputEvent::Mouse(mouse)) => self.mouse.bytes(mouse, modes),
-            ExtendedEvent::Input(InputEvent::Paste(text)) => self.paste_end(text, modes.paste),
+            Event::Mouse(report) => mouse_bytes(report, modes, parser),
+            Event::Paste(text) => self.paste_end(text, modes.paste),
             // The start of its paste came too slowly, and was passed on as keys.
-            ExtendedEvent::Input(InputEvent::Key(KeyEvent {
-                key: KeyCode::InternalPasteEnd,
+            Event::Key(KeyReport {
+                key: ReportedKey::Named(KeyCode::InternalPasteEnd),
                 ..
-            })) if modes.paste => PASTE_END.into(),
-            ExtendedEvent::SideButton(button) if !gets_side_button(button, modes) => Vec::new(),
-            ExtendedEvent::FocusGained | ExtendedEvent::FocusLost if !modes.focus => Vec::new(),
-            ExtendedEvent::CursorPosition { row, column } => {
+            }) if modes.paste => PASTE_END.into(),
+            Event::Key(report) => {
+                let erase = parser.reading().erase;
+                key_text(report, modes, self.has_kitty, erase).into_bytes()
+            }
+            Event::FocusGained | Event::FocusLost if !modes.focus => Vec::new(),
+            Event::CursorPosition { row, column } => {
                 encode_cursor_position(*row, *column, modes.asks_privately)
             }
             // The reply to a question of this program's own.
-            ExtendedEvent::KeyboardFlags(_) => Vec::new(),
-            event => match key_text(event, modes, parser.protocol()) {
-                Some(text) => text.into_bytes(),
-                None => self.reply(event, parser),
-            },
+            Event::KeyboardFlags(_) => {
+                self.has_kitty = true;
+                Vec::new()
+            }
+            event => self.reply(event, parser),
         }
     }
 
@@ -80,15 +79,10 @@ impl Sender {
         }
     }
 
-    /// Forgets which buttons are down.
-    pub fn forget_mouse(&mut self) {
-        self.mouse = Mouse::default();
-    }
-
     /// Returns a reply or another sequence as the terminal sent it. One that was cut off, or is
     /// longer than the parser's limit, isn't passed on.
-    fn reply(&mut self, event: &ExtendedEvent, parser: &ExtendedParser) -> Vec<u8> {
-        let is_part = matches!(event, ExtendedEvent::StringPart { .. });
+    fn reply(&mut self, event: &Event, parser: &ExtendedParser) -> Vec<u8> {
+        let is_part = matches!(event, Event::StringPart { .. });
         let is_rest = std::mem::replace(&mut self.is_rest, is_part);
         if is_rest {
             return Vec::new();

@@ -1,8 +1,6 @@
 //! What the child gets for a key.
 use crate::modes::ChildModes;
-use hedrugal::extended::{
-    typed_text, ExtendedEvent, KeyPress, KeyReport, KittyModifiers, Protocol, ReportedKey,
-};
+use hedrugal::extended::{typed_text, EraseByte, KeyPress, KeyReport, KittyModifiers, ReportedKey};
 use hedrugal::input::{KeyCode, KeyCodeEncodeModes, KittyKeyboardFlags, Modifiers};
 
 /// The keys of the keypad, and what each sends after ESC `O` in the keypad's application mode. Out
@@ -28,39 +26,68 @@ const KEYPAD: [(ReportedKey, char); 18] = [
     (ReportedKey::Named(KeyCode::Numpad9), 'y'),
 ];
 
-/// Returns what a key sends in the child's modes, nothing for one that they don't tell, and `None`
-/// for an event that is no key. The protocol is that of the terminal.
-pub fn key_text(event: &ExtendedEvent, modes: &ChildModes, protocol: Protocol) -> Option<String> {
-    let report = event.key()?;
-    Some(match modes.kitty_flags() {
-        KittyKeyboardFlags::NONE => legacy_text(&report, modes, protocol),
-        flags => kitty_text(event, report, flags),
-    })
+/// Returns what a key sends in the child's modes, and nothing for one that they don't tell.
+/// `has_kitty` is whether the terminal tells keys by Kitty's protocol. `erase` is what Backspace sends
+/// by the settings of the terminal, which are the child's too.
+pub fn key_text(
+    report: &KeyReport,
+    modes: &ChildModes,
+    has_kitty: bool,
+    erase: EraseByte,
+) -> String {
+    let text = match modes.kitty_flags() {
+        KittyKeyboardFlags::NONE => legacy_text(report, modes, has_kitty),
+        flags => kitty_text(report.clone(), flags),
+    };
+    let press = KeyPress::of_report(report);
+    let is_backspace = press.is_some_and(|it| it.key() == ReportedKey::Named(KeyCode::Backspace));
+    if is_backspace && erase == EraseByte::Backspace {
+        swapped(&text)
+    } else {
+        text
+    }
+}
+
+/// Backspace sends one of these two bytes, and with Ctrl the other one.
+fn swapped(text: &str) -> String {
+    let other = |c| match c {
+        '\x08' => '\x7f',
+        '\x7f' => '\x08',
+        c => c,
+    };
+    text.chars().map(other).collect()
 }
 
 /// Returns what a key sends by Kitty's protocol.
-fn kitty_text(event: &ExtendedEvent, mut report: KeyReport, flags: KittyKeyboardFlags) -> String {
-    // A terminal without the protocol tells no text, but it is known what the key types.
-    if let ExtendedEvent::Input(_) = event {
-        let press = KeyPress::of_report(&report);
-        report.text.extend(press.and_then(KeyPress::text));
+fn kitty_text(mut report: KeyReport, flags: KittyKeyboardFlags) -> String {
+    if let Some(press) = KeyPress::of_report(&report) {
+        // A terminal without the protocol tells no text, but it is known what the key types. It
+        // doesn't tell which key sends a control character either.
+        if report.text.is_empty() {
+            report.text.extend(press.text());
+        }
+        if matches!(report.key, ReportedKey::Named(KeyCode::Char(c)) if c.is_ascii_control()) {
+            report.key = press.key();
+            report.modifiers |= press.held();
+        }
     }
     report.encode(flags).unwrap_or_default()
 }
 
 /// Returns what a key sends without the protocol.
-fn legacy_text(report: &KeyReport, modes: &ChildModes, protocol: Protocol) -> String {
+fn legacy_text(report: &KeyReport, modes: &ChildModes, has_kitty: bool) -> String {
     let Some(press) = KeyPress::of_report(report) else {
         return typed_text(report).to_string();
     };
     if let Some(letter) = keypad_letter(report).filter(|_| modes.keys.keypad) {
         return format!("\x1bO{letter}");
     }
-    let is_other = matches!(report.key, ReportedKey::Named(KeyCode::Char(c)) if !c.is_ascii());
     // Ctrl and a letter of another script is Ctrl and the Latin letter at that place.
+    let is_other = matches!(report.key, ReportedKey::Named(KeyCode::Char(c)) if !c.is_ascii());
+    let has_place = is_other && report.base.is_some();
     let second =
-        KeyPress::second(report).filter(|it| is_other && it.held().contains(KittyModifiers::CTRL));
-    press_text(second.unwrap_or(press), modes.key_encoding(protocol)).unwrap_or_default()
+        KeyPress::second(report).filter(|it| has_place && it.held().contains(KittyModifiers::CTRL));
+    press_text(second.unwrap_or(press), modes.key_encoding(has_kitty)).unwrap_or_default()
 }
 
 /// Returns what a press sends. SUPER, HYPER and META can't be told, and a shortcut with one of them

@@ -22,7 +22,7 @@ mod terminal;
 mod unix;
 
 use hedrugal::extended::{
-    DeviceAttributes, ExtendedEvent, ExtendedParser, ExtendedWaiting, Protocol, Reading, Reply,
+    DeviceAttributes, Dialect, Event, ExtendedParser, ExtendedWaiting, Reply,
 };
 use hedrugal::terminal::Heeded;
 use input::Sender;
@@ -108,7 +108,7 @@ impl Relay {
             status: 1,
             says: format!("the terminal can't be opened: {error}"),
         })?;
-        let parser = ExtendedParser::try_new(Protocol::Legacy).map_err(io::Error::other)?;
+        let mut parser = ExtendedParser::try_new(Dialect::Extended).map_err(io::Error::other)?;
         let child = PtyChild::start(words, &settings, size).map_err(|error| Failure {
             status: if error.kind() == ErrorKind::NotFound {
                 127
@@ -117,6 +117,8 @@ impl Relay {
             },
             says: format!("{}: {error}", words[0].to_string_lossy()),
         })?;
+        let terminal = Terminal::enter(&settings)?;
+        parser.set_reading(terminal.guard.reading());
         Ok(Relay {
             parser,
             cut_at: None,
@@ -124,7 +126,7 @@ impl Relay {
             output: Output::default(),
             child,
             ended: None,
-            terminal: Terminal::enter(&settings)?,
+            terminal,
             wanted: Wanted::default(),
             screen,
             to_terminal: Vec::new(),
@@ -234,7 +236,6 @@ impl Relay {
     /// Goes on after another program had the terminal. A paste or a string stays open, and a reply
     /// would be a part of it. Nothing else that came before counts.
     fn resume(&mut self) {
-        self.sender.forget_mouse();
         match self.parser.waiting() {
             ExtendedWaiting::Paste | ExtendedWaiting::String => {
                 self.parser.forget_positions();
@@ -285,15 +286,9 @@ impl Relay {
         expired.map_err(io::Error::other)
     }
 
-    fn handle(&mut self, event: &ExtendedEvent) {
-        if !matches!(event, ExtendedEvent::StringPart { .. }) {
+    fn handle(&mut self, event: &Event) {
+        if !matches!(event, Event::StringPart { .. }) {
             self.cut_at = None; // what was open comes before all else
-        }
-        if let ExtendedEvent::KeyboardFlags(_) = event {
-            self.parser.set_reading(Reading {
-                protocol: Protocol::Kitty,
-                ..self.parser.reading()
-            });
         }
         if is_attributes(event) && !self.terminal.note_attributes() {
             return;
@@ -339,7 +334,7 @@ impl Relay {
     }
 }
 
-fn is_attributes(event: &ExtendedEvent) -> bool {
+fn is_attributes(event: &Event) -> bool {
     let primary = DeviceAttributes::Primary;
     matches!(event.reply(), Some(Reply::DeviceAttributes { report, .. }) if report == primary)
 }

@@ -1,6 +1,5 @@
 //! The modes that a child sets for its input, by the sequences that it writes. Those of xterm are
 //! in its list of control sequences, and Kitty's keyboard flags on the page of that protocol.
-use hedrugal::extended::Protocol;
 use hedrugal::input::{
     KeyCodeEncodeModes, KeyboardEncoding, KittyKeyboardFlags, MouseEncoding, MouseTracking,
 };
@@ -298,11 +297,11 @@ impl ChildModes {
 
     /// Returns how keys are sent without Kitty's flags. Newline mode is the terminal's too, so it adds
     /// the line feed itself, unless it tells Enter by Kitty's protocol.
-    pub fn key_encoding(&self, protocol: Protocol) -> KeyCodeEncodeModes {
+    pub fn key_encoding(&self, has_kitty: bool) -> KeyCodeEncodeModes {
         KeyCodeEncodeModes {
             encoding: KeyboardEncoding::Xterm,
             application_cursor_keys: self.keys.cursor,
-            newline_mode: self.keys.newline && protocol == Protocol::Kitty,
+            newline_mode: self.keys.newline && has_kitty,
             modify_other_keys: self.keys.modify_other_keys,
         }
     }

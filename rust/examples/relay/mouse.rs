@@ -1,81 +1,81 @@
 //! What the child gets for a mouse report.
 use crate::modes::ChildModes;
-use hedrugal::extended::{SideButtonEvent, SideButtonKind};
-use hedrugal::input::{
-    Modifiers, MouseButton, MouseButtons, MouseEncoding, MouseEvent, MouseReport, MouseTracking,
-};
+use hedrugal::extended::{Event, ExtendedParser, MouseKind, MouseReport};
+use hedrugal::input::{self, Modifiers, MouseButton, MouseEncoding, MouseTracking};
 
-/// The mouse of the terminal: the buttons that are down, in the order in which they were pressed.
-#[derive(Default)]
-pub struct Mouse {
-    held: Vec<MouseButtons>,
+/// Returns what the child gets for a report.
+pub fn mouse_bytes(report: &MouseReport, modes: &ChildModes, parser: &ExtendedParser) -> Vec<u8> {
+    let Some(tracking) = modes.mouse_tracking() else {
+        return Vec::new();
+    };
+    let encoding = modes.mouse_encoding();
+    let sent = match button_of(report) {
+        Some(button) => {
+            let sent = input::MouseReport {
+                x: report.x,
+                y: report.y,
+                button,
+                modifiers: report.modifiers,
+            };
+            // A place that the child's encoding can't tell isn't sent.
+            sent.encode(tracking, encoding).ok()
+        }
+        None if gets_side_button(report, tracking, encoding) => {
+            Event::Mouse(*report).encode(parser).ok()
+        }
+        None => None,
+    };
+    sent.unwrap_or_default()
 }
 
-impl Mouse {
-    /// Returns what the child gets for an event.
-    pub fn bytes(&mut self, event: &MouseEvent, modes: &ChildModes) -> Vec<u8> {
-        let Some(tracking) = modes.mouse_tracking() else {
-            self.held.clear();
-            return Vec::new();
-        };
-        let report = MouseReport {
-            x: event.x,
-            y: event.y,
-            button: self.button(event.mouse_buttons, tracking),
-            modifiers: event.modifiers,
-        };
-        // A place that the child's encoding can't tell isn't sent.
-        let sent = report.encode(tracking, modes.mouse_encoding());
-        sent.unwrap_or_default()
-    }
-
-    /// Returns what happened to which button. An event only says which one is down, so a second
-    /// event of a button that is down is a drag. If two are down, the one that was pressed last
-    /// counts as released first.
-    fn button(&mut self, buttons: MouseButtons, tracking: MouseTracking) -> MouseButton {
-        let has_drags = matches!(tracking, MouseTracking::Button | MouseTracking::Any);
-        if buttons.is_empty() {
-            let released = self.held.pop();
-            return released.map_or(MouseButton::None, |it| actions(it)[1]);
-        }
-        let is_down = self.held.contains(&buttons);
-        let [press, _, drag] = actions(buttons);
-        if is_down && has_drags {
-            return drag;
-        }
-        if !is_down && press != drag {
-            self.held.push(buttons);
-        }
-        press
-    }
-}
-
-/// Press, release and drag of a button. A wheel has only the first.
-fn actions(button: MouseButtons) -> [MouseButton; 3] {
-    use MouseButton::*;
-    let is_positive = button.contains(MouseButtons::WHEEL_POSITIVE);
-    if button.contains(MouseButtons::VERT_WHEEL) {
-        [[Button5Press, Button4Press][usize::from(is_positive)]; 3]
-    } else if button.contains(MouseButtons::HORZ_WHEEL) {
-        [[Button7Press, Button6Press][usize::from(is_positive)]; 3]
-    } else if button.contains(MouseButtons::LEFT) {
-        [Button1Press, Button1Release, Button1Drag]
-    } else if button.contains(MouseButtons::MIDDLE) {
-        [Button2Press, Button2Release, Button2Drag]
-    } else {
-        [Button3Press, Button3Release, Button3Drag]
-    }
+/// Returns what happened to which button, but for a side button. The terminal reports by mode 1006,
+/// where each release names its button.
+fn button_of(report: &MouseReport) -> Option<MouseButton> {
+    use MouseButton::{
+        Button1Drag, Button1Press, Button1Release, Button2Drag, Button2Press, Button2Release,
+        Button3Drag, Button3Press, Button3Release, Button4Press, Button4Release, Button5Press,
+        Button5Release, Button6Press, Button6Release, Button7Press, Button7Release,
+    };
+    let presses = [
+        Button1Press,
+        Button2Press,
+        Button3Press,
+        Button4Press,
+        Button5Press,
+        Button6Press,
+        Button7Press,
+    ];
+    let releases = [
+        Button1Release,
+        Button2Release,
+        Button3Release,
+        Button4Release,
+        Button5Release,
+        Button6Release,
+        Button7Release,
+    ];
+    let actions: &[MouseButton] = match report.kind {
+        MouseKind::Press | MouseKind::Wheel => &presses,
+        MouseKind::Release => &releases,
+        MouseKind::Drag => &[Button1Drag, Button2Drag, Button3Drag],
+        MouseKind::Move => return Some(MouseButton::None),
+    };
+    let place = report.button?.checked_sub(1)?;
+    actions.get(usize::from(place)).copied()
 }
 
 /// Whether the child gets a report of a side button. Only by mode 1006 such a report is written.
-pub fn gets_side_button(button: &SideButtonEvent, modes: &ChildModes) -> bool {
-    let is_tracked = match modes.mouse_tracking() {
-        None => false,
-        Some(MouseTracking::X10) => {
-            button.kind == SideButtonKind::Press && button.modifiers == Modifiers::NONE
+fn gets_side_button(
+    report: &MouseReport,
+    tracking: MouseTracking,
+    encoding: MouseEncoding,
+) -> bool {
+    let is_tracked = match tracking {
+        MouseTracking::X10 => {
+            report.kind == MouseKind::Press && report.modifiers == Modifiers::NONE
         }
-        Some(MouseTracking::Normal) => button.kind != SideButtonKind::Drag,
-        Some(MouseTracking::Button | MouseTracking::Any) => true,
+        MouseTracking::Normal => report.kind != MouseKind::Drag,
+        MouseTracking::Button | MouseTracking::Any => true,
     };
-    is_tracked && modes.mouse_encoding() == MouseEncoding::Sgr
+    is_tracked && encoding == MouseEncoding::Sgr
 }

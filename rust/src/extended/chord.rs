@@ -43,11 +43,11 @@ impl Chord {
     /// Returns a chord without presses.
     ///
     /// ```
-    /// use hedrugal::extended::{Chord, ExtendedParser, KeyPress, Protocol};
+    /// use hedrugal::extended::{Chord, Dialect, ExtendedParser, KeyPress};
     ///
     /// let mut chord = Chord::new();
-    /// for event in ExtendedParser::new(Protocol::Legacy).parse_as_vec(b"\x18\x13", true) {
-    ///     let press = KeyPress::of_report(&event.key().unwrap()).unwrap();
+    /// for event in ExtendedParser::new(Dialect::Extended).parse_as_vec(b"\x18\x13", true) {
+    ///     let press = KeyPress::of_report(event.key().unwrap()).unwrap();
     ///     assert!(chord.push(press));
     /// }
     /// assert_eq!(chord.to_string(), "ctrl+x ctrl+s");

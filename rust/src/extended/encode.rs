@@ -49,8 +49,7 @@ impl KeyReport {
     /// Without `DISAMBIGUATE_ESCAPE_CODES` and `REPORT_ALL_KEYS_AS_ESCAPE_CODES` that is what
     /// terminals sent before the protocol: a control character for a letter with CTRL, the main key
     /// for one of the keypad, and the key's report for what has no such text. Under all flags an
-    /// [`ExtendedParser`](super::ExtendedParser) with [`Protocol::Kitty`](super::Protocol::Kitty)
-    /// reads back each report that a terminal can send.
+    /// [`ExtendedParser`](super::ExtendedParser) reads back each report that a terminal can send.
     ///
     /// ```
     /// use hedrugal::extended::{KeyEventKind, KeyReport, KittyModifiers, ReportedKey};
@@ -88,11 +87,11 @@ impl KeyReport {
     /// Returns what [`KeyReport::encode`] returns.
     ///
     /// ```
-    /// use hedrugal::extended::{ExtendedParser, KittyEncodeError, Protocol, ReportedKey};
+    /// use hedrugal::extended::{Dialect, ExtendedParser, KittyEncodeError, ReportedKey};
     /// use hedrugal::input::{KeyCode, KittyKeyboardFlags};
     ///
-    /// let events = ExtendedParser::new(Protocol::Kitty).parse_as_vec(b"\x1b[97;5u", true);
-    /// let mut report = events[0].key().unwrap();
+    /// let events = ExtendedParser::new(Dialect::Extended).parse_as_vec(b"\x1b[97;5u", true);
+    /// let mut report = events[0].key().unwrap().clone();
     /// assert_eq!(report.try_encode(KittyKeyboardFlags::all()).as_deref(), Ok("\x1b[97;5u"));
     /// report.key = ReportedKey::Named(KeyCode::Copy);
     /// assert_eq!(report.try_encode(KittyKeyboardFlags::all()), Err(KittyEncodeError::UnknownKey));

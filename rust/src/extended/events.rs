@@ -1,14 +1,14 @@
 // What happens at a terminal, and what it replies.
 use super::KittyModifiers;
-use crate::input::{AllocError, InputEvent, KeyCode, KeyEvent, Modifiers, FAULT};
+use crate::input::{AllocError, KeyCode, Modifiers, MouseButtons, FAULT};
 use crate::raw;
 
 /// What happened to a key.
 ///
 /// ```
-/// use hedrugal::extended::{ExtendedParser, KeyEventKind, Protocol};
+/// use hedrugal::extended::{Dialect, ExtendedParser, KeyEventKind};
 ///
-/// let events = ExtendedParser::new(Protocol::Kitty).parse_as_vec(b"\x1b[1;1:3A", true);
+/// let events = ExtendedParser::new(Dialect::Extended).parse_as_vec(b"\x1b[1;1:3A", true);
 /// assert_eq!(events[0].key().unwrap().kind, KeyEventKind::Release);
 /// ```
 #[derive(Debug, Clone, Copy, PartialEq, Eq, Hash)]
@@ -25,10 +25,10 @@ pub enum KeyEventKind {
 /// The key of a report.
 ///
 /// ```
-/// use hedrugal::extended::{ExtendedParser, Protocol, ReportedKey};
+/// use hedrugal::extended::{Dialect, ExtendedParser, ReportedKey};
 /// use hedrugal::input::KeyCode;
 ///
-/// let events = ExtendedParser::new(Protocol::Kitty).parse_as_vec(b"\x1b[27u\x1b[57428u", true);
+/// let events = ExtendedParser::new(Dialect::Extended).parse_as_vec(b"\x1b[27u\x1b[57428u", true);
 /// assert_eq!(events[0].key().unwrap().key, ReportedKey::Named(KeyCode::Escape));
 /// assert_eq!(events[1].key().unwrap().key, ReportedKey::Functional(57428));
 /// ```
@@ -42,11 +42,12 @@ pub enum ReportedKey {
     Functional(u32),
 }
 
-/// A key that was pressed, held or released, with all that Kitty's keyboard protocol reports of it.
+/// A key that was pressed, held or released, with all that the terminal tells of it. Beyond the key
+/// and SHIFT, ALT and CTRL, mostly Kitty's keyboard protocol tells that.
 ///
 /// ```
-/// use hedrugal::extended::{ExtendedEvent, ExtendedParser, KeyEventKind, KeyReport};
-/// use hedrugal::extended::{KittyModifiers, Protocol, ReportedKey};
+/// use hedrugal::extended::{Event, ExtendedParser, KeyEventKind, KeyReport};
+/// use hedrugal::extended::{Dialect, KittyModifiers, ReportedKey};
 /// use hedrugal::input::KeyCode;
 ///
 /// let report = KeyReport {
@@ -57,8 +58,8 @@ pub enum ReportedKey {
 ///     base: None,
 ///     text: "A".to_string(),
 /// };
-/// let events = ExtendedParser::new(Protocol::Kitty).parse_as_vec(b"\x1b[97:65;2;65u", true);
-/// assert_eq!(events, [ExtendedEvent::Key(report)]);
+/// let events = ExtendedParser::new(Dialect::Extended).parse_as_vec(b"\x1b[97:65;2;65u", true);
+/// assert_eq!(events, [Event::Key(report)]);
 /// ```
 #[derive(Debug, Clone, PartialEq, Eq)]
 #[cfg_attr(feature = "use_serde", derive(serde::Serialize, serde::Deserialize))]
@@ -81,11 +82,11 @@ pub struct KeyReport {
 /// The kind of a string, by what introduces it.
 ///
 /// ```
-/// use hedrugal::extended::{ExtendedEvent, ExtendedParser, Protocol, StringKind};
+/// use hedrugal::extended::{Dialect, Event, ExtendedParser, StringKind};
 ///
-/// let mut parser = ExtendedParser::new(Protocol::Legacy);
+/// let mut parser = ExtendedParser::new(Dialect::Extended);
 /// parser.parse(b"\x1bP>|xterm", |_| {}, true);
-/// let cut = ExtendedEvent::StringCut {
+/// let cut = Event::StringCut {
 ///     kind: StringKind::Dcs,
 ///     bytes: b">|xterm".to_vec(),
 /// };
@@ -102,82 +103,93 @@ pub enum StringKind {
     Apc,
 }
 
-/// What happened to a side button of the mouse.
+/// What happened to the mouse.
 ///
 /// ```
-/// use hedrugal::extended::{ExtendedEvent, ExtendedParser, Protocol, SideButtonKind};
+/// use hedrugal::extended::{Dialect, Event, ExtendedParser, MouseKind};
 ///
-/// let mut parser = ExtendedParser::new(Protocol::Legacy);
+/// let mut parser = ExtendedParser::new(Dialect::Extended);
 /// for (bytes, kind) in [
-///     (b"\x1b[<128;3;4M", SideButtonKind::Press),
-///     (b"\x1b[<160;3;4M", SideButtonKind::Drag),
-///     (b"\x1b[<128;3;4m", SideButtonKind::Release),
+///     (b"\x1b[<0;3;4M", MouseKind::Press),
+///     (b"\x1b[<0;3;4m", MouseKind::Release),
 /// ] {
-///     let [ExtendedEvent::SideButton(button)] = parser.parse_as_vec(bytes, true)[..] else {
+///     let [Event::Mouse(report)] = parser.parse_as_vec(bytes, true)[..] else {
 ///         unreachable!()
 ///     };
-///     assert_eq!((button.number, button.kind), (8, kind));
+///     assert_eq!((report.kind, report.button), (kind, Some(1)));
 /// }
 /// ```
 #[derive(Debug, Clone, Copy, PartialEq, Eq, Hash)]
 #[cfg_attr(feature = "use_serde", derive(serde::Serialize, serde::Deserialize))]
-pub enum SideButtonKind {
-    /// It was pressed.
+pub enum MouseKind {
+    /// A button was pressed.
     Press,
-    /// It was released. Only SGR reports (mode 1006) tell which button was.
+    /// A button was released. Only SGR reports (mode 1006) tell which one.
     Release,
-    /// The mouse was moved while it was down.
+    /// The mouse was moved while a button was down.
     Drag,
+    /// The mouse was moved while no button was down.
+    Move,
+    /// A wheel was turned.
+    Wheel,
 }
 
-/// A report of one of the mouse buttons 8 to 11, with the position in cells. Of most mice 8 goes
-/// back and 9 goes forward.
+/// A mouse report, with the position in cells, or in pixels with mode 1016.
 ///
 /// ```
-/// use hedrugal::extended::{ExtendedEvent, ExtendedParser, Protocol};
-/// use hedrugal::extended::{SideButtonEvent, SideButtonKind};
-/// use hedrugal::input::Modifiers;
+/// use hedrugal::extended::{Dialect, Event, ExtendedParser, MouseKind, MouseReport};
+/// use hedrugal::input::{Modifiers, MouseButtons};
 ///
-/// let event = SideButtonEvent {
-///     number: 9,
-///     kind: SideButtonKind::Press,
+/// // Of most mice the button 8 goes back, and 9 goes forward.
+/// let report = MouseReport {
 ///     x: 3,
 ///     y: 4,
 ///     modifiers: Modifiers::CTRL,
+///     buttons: MouseButtons::NONE,
+///     kind: MouseKind::Press,
+///     button: Some(9),
 /// };
-/// let events = ExtendedParser::new(Protocol::Legacy).parse_as_vec(b"\x1b[<145;3;4M", true);
-/// assert_eq!(events, [ExtendedEvent::SideButton(event)]);
+/// let events = ExtendedParser::new(Dialect::Extended).parse_as_vec(b"\x1b[<145;3;4M", true);
+/// assert_eq!(events, [Event::Mouse(report)]);
 /// ```
 #[derive(Debug, Clone, Copy, PartialEq, Eq)]
 #[cfg_attr(feature = "use_serde", derive(serde::Serialize, serde::Deserialize))]
-pub struct SideButtonEvent {
-    /// The number of the button, from 8 to 11.
-    pub number: u8,
-    /// Whether it was pressed, released or dragged.
-    pub kind: SideButtonKind,
+pub struct MouseReport {
     /// The column, as the terminal sent it: the leftmost is 1.
     pub x: u16,
     /// The row, as the terminal sent it: the topmost is 1.
     pub y: u16,
-    /// The modifier keys that were held.
+    /// The modifier keys that were held: SHIFT, ALT and CTRL.
     pub modifiers: Modifiers,
+    /// The button that is down, or the wheel that was turned, as in a
+    /// [`MouseEvent`](crate::input::MouseEvent). Empty after a release, for a move with no button
+    /// down, and for a side button.
+    pub buttons: MouseButtons,
+    /// What happened.
+    pub kind: MouseKind,
+    /// The button that the report names, if it names one. 1 to 3 are the left, the middle and the
+    /// right one. 4 to 7 are the wheel, turned up, down, to the left and to the right. 8 to 11 are
+    /// the side buttons.
+    pub button: Option<u8>,
 }
 
 /// Something that happened at the terminal, or that it replied.
 ///
 /// ```
-/// use hedrugal::extended::{ExtendedEvent, ExtendedParser, Protocol};
+/// use hedrugal::extended::{Dialect, Event, ExtendedParser};
 ///
-/// let events = ExtendedParser::new(Protocol::Legacy).parse_as_vec(b"\x1b[I\x1b[?62;22c", true);
-/// assert_eq!(events, [ExtendedEvent::FocusGained, ExtendedEvent::Csi(b"?62;22c".to_vec())]);
+/// let events = ExtendedParser::new(Dialect::Extended).parse_as_vec(b"\x1b[I\x1b[?62;22c", true);
+/// assert_eq!(events, [Event::FocusGained, Event::Csi(b"?62;22c".to_vec())]);
 /// ```
 #[derive(Debug, Clone, PartialEq, Eq)]
 #[cfg_attr(feature = "use_serde", derive(serde::Serialize, serde::Deserialize))]
-pub enum ExtendedEvent {
-    /// A key, a mouse report or a paste, as [`InputParser`](crate::input::InputParser) emits it.
-    Input(InputEvent),
-    /// A key report.
+pub enum Event {
+    /// A key, typed or reported.
     Key(KeyReport),
+    /// A mouse report.
+    Mouse(MouseReport),
+    /// Text was pasted, in bracketed paste mode.
+    Paste(String),
     /// The terminal's window gained the focus (mode 1004).
     FocusGained,
     /// The terminal's window lost the focus.
@@ -204,8 +216,6 @@ pub enum ExtendedEvent {
     /// The reply to a question for the flags of Kitty's keyboard protocol, as the bits of
     /// [`KittyKeyboardFlags`](crate::input::KittyKeyboardFlags).
     KeyboardFlags(u8),
-    /// One of the mouse buttons 8 to 11 was pressed, released or dragged.
-    SideButton(SideButtonEvent),
     /// Any other control sequence: its bytes after ESC `[`.
     Csi(Vec<u8>),
     /// An operating system command: its bytes after ESC `]`, without its end.
@@ -232,27 +242,23 @@ pub enum ExtendedEvent {
     },
 }
 
-impl ExtendedEvent {
-    /// Returns the report of a key: of `Key` a clone, and of a key in `Input` a press with its
-    /// SHIFT, ALT and CTRL. Returns `None` for any other event.
+impl Event {
+    /// Returns the report of a key, and `None` for any other event.
     ///
     /// ```
-    /// use hedrugal::extended::{ExtendedParser, KittyModifiers, Protocol, ReportedKey};
+    /// use hedrugal::extended::{Dialect, ExtendedParser, KittyModifiers, ReportedKey};
     /// use hedrugal::input::KeyCode;
     ///
-    /// for protocol in [Protocol::Legacy, Protocol::Kitty] {
-    ///     let events = ExtendedParser::new(protocol).parse_as_vec(b"\x1b[1;5A\x1b[I", true);
-    ///     let report = events[0].key().unwrap();
-    ///     assert_eq!(report.key, ReportedKey::Named(KeyCode::UpArrow));
-    ///     assert_eq!(report.modifiers, KittyModifiers::CTRL);
-    ///     assert_eq!(events[1].key(), None);
-    /// }
+    /// let events = ExtendedParser::new(Dialect::Extended).parse_as_vec(b"\x1b[1;5A\x1b[I", true);
+    /// let report = events[0].key().unwrap();
+    /// assert_eq!(report.key, ReportedKey::Named(KeyCode::UpArrow));
+    /// assert_eq!(report.modifiers, KittyModifiers::CTRL);
+    /// assert_eq!(events[1].key(), None);
     /// ```
     #[must_use]
-    pub fn key(&self) -> Option<KeyReport> {
+    pub fn key(&self) -> Option<&KeyReport> {
         match self {
-            ExtendedEvent::Key(report) => Some(report.clone()),
-            ExtendedEvent::Input(InputEvent::Key(event)) => Some(KeyReport::pressed(event)),
+            Event::Key(report) => Some(report),
             _ => None,
         }
     }
@@ -262,37 +268,33 @@ impl ExtendedEvent {
     pub(super) fn of(
         event: &raw::ExtendedEvent,
         text: impl FnOnce(usize) -> Result<Vec<u8>, AllocError>,
-    ) -> Result<ExtendedEvent, AllocError> {
+    ) -> Result<Event, AllocError> {
         Ok(match event.kind {
-            raw::KIND_KEY | raw::KIND_MOUSE | raw::KIND_PASTE => {
-                ExtendedEvent::Input(InputEvent::of(&event.input, text)?)
-            }
-            raw::KIND_REPORT => {
-                ExtendedEvent::Key(KeyReport::of(&event.report, text(event.text_len)?))
-            }
-            raw::KIND_FOCUS_GAINED => ExtendedEvent::FocusGained,
-            raw::KIND_FOCUS_LOST => ExtendedEvent::FocusLost,
-            raw::KIND_CURSOR_POSITION => ExtendedEvent::CursorPosition {
+            raw::KIND_KEY => Event::Key(KeyReport::of(&event.report, text(event.text_len)?)),
+            raw::KIND_MOUSE => Event::Mouse(MouseReport::of(&event.mouse)),
+            raw::KIND_PASTE => Event::Paste(String::from_utf8(text(event.text_len)?).expect(FAULT)),
+            raw::KIND_FOCUS_GAINED => Event::FocusGained,
+            raw::KIND_FOCUS_LOST => Event::FocusLost,
+            raw::KIND_CURSOR_POSITION => Event::CursorPosition {
                 row: event.row,
                 column: event.column,
             },
-            raw::KIND_RESIZE => ExtendedEvent::Resize {
+            raw::KIND_RESIZE => Event::Resize {
                 rows: event.rows,
                 columns: event.columns,
                 height: event.height,
                 width: event.width,
             },
-            raw::KIND_KEYBOARD_FLAGS => ExtendedEvent::KeyboardFlags(event.flags),
-            raw::KIND_SIDE_BUTTON => ExtendedEvent::SideButton(SideButtonEvent::of(event)),
-            raw::KIND_CSI => ExtendedEvent::Csi(text(event.text_len)?),
-            raw::KIND_OSC => ExtendedEvent::Osc(text(event.text_len)?),
-            raw::KIND_DCS => ExtendedEvent::Dcs(text(event.text_len)?),
-            raw::KIND_APC => ExtendedEvent::Apc(text(event.text_len)?),
-            raw::KIND_STRING_PART => ExtendedEvent::StringPart {
+            raw::KIND_KEYBOARD_FLAGS => Event::KeyboardFlags(event.flags),
+            raw::KIND_CSI => Event::Csi(text(event.text_len)?),
+            raw::KIND_OSC => Event::Osc(text(event.text_len)?),
+            raw::KIND_DCS => Event::Dcs(text(event.text_len)?),
+            raw::KIND_APC => Event::Apc(text(event.text_len)?),
+            raw::KIND_STRING_PART => Event::StringPart {
                 kind: StringKind::of(event.flags),
                 bytes: text(event.text_len)?,
             },
-            raw::KIND_STRING_CUT => ExtendedEvent::StringCut {
+            raw::KIND_STRING_CUT => Event::StringCut {
                 kind: StringKind::of(event.flags),
                 bytes: text(event.text_len)?,
             },
@@ -301,27 +303,30 @@ impl ExtendedEvent {
     }
 }
 
-impl SideButtonKind {
+impl MouseKind {
     // What happened, by the number of the library.
-    fn of(number: u8) -> SideButtonKind {
+    fn of(number: u8) -> MouseKind {
         match number {
-            raw::SIDE_BUTTON_PRESS => SideButtonKind::Press,
-            raw::SIDE_BUTTON_RELEASE => SideButtonKind::Release,
-            raw::SIDE_BUTTON_DRAG => SideButtonKind::Drag,
+            raw::MOUSE_KIND_PRESS => MouseKind::Press,
+            raw::MOUSE_KIND_RELEASE => MouseKind::Release,
+            raw::MOUSE_KIND_DRAG => MouseKind::Drag,
+            raw::MOUSE_KIND_MOVE => MouseKind::Move,
+            raw::MOUSE_KIND_WHEEL => MouseKind::Wheel,
             _ => unreachable!("{FAULT}"),
         }
     }
 }
 
-impl SideButtonEvent {
-    // The report in an event of the library.
-    fn of(event: &raw::ExtendedEvent) -> SideButtonEvent {
-        SideButtonEvent {
-            number: u8::try_from(event.input.detail).expect(FAULT),
-            kind: SideButtonKind::of(event.flags),
-            x: event.input.x,
-            y: event.input.y,
-            modifiers: Modifiers::from_bits(event.input.modifiers).expect(FAULT),
+impl MouseReport {
+    // A report of the library.
+    fn of(report: &raw::MouseReport) -> MouseReport {
+        MouseReport {
+            x: report.x,
+            y: report.y,
+            modifiers: Modifiers::from_bits(report.modifiers).expect(FAULT),
+            buttons: MouseButtons::from_bits(report.buttons).expect(FAULT),
+            kind: MouseKind::of(report.kind),
+            button: (report.button != 0).then_some(report.button),
         }
     }
 }
@@ -357,19 +362,6 @@ impl ReportedKey {
 }
 
 impl KeyReport {
-    // A key that was pressed, of which the terminal reports no more.
-    fn pressed(event: &KeyEvent) -> KeyReport {
-        KeyReport {
-            key: ReportedKey::Named(event.key),
-            // SHIFT, ALT and CTRL have the same bits in xterm's number.
-            modifiers: KittyModifiers::from_bits_retain(event.modifiers.encode_xterm()),
-            kind: KeyEventKind::Press,
-            shifted: None,
-            base: None,
-            text: String::new(),
-        }
-    }
-
     // A report of the library, and the text that the key types.
     fn of(report: &raw::KeyReport, text: Vec<u8>) -> KeyReport {
         KeyReport {

@@ -1,5 +1,5 @@
 // The extended parser: bytes of a terminal to events.
-use super::ExtendedEvent;
+use super::Event;
 use crate::input::{AllocError, ParseError, ParseVecError, Policy, FAULT};
 use crate::library_parser::{Calls, LibraryParser, RawParser};
 use crate::{raw, table};
@@ -7,44 +7,126 @@ use std::fmt;
 use std::sync::MutexGuard;
 use std::time::{Duration, Instant};
 
-/// The keyboard protocol that the program turned on. It tells which entries of the sequence table
-/// keep the key that [`InputParser`](crate::input::InputParser) reads from them.
+/// By which grammar an [`ExtendedParser`] reads.
 ///
 /// ```
-/// use hedrugal::extended::{ExtendedParser, KittyModifiers, Protocol};
+/// use hedrugal::extended::{Dialect, ExtendedParser, KittyModifiers};
 ///
-/// let held = |protocol| {
-///     let events = ExtendedParser::new(protocol).parse_as_vec(b"\x1b[1;9A", true);
+/// let held = |dialect| {
+///     let events = ExtendedParser::new(dialect).parse_as_vec(b"\x1b[1;9A", true);
 ///     events[0].key().unwrap().modifiers
 /// };
-/// assert_eq!(held(Protocol::Legacy), KittyModifiers::ALT);
-/// assert_eq!(held(Protocol::Kitty), KittyModifiers::SUPER);
+/// assert_eq!(held(Dialect::Extended), KittyModifiers::SUPER);
+/// assert_eq!(held(Dialect::Termwiz), KittyModifiers::ALT);
 /// ```
 #[derive(Debug, Clone, Copy, PartialEq, Eq, Hash, Default)]
-pub enum Protocol {
-    /// All entries keep their keys. For programs that leave Kitty's keyboard protocol off.
+pub enum Dialect {
+    /// What terminals send, in any mode and by any keyboard protocol. For every program.
     #[default]
-    Legacy,
-    /// Entries that report a key, or the position of the cursor, are read as these reports. For
-    /// programs that turn Kitty's keyboard protocol on, so that a press and its release name the
-    /// same key.
-    Kitty,
+    Extended,
+    /// What [`InputParser`](crate::input::InputParser) reads, and nothing else. The other fields of
+    /// the [`Reading`] say nothing then.
+    Termwiz,
 }
 
-impl Protocol {
+impl Dialect {
     // The number of the library.
     fn number(self) -> u32 {
         match self {
-            Protocol::Legacy => raw::PROTOCOL_LEGACY,
-            Protocol::Kitty => raw::PROTOCOL_KITTY,
+            Dialect::Extended => raw::DIALECT_EXTENDED,
+            Dialect::Termwiz => raw::DIALECT_TERMWIZ,
         }
     }
 
     // What the library's number stands for.
-    fn of(number: u32) -> Protocol {
+    fn of(number: u32) -> Dialect {
         match number {
-            raw::PROTOCOL_LEGACY => Protocol::Legacy,
-            raw::PROTOCOL_KITTY => Protocol::Kitty,
+            raw::DIALECT_EXTENDED => Dialect::Extended,
+            raw::DIALECT_TERMWIZ => Dialect::Termwiz,
+            _ => unreachable!("{FAULT}"),
+        }
+    }
+}
+
+/// Which byte the Backspace key sends. Of 8 and 127, the other one is typed with Ctrl. A program
+/// takes it from its terminal's settings (VERASE), as a [`Terminal`](crate::terminal::Terminal)
+/// does.
+///
+/// ```
+/// use hedrugal::extended::{Dialect, EraseByte, ExtendedParser, KeyPress, Reading};
+///
+/// let mut parser = ExtendedParser::new(Dialect::Extended);
+/// let erase = EraseByte::Backspace;
+/// parser.set_reading(Reading { erase, ..parser.reading() });
+/// let events = parser.parse_as_vec(b"\x08\x7f", true);
+/// let press = KeyPress::of_report(events[0].key().unwrap());
+/// assert_eq!(press, "backspace".parse().ok());
+/// let press = KeyPress::of_report(events[1].key().unwrap());
+/// assert_eq!(press, "ctrl+backspace".parse().ok());
+/// ```
+#[derive(Debug, Clone, Copy, PartialEq, Eq, Hash, Default)]
+pub enum EraseByte {
+    /// 127, as most terminals send it. Byte 8 is Ctrl-H.
+    #[default]
+    Delete,
+    /// 8. Byte 127 is Ctrl-Backspace.
+    Backspace,
+}
+
+impl EraseByte {
+    // The number of the library.
+    fn number(self) -> u32 {
+        match self {
+            EraseByte::Delete => raw::ERASE_DELETE,
+            EraseByte::Backspace => raw::ERASE_BACKSPACE,
+        }
+    }
+
+    // What the library's number stands for.
+    fn of(number: u32) -> EraseByte {
+        match number {
+            raw::ERASE_DELETE => EraseByte::Delete,
+            raw::ERASE_BACKSPACE => EraseByte::Backspace,
+            _ => unreachable!("{FAULT}"),
+        }
+    }
+}
+
+/// What byte 10 is.
+///
+/// ```
+/// use hedrugal::extended::{Dialect, ExtendedParser, KeyPress, NewlineByte, Reading};
+///
+/// let mut parser = ExtendedParser::new(Dialect::Extended);
+/// for (newline, name) in [(NewlineByte::CtrlJ, "ctrl+j"), (NewlineByte::Enter, "enter")] {
+///     parser.set_reading(Reading { newline, ..parser.reading() });
+///     let events = parser.parse_as_vec(b"\n", true);
+///     assert_eq!(KeyPress::of_report(events[0].key().unwrap()), name.parse().ok());
+/// }
+/// ```
+#[derive(Debug, Clone, Copy, PartialEq, Eq, Hash, Default)]
+pub enum NewlineByte {
+    /// Ctrl-J. The Enter key sends byte 13.
+    #[default]
+    CtrlJ,
+    /// The Enter key. The terminal's settings turn CR into it (ICRNL), or the input is no terminal.
+    Enter,
+}
+
+impl NewlineByte {
+    // The number of the library.
+    fn number(self) -> u32 {
+        match self {
+            NewlineByte::CtrlJ => raw::NEWLINE_CTRL_J,
+            NewlineByte::Enter => raw::NEWLINE_ENTER,
+        }
+    }
+
+    // What the library's number stands for.
+    fn of(number: u32) -> NewlineByte {
+        match number {
+            raw::NEWLINE_CTRL_J => NewlineByte::CtrlJ,
+            raw::NEWLINE_ENTER => NewlineByte::Enter,
             _ => unreachable!("{FAULT}"),
         }
     }
@@ -53,28 +135,27 @@ impl Protocol {
 /// How an [`ExtendedParser`] reads. A program may change it between any two calls.
 ///
 /// ```
-/// use hedrugal::extended::{ExtendedEvent, ExtendedParser, Protocol, Reading};
-/// use hedrugal::input::{InputEvent, Modifiers, MouseButtons, MouseEvent};
+/// use hedrugal::extended::{Dialect, Event, ExtendedParser, MouseKind, MouseReport, Reading};
+/// use hedrugal::input::{Modifiers, MouseButtons};
 ///
 /// // A program that turned mode 1000 on at a terminal without SGR reports.
-/// let reading = Reading { x10_mouse: true, ..Reading::new(Protocol::Legacy) };
-/// let mut parser = ExtendedParser::new(Protocol::Legacy);
+/// let reading = Reading { x10_mouse: true, ..Reading::new(Dialect::Extended) };
+/// let mut parser = ExtendedParser::new(Dialect::Extended);
 /// parser.set_reading(reading);
-/// let event = MouseEvent {
+/// let report = MouseReport {
 ///     x: 1,
 ///     y: 2,
-///     mouse_buttons: MouseButtons::LEFT,
 ///     modifiers: Modifiers::NONE,
+///     buttons: MouseButtons::LEFT,
+///     kind: MouseKind::Press,
+///     button: Some(1),
 /// };
-/// assert_eq!(
-///     parser.parse_as_vec(b"\x1b[M !\"", true),
-///     [ExtendedEvent::Input(InputEvent::Mouse(event))]
-/// );
+/// assert_eq!(parser.parse_as_vec(b"\x1b[M !\"", true), [Event::Mouse(report)]);
 /// ```
 #[derive(Debug, Clone, Copy, PartialEq, Eq, Hash, Default)]
 pub struct Reading {
-    /// The keyboard protocol that the program turned on.
-    pub protocol: Protocol,
+    /// By which grammar.
+    pub dialect: Dialect,
     /// X10 mouse reports are read: ESC `[M` and three bytes. Without it ESC `[M` is a control
     /// sequence. For programs that turn a mouse mode on, and neither SGR reports (mode 1006) nor
     /// urxvt's (1015).
@@ -82,33 +163,53 @@ pub struct Reading {
     /// How many questions for the cursor's position are open: see
     /// [`ExtendedParser::expect_position`].
     pub questions: u8,
+    /// Which byte the Backspace key sends.
+    pub erase: EraseByte,
+    /// What byte 10 is.
+    pub newline: NewlineByte,
 }
 
 impl Reading {
-    /// Reads by this protocol, without X10 mouse reports and open questions.
+    /// Reads by this dialect, without X10 mouse reports and open questions. Backspace sends byte
+    /// 127, and byte 10 is Ctrl-J.
     ///
     /// ```
-    /// use hedrugal::extended::{ExtendedParser, Protocol, Reading};
+    /// use hedrugal::extended::{Dialect, ExtendedParser, Reading};
     ///
-    /// let reading = Reading::new(Protocol::Kitty);
+    /// let reading = Reading::new(Dialect::Extended);
     /// assert_eq!((reading.x10_mouse, reading.questions), (false, 0));
-    /// assert_eq!(ExtendedParser::new(Protocol::Kitty).reading(), reading);
+    /// assert_eq!(ExtendedParser::new(Dialect::Extended).reading(), reading);
     /// ```
     #[must_use]
-    pub const fn new(protocol: Protocol) -> Reading {
+    pub const fn new(dialect: Dialect) -> Reading {
         Reading {
-            protocol,
+            dialect,
             x10_mouse: false,
             questions: 0,
+            erase: EraseByte::Delete,
+            newline: NewlineByte::CtrlJ,
         }
     }
 
     // The reading as the library has it.
-    pub(super) fn raw(self) -> raw::Reading {
+    fn raw(self) -> raw::Reading {
         raw::Reading {
-            protocol: self.protocol.number(),
+            dialect: self.dialect.number(),
+            erase: self.erase.number(),
+            newline: self.newline.number(),
             x10_mouse: self.x10_mouse,
             questions: self.questions,
+        }
+    }
+
+    // The reading that the library has.
+    fn of(raw: &raw::Reading) -> Reading {
+        Reading {
+            dialect: Dialect::of(raw.dialect),
+            x10_mouse: raw.x10_mouse,
+            questions: raw.questions,
+            erase: EraseByte::of(raw.erase),
+            newline: NewlineByte::of(raw.newline),
         }
     }
 }
@@ -117,9 +218,9 @@ impl Reading {
 /// may.
 ///
 /// ```
-/// use hedrugal::extended::{ExtendedParser, ExtendedWaiting, Protocol};
+/// use hedrugal::extended::{Dialect, ExtendedParser, ExtendedWaiting};
 ///
-/// let mut parser = ExtendedParser::new(Protocol::Legacy);
+/// let mut parser = ExtendedParser::new(Dialect::Extended);
 /// for (bytes, waiting) in [
 ///     (&b"\x1b]1"[..], ExtendedWaiting::Sequence),
 ///     (b"1;rgb:", ExtendedWaiting::String),
@@ -162,7 +263,7 @@ impl ExtendedWaiting {
 // SAFETY: these are the library's calls for a `hed_extended`.
 unsafe impl RawParser for raw::Extended {
     type RawEvent = raw::ExtendedEvent;
-    type Event = ExtendedEvent;
+    type Event = Event;
 
     const CALLS: Calls<raw::Extended, raw::ExtendedEvent> = Calls {
         free: raw::hed_extended_free,
@@ -191,21 +292,20 @@ unsafe impl RawParser for raw::Extended {
     fn event(
         event: &raw::ExtendedEvent,
         text: impl FnOnce(usize) -> Result<Vec<u8>, AllocError>,
-    ) -> Result<ExtendedEvent, AllocError> {
-        ExtendedEvent::of(event, text)
+    ) -> Result<Event, AllocError> {
+        Event::of(event, text)
     }
 }
 
 /// Reads events from the bytes that a terminal sends, however they are cut into calls: keys, mouse
-/// reports and pastes as [`InputParser`](crate::input::InputParser), and what terminals send beyond
-/// them.
+/// reports, pastes, and what terminals reply.
 ///
 /// ```
-/// use hedrugal::extended::{ExtendedEvent, ExtendedParser, Protocol};
+/// use hedrugal::extended::{Dialect, Event, ExtendedParser};
 ///
-/// let mut parser = ExtendedParser::new(Protocol::Legacy);
+/// let mut parser = ExtendedParser::new(Dialect::Extended);
 /// assert!(parser.parse_as_vec(b"\x1b[?24;8", true).is_empty());
-/// let position = ExtendedEvent::CursorPosition { row: 24, column: 80 };
+/// let position = Event::CursorPosition { row: 24, column: 80 };
 /// assert_eq!(parser.parse_as_vec(b"0R", true), [position]);
 /// ```
 pub struct ExtendedParser {
@@ -217,49 +317,49 @@ impl ExtendedParser {
     /// of both kinds.
     ///
     /// ```
-    /// use hedrugal::extended::{ExtendedParser, Protocol};
+    /// use hedrugal::extended::{Dialect, ExtendedParser};
     ///
-    /// assert_eq!(ExtendedParser::new(Protocol::Legacy).waiting_len(), 0);
+    /// assert_eq!(ExtendedParser::new(Dialect::Extended).waiting_len(), 0);
     /// ```
     ///
     /// # Panics
     ///
     /// If memory is refused.
     #[must_use]
-    pub fn new(protocol: Protocol) -> ExtendedParser {
-        ExtendedParser::try_new(protocol).expect("a parser is made")
+    pub fn new(dialect: Dialect) -> ExtendedParser {
+        ExtendedParser::try_new(dialect).expect("a parser is made")
     }
 
     /// Does what [`ExtendedParser::new`] does.
     ///
     /// ```
-    /// use hedrugal::extended::{ExtendedParser, Protocol};
+    /// use hedrugal::extended::{Dialect, ExtendedParser};
     ///
-    /// assert!(ExtendedParser::try_new(Protocol::Kitty).is_ok());
+    /// assert!(ExtendedParser::try_new(Dialect::Extended).is_ok());
     /// ```
     ///
     /// # Errors
     ///
     /// If memory is refused, for the parser or for the table of the process's first one. Call
     /// again.
-    pub fn try_new(protocol: Protocol) -> Result<ExtendedParser, AllocError> {
+    pub fn try_new(dialect: Dialect) -> Result<ExtendedParser, AllocError> {
         let mut raw = raw::Extended::NONE;
         // SAFETY: `raw` is no parser yet, which the call allows. `idle` is another one, which this
         // thread alone has.
         table::share(|idle| unsafe {
-            raw::hed_extended_init_sharing_parser(&mut raw, protocol.number(), idle)
+            raw::hed_extended_init_sharing_parser(&mut raw, dialect.number(), idle)
         })?;
         let parser = LibraryParser::of(raw);
         Ok(ExtendedParser { parser })
     }
 
-    /// Returns how the parser reads. Each [`ExtendedEvent::CursorPosition`] answers one of its
+    /// Returns how the parser reads. Each [`Event::CursorPosition`] answers one of its
     /// questions, if any is open.
     ///
     /// ```
-    /// use hedrugal::extended::{ExtendedParser, Protocol};
+    /// use hedrugal::extended::{Dialect, ExtendedParser};
     ///
-    /// let mut parser = ExtendedParser::new(Protocol::Legacy);
+    /// let mut parser = ExtendedParser::new(Dialect::Extended);
     /// parser.expect_position();
     /// assert_eq!(parser.reading().questions, 1);
     /// parser.parse(b"\x1b[24;80R", |_| {}, true);
@@ -272,11 +372,7 @@ impl ExtendedParser {
         // another value.
         let is_read = unsafe { raw::hed_extended_reading(&mut *self.locked(), &mut reading) };
         assert!(is_read, "{FAULT}");
-        Reading {
-            protocol: Protocol::of(reading.protocol),
-            x10_mouse: reading.x10_mouse,
-            questions: reading.questions,
-        }
+        Reading::of(&reading)
     }
 
     // The library's parser, for calls that leave it as it is.
@@ -287,16 +383,14 @@ impl ExtendedParser {
     /// Has the parser read so from now on, also what is buffered. The next call that parses emits
     /// what that decides.
     ///
-    /// A program begins with [`Protocol::Legacy`], asks ESC `[?u`, and goes on with
-    /// [`Protocol::Kitty`] once a reply came and it turned the protocol on.
-    ///
     /// ```
-    /// use hedrugal::extended::{ExtendedEvent, ExtendedParser, Protocol, Reading};
+    /// use hedrugal::extended::{Dialect, EraseByte, ExtendedParser, Reading};
     ///
-    /// let mut parser = ExtendedParser::new(Protocol::Legacy);
-    /// assert_eq!(parser.parse_as_vec(b"\x1b[?0u", true), [ExtendedEvent::KeyboardFlags(0)]);
-    /// parser.set_reading(Reading { protocol: Protocol::Kitty, ..parser.reading() });
-    /// assert_eq!(parser.protocol(), Protocol::Kitty);
+    /// let mut parser = ExtendedParser::new(Dialect::Extended);
+    /// // The terminal's settings say that Backspace sends byte 8.
+    /// let erase = EraseByte::Backspace;
+    /// parser.set_reading(Reading { erase, ..parser.reading() });
+    /// assert_eq!(parser.reading().erase, erase);
     /// ```
     pub fn set_reading(&mut self, reading: Reading) {
         let reading = reading.raw();
@@ -309,17 +403,17 @@ impl ExtendedParser {
     /// ESC `[6n` that is written.
     ///
     /// While a reply is expected, ESC `[1;5R` and the like are
-    /// [`ExtendedEvent::CursorPosition`], and not F3 with modifiers. Each such event answers one
+    /// [`Event::CursorPosition`], and not F3 with modifiers. Each such event answers one
     /// question.
     ///
     /// ```
-    /// use hedrugal::extended::{ExtendedEvent, ExtendedParser, Protocol};
+    /// use hedrugal::extended::{Dialect, Event, ExtendedParser};
     ///
-    /// let mut parser = ExtendedParser::new(Protocol::Legacy);
+    /// let mut parser = ExtendedParser::new(Dialect::Extended);
     /// parser.expect_position();
     /// let events = parser.parse_as_vec(b"\x1b[1;5R\x1b[1;5R", true);
-    /// assert_eq!(events[0], ExtendedEvent::CursorPosition { row: 1, column: 5 });
-    /// assert!(matches!(events[1], ExtendedEvent::Input(_)));
+    /// assert_eq!(events[0], Event::CursorPosition { row: 1, column: 5 });
+    /// assert!(events[1].key().is_some());
     /// ```
     pub fn expect_position(&mut self) {
         // SAFETY: the pointer leads to a parser.
@@ -330,9 +424,9 @@ impl ExtendedParser {
     /// overdue, or when a later question was answered.
     ///
     /// ```
-    /// use hedrugal::extended::{ExtendedParser, Protocol};
+    /// use hedrugal::extended::{Dialect, ExtendedParser};
     ///
-    /// let mut parser = ExtendedParser::new(Protocol::Legacy);
+    /// let mut parser = ExtendedParser::new(Dialect::Extended);
     /// parser.expect_position();
     /// parser.forget_positions();
     /// assert_eq!(parser.reading().questions, 0);
@@ -342,26 +436,26 @@ impl ExtendedParser {
         unsafe { raw::hed_extended_forget_positions(self.parser.raw()) }
     }
 
-    /// Returns the keyboard protocol that the program turned on, as [`ExtendedParser::new`] or
+    /// Returns by which grammar the parser reads, as [`ExtendedParser::new`] or
     /// [`ExtendedParser::set_reading`] was told.
     ///
     /// ```
-    /// use hedrugal::extended::{ExtendedParser, Protocol};
+    /// use hedrugal::extended::{Dialect, ExtendedParser};
     ///
-    /// assert_eq!(ExtendedParser::new(Protocol::Kitty).protocol(), Protocol::Kitty);
+    /// assert_eq!(ExtendedParser::new(Dialect::Termwiz).dialect(), Dialect::Termwiz);
     /// ```
     #[must_use]
-    pub fn protocol(&self) -> Protocol {
-        self.reading().protocol
+    pub fn dialect(&self) -> Dialect {
+        self.reading().dialect
     }
 
     /// Appends `bytes` to the buffer. [`ExtendedParser::next_event`] then emits the events, one at
     /// a time.
     ///
     /// ```
-    /// use hedrugal::extended::{ExtendedParser, Protocol};
+    /// use hedrugal::extended::{Dialect, ExtendedParser};
     ///
-    /// let mut parser = ExtendedParser::new(Protocol::Legacy);
+    /// let mut parser = ExtendedParser::new(Dialect::Extended);
     /// parser.feed(b"ab");
     /// assert_eq!(parser.waiting_len(), 2);
     /// ```
@@ -376,9 +470,9 @@ impl ExtendedParser {
     /// Does what [`ExtendedParser::feed`] does.
     ///
     /// ```
-    /// use hedrugal::extended::{ExtendedParser, Protocol};
+    /// use hedrugal::extended::{Dialect, ExtendedParser};
     ///
-    /// assert_eq!(ExtendedParser::new(Protocol::Legacy).try_feed(b"ab"), Ok(()));
+    /// assert_eq!(ExtendedParser::new(Dialect::Extended).try_feed(b"ab"), Ok(()));
     /// ```
     ///
     /// # Errors
@@ -392,12 +486,12 @@ impl ExtendedParser {
     /// bytes are no event yet. Pass `maybe_more` as to [`ExtendedParser::parse`].
     ///
     /// ```
-    /// use hedrugal::extended::{ExtendedEvent, ExtendedParser, Protocol};
+    /// use hedrugal::extended::{Dialect, Event, ExtendedParser};
     ///
-    /// let mut parser = ExtendedParser::new(Protocol::Legacy);
+    /// let mut parser = ExtendedParser::new(Dialect::Extended);
     /// parser.feed(b"\x1b[I\x1b[O\x1b[");
-    /// assert_eq!(parser.next_event(true), Some(ExtendedEvent::FocusGained));
-    /// assert_eq!(parser.next_event(true), Some(ExtendedEvent::FocusLost));
+    /// assert_eq!(parser.next_event(true), Some(Event::FocusGained));
+    /// assert_eq!(parser.next_event(true), Some(Event::FocusLost));
     /// assert_eq!(parser.next_event(true), None);
     /// ```
     ///
@@ -405,7 +499,7 @@ impl ExtendedParser {
     ///
     /// If memory is refused.
     #[must_use]
-    pub fn next_event(&mut self, maybe_more: bool) -> Option<ExtendedEvent> {
+    pub fn next_event(&mut self, maybe_more: bool) -> Option<Event> {
         self.try_next_event(maybe_more)
             .expect("the event is emitted")
     }
@@ -413,18 +507,15 @@ impl ExtendedParser {
     /// Does what [`ExtendedParser::next_event`] does.
     ///
     /// ```
-    /// use hedrugal::extended::{ExtendedParser, Protocol};
+    /// use hedrugal::extended::{Dialect, ExtendedParser};
     ///
-    /// assert_eq!(ExtendedParser::new(Protocol::Legacy).try_next_event(true), Ok(None));
+    /// assert_eq!(ExtendedParser::new(Dialect::Extended).try_next_event(true), Ok(None));
     /// ```
     ///
     /// # Errors
     ///
     /// If memory is refused. The event isn't lost: call again.
-    pub fn try_next_event(
-        &mut self,
-        maybe_more: bool,
-    ) -> Result<Option<ExtendedEvent>, AllocError> {
+    pub fn try_next_event(&mut self, maybe_more: bool) -> Result<Option<Event>, AllocError> {
         self.parser.next_event(maybe_more)
     }
 
@@ -438,9 +529,9 @@ impl ExtendedParser {
     /// string or a character of which the rest is still to come.
     ///
     /// ```
-    /// use hedrugal::extended::{ExtendedParser, Protocol};
+    /// use hedrugal::extended::{Dialect, ExtendedParser};
     ///
-    /// let mut parser = ExtendedParser::new(Protocol::Legacy);
+    /// let mut parser = ExtendedParser::new(Dialect::Extended);
     /// let mut count = 0;
     /// parser.parse(b"ab\x1b[I\x1b]0;title", |_| count += 1, true);
     /// assert_eq!(count, 3);
@@ -449,7 +540,7 @@ impl ExtendedParser {
     /// # Panics
     ///
     /// If memory is refused.
-    pub fn parse<F: FnMut(ExtendedEvent)>(&mut self, bytes: &[u8], callback: F, maybe_more: bool) {
+    pub fn parse<F: FnMut(Event)>(&mut self, bytes: &[u8], callback: F, maybe_more: bool) {
         self.try_parse(bytes, callback, maybe_more)
             .expect("the input is parsed");
     }
@@ -457,9 +548,9 @@ impl ExtendedParser {
     /// Does what [`ExtendedParser::parse`] does.
     ///
     /// ```
-    /// use hedrugal::extended::{ExtendedParser, Protocol};
+    /// use hedrugal::extended::{Dialect, ExtendedParser};
     ///
-    /// let mut parser = ExtendedParser::new(Protocol::Legacy);
+    /// let mut parser = ExtendedParser::new(Dialect::Extended);
     /// assert_eq!(parser.try_parse(b"\x1b[I", |event| println!("{event:?}"), true), Ok(()));
     /// ```
     ///
@@ -467,7 +558,7 @@ impl ExtendedParser {
     ///
     /// If memory is refused. The error says whether the bytes were buffered, and so how to go on;
     /// no event is lost.
-    pub fn try_parse<F: FnMut(ExtendedEvent)>(
+    pub fn try_parse<F: FnMut(Event)>(
         &mut self,
         bytes: &[u8],
         callback: F,
@@ -479,18 +570,18 @@ impl ExtendedParser {
     /// Returns the events with which [`ExtendedParser::parse`] calls its callback.
     ///
     /// ```
-    /// use hedrugal::extended::{ExtendedEvent, ExtendedParser, Protocol};
+    /// use hedrugal::extended::{Dialect, Event, ExtendedParser};
     ///
-    /// let mut parser = ExtendedParser::new(Protocol::Legacy);
+    /// let mut parser = ExtendedParser::new(Dialect::Extended);
     /// assert_eq!(parser.parse_as_vec(b"\x1bP>|kitty\x1b", true), []);
-    /// assert_eq!(parser.parse_as_vec(b"\\", true), [ExtendedEvent::Dcs(b">|kitty".to_vec())]);
+    /// assert_eq!(parser.parse_as_vec(b"\\", true), [Event::Dcs(b">|kitty".to_vec())]);
     /// ```
     ///
     /// # Panics
     ///
     /// If memory is refused.
     #[must_use]
-    pub fn parse_as_vec(&mut self, bytes: &[u8], maybe_more: bool) -> Vec<ExtendedEvent> {
+    pub fn parse_as_vec(&mut self, bytes: &[u8], maybe_more: bool) -> Vec<Event> {
         self.try_parse_as_vec(bytes, maybe_more)
             .expect("the input is parsed")
     }
@@ -498,9 +589,9 @@ impl ExtendedParser {
     /// Returns the events with which [`ExtendedParser::parse`] calls its callback.
     ///
     /// ```
-    /// use hedrugal::extended::{ExtendedParser, Protocol};
+    /// use hedrugal::extended::{Dialect, ExtendedParser};
     ///
-    /// let mut parser = ExtendedParser::new(Protocol::Legacy);
+    /// let mut parser = ExtendedParser::new(Dialect::Extended);
     /// assert_eq!(parser.try_parse_as_vec(b"ab", true).map(|events| events.len()), Ok(2));
     /// ```
     ///
@@ -512,7 +603,7 @@ impl ExtendedParser {
         &mut self,
         bytes: &[u8],
         maybe_more: bool,
-    ) -> Result<Vec<ExtendedEvent>, ParseVecError<ExtendedEvent>> {
+    ) -> Result<Vec<Event>, ParseVecError<Event>> {
         self.parser.parse_as_vec(bytes, maybe_more)
     }
 
@@ -521,9 +612,9 @@ impl ExtendedParser {
     /// open.
     ///
     /// ```
-    /// use hedrugal::extended::{ExtendedParser, Protocol};
+    /// use hedrugal::extended::{Dialect, ExtendedParser};
     ///
-    /// let mut parser = ExtendedParser::new(Protocol::Legacy);
+    /// let mut parser = ExtendedParser::new(Dialect::Extended);
     /// parser.parse(b"a\x1b]0;t", |_| {}, true);
     /// assert_eq!(parser.waiting_len(), 5);
     /// ```
@@ -535,9 +626,9 @@ impl ExtendedParser {
     /// Returns what stays buffered, once a call that parses has succeeded.
     ///
     /// ```
-    /// use hedrugal::extended::{ExtendedParser, ExtendedWaiting, Protocol};
+    /// use hedrugal::extended::{Dialect, ExtendedParser, ExtendedWaiting};
     ///
-    /// let mut parser = ExtendedParser::new(Protocol::Legacy);
+    /// let mut parser = ExtendedParser::new(Dialect::Extended);
     /// parser.parse(b"\x1b]0;title", |_| {}, true);
     /// assert_eq!(parser.waiting(), ExtendedWaiting::String);
     /// ```
@@ -554,20 +645,17 @@ impl ExtendedParser {
     /// right after its ESC or ESC ESC.
     ///
     /// ```
-    /// use hedrugal::extended::{ExtendedEvent, ExtendedParser, Protocol};
-    /// use hedrugal::input::{InputEvent, KeyCode, KeyEvent, Modifiers};
+    /// use hedrugal::extended::{Dialect, ExtendedParser, ReportedKey};
+    /// use hedrugal::input::KeyCode;
     ///
-    /// let mut parser = ExtendedParser::new(Protocol::Legacy);
+    /// let mut parser = ExtendedParser::new(Dialect::Extended);
     /// parser.parse(b"\x1b", |_| {}, true);
-    /// let escape = KeyEvent {
-    ///     key: KeyCode::Escape,
-    ///     modifiers: Modifiers::NONE,
-    /// };
-    /// assert_eq!(parser.flush_escape(), Some(ExtendedEvent::Input(InputEvent::Key(escape))));
+    /// let escape = parser.flush_escape().unwrap();
+    /// assert_eq!(escape.key().unwrap().key, ReportedKey::Named(KeyCode::Escape));
     /// assert_eq!(parser.flush_escape(), None);
     /// ```
     #[must_use]
-    pub fn flush_escape(&mut self) -> Option<ExtendedEvent> {
+    pub fn flush_escape(&mut self) -> Option<Event> {
         self.parser.flush_escape()
     }
 
@@ -576,9 +664,9 @@ impl ExtendedParser {
     /// [`ExtendedParser::skip_paste`] is called.
     ///
     /// ```
-    /// use hedrugal::extended::{ExtendedParser, Protocol};
+    /// use hedrugal::extended::{Dialect, ExtendedParser};
     ///
-    /// let mut parser = ExtendedParser::new(Protocol::Legacy);
+    /// let mut parser = ExtendedParser::new(Dialect::Extended);
     /// parser.parse(b"\x1b[200~te", |_| {}, true);
     /// assert!(parser.is_paste_open());
     /// ```
@@ -600,15 +688,14 @@ impl ExtendedParser {
     /// character. If no others are buffered, it returns `None`.
     ///
     /// ```
-    /// use hedrugal::extended::{ExtendedEvent, ExtendedParser, Protocol};
-    /// use hedrugal::input::InputEvent;
+    /// use hedrugal::extended::{Dialect, Event, ExtendedParser};
     ///
-    /// let mut parser = ExtendedParser::new(Protocol::Legacy);
+    /// let mut parser = ExtendedParser::new(Dialect::Extended);
     /// parser.parse(b"\x1b[200~rm -rf ~\r\x1b[20", |_| {}, true);
     /// assert_eq!(parser.take_paste(13), Ok(None));
     /// assert_eq!(parser.take_paste(0), Ok(Some("rm -rf ~\r".to_string())));
-    /// let rest = InputEvent::Paste(String::new());
-    /// assert_eq!(parser.parse_as_vec(b"1~", true), [ExtendedEvent::Input(rest)]);
+    /// let rest = Event::Paste(String::new());
+    /// assert_eq!(parser.parse_as_vec(b"1~", true), [rest]);
     /// ```
     ///
     /// # Errors
@@ -626,9 +713,9 @@ impl ExtendedParser {
     /// comes, and ignore that event. So no byte of the paste becomes a key. It asks for no memory.
     ///
     /// ```
-    /// use hedrugal::extended::{ExtendedParser, Protocol};
+    /// use hedrugal::extended::{Dialect, ExtendedParser};
     ///
-    /// let mut parser = ExtendedParser::new(Protocol::Legacy);
+    /// let mut parser = ExtendedParser::new(Dialect::Extended);
     /// parser.parse(b"\x1b[200~text", |_| {}, true);
     /// assert_eq!(parser.skip_paste(), Some(4));
     /// assert_eq!(parser.skip_paste(), Some(0));
@@ -649,13 +736,12 @@ impl ExtendedParser {
     /// [`ExtendedParser::skip_paste`].
     ///
     /// ```
-    /// use hedrugal::extended::{ExtendedEvent, ExtendedParser, Protocol};
-    /// use hedrugal::input::InputEvent;
+    /// use hedrugal::extended::{Dialect, Event, ExtendedParser};
     ///
-    /// let mut parser = ExtendedParser::new(Protocol::Legacy);
+    /// let mut parser = ExtendedParser::new(Dialect::Extended);
     /// parser.parse(b"\x1b[200~te", |_| {}, true);
-    /// let paste = InputEvent::Paste("te".to_string());
-    /// assert_eq!(parser.end_paste(), Some(ExtendedEvent::Input(paste)));
+    /// let paste = Event::Paste("te".to_string());
+    /// assert_eq!(parser.end_paste(), Some(paste));
     /// assert_eq!(parser.end_paste(), None);
     /// ```
     ///
@@ -663,22 +749,22 @@ impl ExtendedParser {
     ///
     /// If memory is refused.
     #[must_use]
-    pub fn end_paste(&mut self) -> Option<ExtendedEvent> {
+    pub fn end_paste(&mut self) -> Option<Event> {
         self.try_end_paste().expect("the paste is ended")
     }
 
     /// Does what [`ExtendedParser::end_paste`] does.
     ///
     /// ```
-    /// use hedrugal::extended::{ExtendedParser, Protocol};
+    /// use hedrugal::extended::{Dialect, ExtendedParser};
     ///
-    /// assert_eq!(ExtendedParser::new(Protocol::Legacy).try_end_paste(), Ok(None));
+    /// assert_eq!(ExtendedParser::new(Dialect::Extended).try_end_paste(), Ok(None));
     /// ```
     ///
     /// # Errors
     ///
     /// If memory is refused. The paste isn't lost: call again, or parse on.
-    pub fn try_end_paste(&mut self) -> Result<Option<ExtendedEvent>, AllocError> {
+    pub fn try_end_paste(&mut self) -> Result<Option<Event>, AllocError> {
         self.parser.end_paste()
     }
 
@@ -686,7 +772,7 @@ impl ExtendedParser {
     /// [`Policy::usual`].
     ///
     /// ```
-    /// use hedrugal::extended::{ExtendedParser, Protocol};
+    /// use hedrugal::extended::{Dialect, ExtendedParser};
     /// use hedrugal::input::Policy;
     /// use std::time::Duration;
     ///
@@ -695,7 +781,7 @@ impl ExtendedParser {
     ///     paste: Some(Duration::from_secs(10)),
     ///     ..Policy::usual()
     /// };
-    /// assert_eq!(ExtendedParser::new(Protocol::Legacy).set_policy(policy), Ok(()));
+    /// assert_eq!(ExtendedParser::new(Dialect::Extended).set_policy(policy), Ok(()));
     /// ```
     ///
     /// # Errors
@@ -714,10 +800,10 @@ impl ExtendedParser {
     /// of [`InputParser::timeout`](crate::input::InputParser::timeout).
     ///
     /// ```
-    /// use hedrugal::extended::{ExtendedParser, Protocol};
+    /// use hedrugal::extended::{Dialect, ExtendedParser};
     /// use std::time::{Duration, Instant};
     ///
-    /// let mut parser = ExtendedParser::new(Protocol::Legacy);
+    /// let mut parser = ExtendedParser::new(Dialect::Extended);
     /// assert_eq!(parser.timeout(Instant::now()), None);
     /// parser.parse(b"\x1b[24;8", |_| {}, true);
     /// assert_eq!(parser.timeout(Instant::now()), Some(Duration::from_secs(1)));
@@ -735,10 +821,10 @@ impl ExtendedParser {
     /// may complete what is overdue.
     ///
     /// ```
-    /// use hedrugal::extended::{ExtendedParser, Protocol};
+    /// use hedrugal::extended::{Dialect, ExtendedParser};
     /// use std::time::{Duration, Instant};
     ///
-    /// let mut parser = ExtendedParser::new(Protocol::Legacy);
+    /// let mut parser = ExtendedParser::new(Dialect::Extended);
     /// parser.parse(b"\x1b[", |_| {}, true);
     /// let start = Instant::now();
     /// assert_eq!(parser.timeout(start), Some(Duration::from_millis(100)));
@@ -753,25 +839,21 @@ impl ExtendedParser {
     /// # Errors
     ///
     /// If memory is refused. No event is lost: call again, or parse on.
-    pub fn expire<F: FnMut(ExtendedEvent)>(
-        &mut self,
-        now: Instant,
-        callback: F,
-    ) -> Result<(), AllocError> {
+    pub fn expire<F: FnMut(Event)>(&mut self, now: Instant, callback: F) -> Result<(), AllocError> {
         self.parser.expire(now, callback)
     }
 
     /// Forgets all that is buffered, an open paste too, an event that was refused memory, and open
-    /// questions for the cursor's position. The protocol and X10 mouse reports stay as they are.
+    /// questions for the cursor's position. The rest of the reading stays as it is.
     /// Returns the number of bytes that were buffered, as [`ExtendedParser::waiting_len`] counts
     /// them.
     ///
     /// Call it where earlier bytes no longer count, as after another program had the terminal.
     ///
     /// ```
-    /// use hedrugal::extended::{ExtendedParser, Protocol};
+    /// use hedrugal::extended::{Dialect, ExtendedParser};
     ///
-    /// let mut parser = ExtendedParser::new(Protocol::Legacy);
+    /// let mut parser = ExtendedParser::new(Dialect::Extended);
     /// parser.parse(b"\x1b]0;title", |_| {}, true);
     /// assert_eq!(parser.reset(), 9);
     /// assert_eq!(parser.waiting_len(), 0);
@@ -788,9 +870,9 @@ impl ExtendedParser {
     /// read: see [`InputParser::shrink_to`](crate::input::InputParser::shrink_to).
     ///
     /// ```
-    /// use hedrugal::extended::{ExtendedParser, Protocol};
+    /// use hedrugal::extended::{Dialect, ExtendedParser};
     ///
-    /// let mut parser = ExtendedParser::new(Protocol::Legacy);
+    /// let mut parser = ExtendedParser::new(Dialect::Extended);
     /// let reply = format!("\x1b]52;c;{}\x1b\\\x1b]", "dGV4dA==".repeat(1000));
     /// assert_eq!(parser.parse_as_vec(reply.as_bytes(), true).len(), 1);
     /// parser.shrink_to(0);

@@ -28,13 +28,13 @@ use std::str::FromStr;
 /// then by their modifiers.
 ///
 /// ```
-/// use hedrugal::extended::{ExtendedParser, KeyPress, KittyModifiers, Protocol, ReportedKey};
+/// use hedrugal::extended::{Dialect, ExtendedParser, KeyPress, KittyModifiers, ReportedKey};
 /// use hedrugal::input::KeyCode;
 ///
 /// // Ctrl, Shift and a, as xterm reports it, and as kitty does with Caps Lock on.
-/// let events = ExtendedParser::new(Protocol::Kitty).parse_as_vec(b"\x1b[65;5u\x1b[97;70u", true);
+/// let events = ExtendedParser::new(Dialect::Extended).parse_as_vec(b"\x1b[65;5u\x1b[97;70u", true);
 /// for event in events {
-///     let press = KeyPress::of_report(&event.key().unwrap()).unwrap();
+///     let press = KeyPress::of_report(event.key().unwrap()).unwrap();
 ///     assert_eq!(press.key(), ReportedKey::Named(KeyCode::Char('a')));
 ///     assert_eq!(press.held(), KittyModifiers::CTRL.union(KittyModifiers::SHIFT));
 ///     assert_eq!(press.to_string(), "ctrl+shift+a");
@@ -108,13 +108,13 @@ impl KeyPress {
     /// repeat counts as a press.
     ///
     /// ```
-    /// use hedrugal::extended::{ExtendedParser, KeyPress, Protocol};
+    /// use hedrugal::extended::{Dialect, ExtendedParser, KeyPress};
     ///
-    /// let mut parser = ExtendedParser::new(Protocol::Kitty);
+    /// let mut parser = ExtendedParser::new(Dialect::Extended);
     /// let events = parser.parse_as_vec(b"\x1b[97;5u\x1b[97;5:2u\x1b[97;5:3u", true);
     /// let presses: Vec<_> = events
     ///     .iter()
-    ///     .map(|event| KeyPress::of_report(&event.key().unwrap()))
+    ///     .map(|event| KeyPress::of_report(event.key().unwrap()))
     ///     .collect();
     /// assert_eq!(presses[0], presses[1]);
     /// assert_eq!(presses[2], None);
@@ -133,12 +133,12 @@ impl KeyPress {
     /// Look at the press first: where the report types its text, this says nothing of it.
     ///
     /// ```
-    /// use hedrugal::extended::{ExtendedParser, KeyPress, Protocol, ReportedKey};
+    /// use hedrugal::extended::{Dialect, ExtendedParser, KeyPress, ReportedKey};
     /// use hedrugal::input::KeyCode;
     ///
     /// // Ctrl with the Cyrillic letter es, which is where c is on a PC-101 keyboard.
-    /// let events = ExtendedParser::new(Protocol::Kitty).parse_as_vec(b"\x1b[1089::99;5u", true);
-    /// let second = KeyPress::second(&events[0].key().unwrap()).unwrap();
+    /// let events = ExtendedParser::new(Dialect::Extended).parse_as_vec(b"\x1b[1089::99;5u", true);
+    /// let second = KeyPress::second(events[0].key().unwrap()).unwrap();
     /// assert_eq!(second.key(), ReportedKey::Named(KeyCode::Char('c')));
     /// ```
     #[must_use]
@@ -263,10 +263,10 @@ impl Ord for KeyPress {
 /// empty here.
 ///
 /// ```
-/// use hedrugal::extended::{typed_text, ExtendedParser, Protocol};
+/// use hedrugal::extended::{typed_text, Dialect, ExtendedParser};
 ///
-/// let events = ExtendedParser::new(Protocol::Kitty).parse_as_vec(b"\x1b[0;;102:105u", true);
-/// assert_eq!(typed_text(&events[0].key().unwrap()), "fi");
+/// let events = ExtendedParser::new(Dialect::Extended).parse_as_vec(b"\x1b[0;;102:105u", true);
+/// assert_eq!(typed_text(events[0].key().unwrap()), "fi");
 /// ```
 #[must_use]
 pub fn typed_text(report: &KeyReport) -> &str {

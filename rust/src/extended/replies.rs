@@ -1,5 +1,5 @@
 // What a terminal's replies say.
-use super::ExtendedEvent;
+use super::Event;
 use crate::input::{AllocError, FAULT};
 use crate::raw;
 use std::str;
@@ -7,9 +7,9 @@ use std::str;
 /// Which report of a terminal's attributes it is.
 ///
 /// ```
-/// use hedrugal::extended::{DeviceAttributes, ExtendedEvent, Reply};
+/// use hedrugal::extended::{DeviceAttributes, Event, Reply};
 ///
-/// let asked = ExtendedEvent::Csi(b">41;379;0c".to_vec());
+/// let asked = Event::Csi(b">41;379;0c".to_vec());
 /// let numbers = vec![41, 379, 0];
 /// let report = DeviceAttributes::Secondary;
 /// assert_eq!(asked.reply(), Some(Reply::DeviceAttributes { report, numbers }));
@@ -29,9 +29,9 @@ pub enum DeviceAttributes {
 /// The state of a mode.
 ///
 /// ```
-/// use hedrugal::extended::{ExtendedEvent, ModeState, Reply};
+/// use hedrugal::extended::{Event, ModeState, Reply};
 ///
-/// let asked = ExtendedEvent::Csi(b"?2026;2$y".to_vec());
+/// let asked = Event::Csi(b"?2026;2$y".to_vec());
 /// let Some(Reply::Mode { state, .. }) = asked.reply() else { panic!() };
 /// assert_eq!(state, ModeState::Reset);
 /// ```
@@ -53,9 +53,9 @@ pub enum ModeState {
 /// Which colour a reply is about.
 ///
 /// ```
-/// use hedrugal::extended::{ColourName, ExtendedEvent, Reply};
+/// use hedrugal::extended::{ColourName, Event, Reply};
 ///
-/// let asked = ExtendedEvent::Osc(b"4;1;rgb:cdcd/0000/0000".to_vec());
+/// let asked = Event::Osc(b"4;1;rgb:cdcd/0000/0000".to_vec());
 /// let Some(Reply::Colour { name, .. }) = asked.reply() else { panic!() };
 /// assert_eq!(name, ColourName::Palette(1));
 /// ```
@@ -75,9 +75,9 @@ pub enum ColourName {
 /// A colour. Each part is from 0 to 65535, however many digits the terminal wrote.
 ///
 /// ```
-/// use hedrugal::extended::{Colour, ExtendedEvent, Reply};
+/// use hedrugal::extended::{Colour, Event, Reply};
 ///
-/// let asked = ExtendedEvent::Osc(b"11;rgb:00/80/ff".to_vec());
+/// let asked = Event::Osc(b"11;rgb:00/80/ff".to_vec());
 /// let Some(Reply::Colour { colour, .. }) = asked.reply() else { panic!() };
 /// assert_eq!(colour, Colour { red: 0, green: 0x8080, blue: 0xffff });
 /// ```
@@ -95,9 +95,9 @@ pub struct Colour {
 /// The colour scheme that the terminal's user prefers.
 ///
 /// ```
-/// use hedrugal::extended::{ColourScheme, ExtendedEvent, Reply};
+/// use hedrugal::extended::{ColourScheme, Event, Reply};
 ///
-/// let asked = ExtendedEvent::Csi(b"?997;1n".to_vec());
+/// let asked = Event::Csi(b"?997;1n".to_vec());
 /// assert_eq!(asked.reply(), Some(Reply::ColourScheme(ColourScheme::Dark)));
 /// ```
 #[derive(Debug, Clone, Copy, PartialEq, Eq, Hash)]
@@ -113,9 +113,9 @@ pub enum ColourScheme {
 /// flags of Kitty's keyboard protocol are events of their own.
 ///
 /// ```
-/// use hedrugal::extended::{ExtendedParser, Protocol, Reply};
+/// use hedrugal::extended::{Dialect, ExtendedParser, Reply};
 ///
-/// let events = ExtendedParser::new(Protocol::Legacy).parse_as_vec(b"\x1bP>|XTerm(379)\x1b\\", true);
+/// let events = ExtendedParser::new(Dialect::Extended).parse_as_vec(b"\x1bP>|XTerm(379)\x1b\\", true);
 /// assert_eq!(events[0].reply(), Some(Reply::Version("XTerm(379)".to_string())));
 /// ```
 #[derive(Debug, Clone, PartialEq, Eq)]
@@ -166,15 +166,15 @@ pub enum Reply {
     },
 }
 
-impl ExtendedEvent {
+impl Event {
     /// Returns what the event says as a terminal's reply, if it is one: a `Csi`, an `Osc` or a
     /// `Dcs`. Returns `None` for any other event. "Replies" of docs/EXTENDED.md says which bytes
     /// are a reply.
     ///
     /// ```
-    /// use hedrugal::extended::{ExtendedParser, Protocol, Reply};
+    /// use hedrugal::extended::{Dialect, ExtendedParser, Reply};
     ///
-    /// let mut parser = ExtendedParser::new(Protocol::Legacy);
+    /// let mut parser = ExtendedParser::new(Dialect::Extended);
     /// let events = parser.parse_as_vec(b"\x1b[8;24;80t\x1b]52;c;Y2xpcA==\x07q", true);
     /// assert_eq!(events[0].reply(), Some(Reply::WindowSize { rows: 24, columns: 80 }));
     /// let bytes = b"clip".to_vec();
@@ -191,12 +191,12 @@ impl ExtendedEvent {
         self.try_reply().expect("out of memory")
     }
 
-    /// Returns what [`ExtendedEvent::reply`] returns.
+    /// Returns what [`Event::reply`] returns.
     ///
     /// ```
-    /// use hedrugal::extended::ExtendedEvent;
+    /// use hedrugal::extended::Event;
     ///
-    /// assert_eq!(ExtendedEvent::FocusLost.try_reply(), Ok(None));
+    /// assert_eq!(Event::FocusLost.try_reply(), Ok(None));
     /// ```
     ///
     /// # Errors
@@ -204,9 +204,9 @@ impl ExtendedEvent {
     /// If memory is refused. The call may be made again.
     pub fn try_reply(&self) -> Result<Option<Reply>, AllocError> {
         let (kind, bytes) = match self {
-            ExtendedEvent::Csi(bytes) => (raw::KIND_CSI, bytes),
-            ExtendedEvent::Osc(bytes) => (raw::KIND_OSC, bytes),
-            ExtendedEvent::Dcs(bytes) => (raw::KIND_DCS, bytes),
+            Event::Csi(bytes) => (raw::KIND_CSI, bytes),
+            Event::Osc(bytes) => (raw::KIND_OSC, bytes),
+            Event::Dcs(bytes) => (raw::KIND_DCS, bytes),
             _ => return Ok(None),
         };
         // A command has no numbers, and a control sequence brings no bytes. There are never more of

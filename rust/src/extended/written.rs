@@ -1,11 +1,11 @@
 // Events to the bytes that a parser reads as them, and what a terminal replies.
-use super::{ExtendedEvent, ExtendedParser, SideButtonEvent, SideButtonKind, StringKind};
+use super::{Event, ExtendedParser, MouseKind, MouseReport, StringKind};
 use crate::input::sending::sent;
-use crate::input::{AllocError, InputEvent, FAULT};
+use crate::input::{AllocError, FAULT};
 use crate::raw;
 use std::{error, fmt};
 
-/// Why [`ExtendedEvent::try_encode`] made no bytes.
+/// Why [`Event::try_encode`] made no bytes.
 ///
 /// ```
 /// use hedrugal::extended::EncodeEventError;
@@ -43,37 +43,38 @@ impl From<AllocError> for EncodeEventError {
     }
 }
 
-impl ExtendedEvent {
+impl Event {
     /// Returns bytes that the parser reads as the event, whatever the terminal sent. A multiplexer
     /// passes replies on by it, and a test writes what it feeds to a parser. The parser says how
     /// they are read, by its reading and its sequence table. What it has buffered doesn't matter,
     /// and stays.
     ///
     /// With no more to come the bytes are that event alone, and nothing stays buffered. That is so
-    /// with more to come too, but for a key of `Input`, whose text may begin a sequence. Such a key
-    /// is written as what a terminal sends for it, as its character, or as a row of the sequence
-    /// table. A key report is written in the form of Kitty's protocol, with what happened to the
-    /// key always told. Keys as a terminal sends them are those of
-    /// [`KeyCode::encode`](crate::input::KeyCode::encode) and of
-    /// [`KeyReport::encode`](super::KeyReport::encode).
+    /// with more to come too, but for seven short texts, such as ESC, which may begin a sequence.
+    ///
+    /// A key is written by the first of these that is read as that very event: what
+    /// [`KeyCode::encode`](crate::input::KeyCode::encode) gives with every mode off, its character,
+    /// a row of the sequence table, ESC and such bytes, and the form of Kitty's protocol. A mouse
+    /// report is written in SGR's form, and a release that names no button in urxvt's. What a
+    /// terminal sends by Kitty's protocol is [`KeyReport::encode`](super::KeyReport::encode).
     ///
     /// ```
-    /// use hedrugal::extended::{ExtendedEvent, ExtendedParser, Protocol};
+    /// use hedrugal::extended::{Dialect, Event, ExtendedParser};
     ///
-    /// let mut parser = ExtendedParser::new(Protocol::Kitty);
+    /// let mut parser = ExtendedParser::new(Dialect::Extended);
     /// for bytes in [&b"\x1b[A"[..], b"\x1b[?62;22c", b"\x1b]11;#fff\x07", b"\x1b[200~a\x1b[201~"] {
     ///     let events = parser.parse_as_vec(bytes, true);
     ///     let written = events[0].encode(&parser).unwrap();
     ///     assert_eq!(parser.parse_as_vec(&written, true), events);
     /// }
-    /// assert_eq!(ExtendedEvent::FocusGained.encode(&parser).as_deref(), Ok(&b"\x1b[I"[..]));
+    /// assert_eq!(Event::FocusGained.encode(&parser).as_deref(), Ok(&b"\x1b[I"[..]));
     /// ```
     ///
     /// # Errors
     ///
     /// `NoText` if no bytes are read as the event: of `StringPart`, of `StringCut`, of a paste that
-    /// has ESC `[201~` in it, and of an event that no parser makes, such as a position with a 0.
-    /// `TooLong` for a sequence of more than 256 bytes, or a string of 65535 before its end.
+    /// has ESC `[201~` in it, and of an event that this reading doesn't make, such as a position with
+    /// a 0. `TooLong` for a sequence of more than 256 bytes, or a string of 65535 before its end.
     /// `UnnamedBits` for modifiers with a bit that no flag has.
     ///
     /// # Panics
@@ -85,13 +86,13 @@ impl ExtendedEvent {
         written
     }
 
-    /// Returns what [`ExtendedEvent::encode`] returns.
+    /// Returns what [`Event::encode`] returns.
     ///
     /// ```
-    /// use hedrugal::extended::{EncodeEventError, ExtendedEvent, ExtendedParser, Protocol};
+    /// use hedrugal::extended::{Dialect, EncodeEventError, Event, ExtendedParser};
     ///
-    /// let focus = ExtendedEvent::Csi(b"I".to_vec());
-    /// let written = focus.try_encode(&ExtendedParser::new(Protocol::Legacy));
+    /// let focus = Event::Csi(b"I".to_vec());
+    /// let written = focus.try_encode(&ExtendedParser::new(Dialect::Extended));
     /// assert_eq!(written, Err(EncodeEventError::NoText));
     /// ```
     ///
@@ -99,10 +100,11 @@ impl ExtendedEvent {
     ///
     /// The same, and `Memory` if memory is refused.
     pub fn try_encode(&self, parser: &ExtendedParser) -> Result<Vec<u8>, EncodeEventError> {
-        let Some(event) = self.raw() else {
+        // The library's number 0 is for no button.
+        if matches!(self, Event::Mouse(report) if report.button == Some(0)) {
             return Err(EncodeEventError::NoText);
-        };
-        let text = self.bytes();
+        }
+        let (event, text) = (self.raw(), self.bytes());
         let parser = parser.locked();
         let call = |out: &mut [u8], len: &mut usize| {
             // SAFETY: the pointers lead to values of their types that live through the call, with as
@@ -133,38 +135,42 @@ impl ExtendedEvent {
     // The bytes that the event brings.
     fn bytes(&self) -> &[u8] {
         match self {
-            ExtendedEvent::Input(InputEvent::Paste(text)) => text.as_bytes(),
-            ExtendedEvent::Key(report) => report.text.as_bytes(),
-            ExtendedEvent::Csi(bytes)
-            | ExtendedEvent::Osc(bytes)
-            | ExtendedEvent::Dcs(bytes)
-            | ExtendedEvent::Apc(bytes)
-            | ExtendedEvent::StringPart { bytes, .. }
-            | ExtendedEvent::StringCut { bytes, .. } => bytes,
+            Event::Paste(text) => text.as_bytes(),
+            Event::Key(report) => report.text.as_bytes(),
+            Event::Csi(bytes)
+            | Event::Osc(bytes)
+            | Event::Dcs(bytes)
+            | Event::Apc(bytes)
+            | Event::StringPart { bytes, .. }
+            | Event::StringCut { bytes, .. } => bytes,
             _ => &[],
         }
     }
 
-    // The event as the library has it, unless no parser makes one of its kind. Its bytes are passed
-    // beside it.
-    fn raw(&self) -> Option<raw::ExtendedEvent> {
+    // The event as the library has it. Its bytes are passed beside it.
+    fn raw(&self) -> raw::ExtendedEvent {
         let none = raw::ExtendedEvent::default();
-        Some(match self {
-            ExtendedEvent::Input(input) => raw_input(input)?,
-            ExtendedEvent::Key(report) => raw::ExtendedEvent {
-                kind: raw::KIND_REPORT,
+        match self {
+            Event::Key(report) => raw::ExtendedEvent {
+                kind: raw::KIND_KEY,
                 report: report.raw(),
                 ..none
             },
-            ExtendedEvent::FocusGained => of_kind(raw::KIND_FOCUS_GAINED),
-            ExtendedEvent::FocusLost => of_kind(raw::KIND_FOCUS_LOST),
-            ExtendedEvent::CursorPosition { row, column } => raw::ExtendedEvent {
+            Event::Mouse(report) => raw::ExtendedEvent {
+                kind: raw::KIND_MOUSE,
+                mouse: report.raw(),
+                ..none
+            },
+            Event::Paste(_) => of_kind(raw::KIND_PASTE),
+            Event::FocusGained => of_kind(raw::KIND_FOCUS_GAINED),
+            Event::FocusLost => of_kind(raw::KIND_FOCUS_LOST),
+            Event::CursorPosition { row, column } => raw::ExtendedEvent {
                 kind: raw::KIND_CURSOR_POSITION,
                 row: *row,
                 column: *column,
                 ..none
             },
-            ExtendedEvent::Resize {
+            Event::Resize {
                 rows,
                 columns,
                 height,
@@ -177,25 +183,24 @@ impl ExtendedEvent {
                 width: *width,
                 ..none
             },
-            ExtendedEvent::KeyboardFlags(flags) => raw::ExtendedEvent {
+            Event::KeyboardFlags(flags) => raw::ExtendedEvent {
                 kind: raw::KIND_KEYBOARD_FLAGS,
                 flags: *flags,
                 ..none
             },
-            ExtendedEvent::SideButton(button) => raw_side_button(button),
-            ExtendedEvent::Csi(_) => of_kind(raw::KIND_CSI),
-            ExtendedEvent::Osc(_) => of_kind(raw::KIND_OSC),
-            ExtendedEvent::Dcs(_) => of_kind(raw::KIND_DCS),
-            ExtendedEvent::Apc(_) => of_kind(raw::KIND_APC),
-            ExtendedEvent::StringPart { kind, .. } => raw::ExtendedEvent {
+            Event::Csi(_) => of_kind(raw::KIND_CSI),
+            Event::Osc(_) => of_kind(raw::KIND_OSC),
+            Event::Dcs(_) => of_kind(raw::KIND_DCS),
+            Event::Apc(_) => of_kind(raw::KIND_APC),
+            Event::StringPart { kind, .. } => raw::ExtendedEvent {
                 flags: kind.number(),
                 ..of_kind(raw::KIND_STRING_PART)
             },
-            ExtendedEvent::StringCut { kind, .. } => raw::ExtendedEvent {
+            Event::StringCut { kind, .. } => raw::ExtendedEvent {
                 flags: kind.number(),
                 ..of_kind(raw::KIND_STRING_CUT)
             },
-        })
+        }
     }
 }
 
@@ -207,47 +212,23 @@ fn of_kind(kind: u8) -> raw::ExtendedEvent {
     }
 }
 
-fn raw_input(input: &InputEvent) -> Option<raw::ExtendedEvent> {
-    match input {
-        InputEvent::Key(event) => Some(raw::ExtendedEvent {
-            input: raw::Event {
-                modifiers: event.modifiers.bits(),
-                key: event.key.number(),
-                detail: event.key.detail(),
-                ..raw::Event::default()
+impl MouseReport {
+    // The report as the library has it. No button has the number 0.
+    fn raw(&self) -> raw::MouseReport {
+        raw::MouseReport {
+            kind: match self.kind {
+                MouseKind::Press => raw::MOUSE_KIND_PRESS,
+                MouseKind::Release => raw::MOUSE_KIND_RELEASE,
+                MouseKind::Drag => raw::MOUSE_KIND_DRAG,
+                MouseKind::Move => raw::MOUSE_KIND_MOVE,
+                MouseKind::Wheel => raw::MOUSE_KIND_WHEEL,
             },
-            ..of_kind(raw::KIND_KEY)
-        }),
-        InputEvent::Mouse(event) => Some(raw::ExtendedEvent {
-            input: raw::Event {
-                buttons: event.mouse_buttons.bits(),
-                modifiers: event.modifiers.bits(),
-                x: event.x,
-                y: event.y,
-                ..raw::Event::default()
-            },
-            ..of_kind(raw::KIND_MOUSE)
-        }),
-        InputEvent::Paste(_) => Some(of_kind(raw::KIND_PASTE)),
-        _ => None,
-    }
-}
-
-fn raw_side_button(button: &SideButtonEvent) -> raw::ExtendedEvent {
-    raw::ExtendedEvent {
-        flags: match button.kind {
-            SideButtonKind::Press => raw::SIDE_BUTTON_PRESS,
-            SideButtonKind::Release => raw::SIDE_BUTTON_RELEASE,
-            SideButtonKind::Drag => raw::SIDE_BUTTON_DRAG,
-        },
-        input: raw::Event {
-            modifiers: button.modifiers.bits(),
-            x: button.x,
-            y: button.y,
-            detail: u32::from(button.number),
-            ..raw::Event::default()
-        },
-        ..of_kind(raw::KIND_SIDE_BUTTON)
+            button: self.button.unwrap_or(0),
+            buttons: self.buttons.bits(),
+            modifiers: self.modifiers.bits(),
+            x: self.x,
+            y: self.y,
+        }
     }
 }
 

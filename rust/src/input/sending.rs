@@ -264,7 +264,7 @@ impl MouseReport {
         tracking: MouseTracking,
         encoding: MouseEncoding,
     ) -> Result<Vec<u8>, MouseError> {
-        let report = raw::MouseReport {
+        let report = raw::SentMouse {
             x: self.x,
             y: self.y,
             modifiers: self.modifiers.bits(),

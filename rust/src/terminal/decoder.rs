@@ -1,6 +1,7 @@
 // A decoder for the codecs of tokio-util.
 use super::events::{refused, Events};
-use super::{Event, Modes};
+use super::Event;
+use crate::extended::Reading;
 use crate::input::Policy;
 use bytes::BytesMut;
 use std::io;
@@ -50,11 +51,12 @@ use tokio_util::codec::Decoder;
 ///
 /// ```
 /// use bytes::BytesMut;
-/// use hedrugal::terminal::{EventDecoder, Modes};
+/// use hedrugal::extended::Reading;
+/// use hedrugal::terminal::EventDecoder;
 /// use std::time::Duration;
 /// use tokio_util::codec::Decoder;
 ///
-/// let mut decoder = EventDecoder::new(Modes::default())?;
+/// let mut decoder = EventDecoder::new(Reading::default())?;
 /// let mut bytes = BytesMut::from(&b"\x1b[A\x1b"[..]);
 /// let up = decoder.decode(&mut bytes)?.and_then(|event| event.press());
 /// assert_eq!(up.map(|press| press.to_string()).as_deref(), Some("up"));
@@ -69,12 +71,14 @@ pub struct EventDecoder {
 }
 
 impl EventDecoder {
-    /// Makes a decoder for a terminal that was sent [`Modes::on`] of these modes.
+    /// Makes a decoder for a terminal that is read so. A server for SSH takes `erase` from the modes
+    /// of the client's terminal (VERASE).
     ///
     /// ```
-    /// use hedrugal::terminal::{EventDecoder, Modes};
+    /// use hedrugal::extended::{Dialect, Reading};
+    /// use hedrugal::terminal::EventDecoder;
     ///
-    /// let mut decoder = EventDecoder::new(Modes::default())?;
+    /// let mut decoder = EventDecoder::new(Reading::new(Dialect::Extended))?;
     /// assert_eq!(decoder.timeout(), None);
     /// # Ok::<(), std::io::Error>(())
     /// ```
@@ -82,17 +86,18 @@ impl EventDecoder {
     /// # Errors
     ///
     /// With `OutOfMemory`.
-    pub fn new(modes: Modes) -> io::Result<EventDecoder> {
-        let events = Events::new(&modes).map_err(refused)?;
+    pub fn new(reading: Reading) -> io::Result<EventDecoder> {
+        let events = Events::new(reading).map_err(refused)?;
         Ok(EventDecoder { events })
     }
 
     /// Returns how long to wait for more bytes. `None` is forever.
     ///
     /// ```
-    /// use hedrugal::terminal::{EventDecoder, Modes};
+    /// use hedrugal::extended::Reading;
+    /// use hedrugal::terminal::EventDecoder;
     ///
-    /// let mut decoder = EventDecoder::new(Modes::default())?;
+    /// let mut decoder = EventDecoder::new(Reading::default())?;
     /// assert_eq!(decoder.timeout(), None);
     /// # Ok::<(), std::io::Error>(())
     /// ```
@@ -105,9 +110,10 @@ impl EventDecoder {
     /// at the connection after that time has found nothing.
     ///
     /// ```
-    /// use hedrugal::terminal::{EventDecoder, Modes};
+    /// use hedrugal::extended::Reading;
+    /// use hedrugal::terminal::EventDecoder;
     ///
-    /// let mut decoder = EventDecoder::new(Modes::default())?;
+    /// let mut decoder = EventDecoder::new(Reading::default())?;
     /// assert!(decoder.expire()?.is_empty());
     /// # Ok::<(), std::io::Error>(())
     /// ```
@@ -124,9 +130,10 @@ impl EventDecoder {
     /// Sets how long each kind of bytes may stay buffered.
     ///
     /// ```
-    /// use hedrugal::terminal::{EventDecoder, Modes};
+    /// use hedrugal::extended::Reading;
+    /// use hedrugal::terminal::EventDecoder;
     ///
-    /// let mut decoder = EventDecoder::new(Modes::default())?;
+    /// let mut decoder = EventDecoder::new(Reading::default())?;
     /// decoder.set_policy(hedrugal::input::Policy::usual())?;
     /// # Ok::<(), std::io::Error>(())
     /// ```
@@ -141,9 +148,10 @@ impl EventDecoder {
     /// Sets above how many bytes a paste comes in parts: before that, a megabyte.
     ///
     /// ```
-    /// use hedrugal::terminal::{EventDecoder, Modes};
+    /// use hedrugal::extended::Reading;
+    /// use hedrugal::terminal::EventDecoder;
     ///
-    /// let mut decoder = EventDecoder::new(Modes::default())?;
+    /// let mut decoder = EventDecoder::new(Reading::default())?;
     /// decoder.set_paste_limit(4096);
     /// # Ok::<(), std::io::Error>(())
     /// ```

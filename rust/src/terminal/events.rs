@@ -1,9 +1,6 @@
 // The events of a terminal, from what was read and from what passed of the time.
 use super::questions::Questions;
-use super::Modes;
-use crate::extended::{
-    ExtendedEvent, ExtendedParser, ExtendedWaiting, KeyPress, KeyReport, Protocol, Reading,
-};
+use crate::extended::{self, ExtendedParser, ExtendedWaiting, KeyPress, KeyReport, Reading};
 use crate::input::{AllocError, Policy};
 use std::collections::VecDeque;
 use std::io;
@@ -12,22 +9,18 @@ use std::time::{Duration, Instant};
 /// Something that happened at a program's terminal.
 ///
 /// ```
-/// use hedrugal::extended::ExtendedEvent;
-/// use hedrugal::input::{InputEvent, KeyCode, KeyEvent, Modifiers};
+/// use hedrugal::extended::{Dialect, ExtendedParser};
 /// use hedrugal::terminal::Event;
 ///
-/// let key = KeyEvent {
-///     key: KeyCode::Char('s'),
-///     modifiers: Modifiers::CTRL,
-/// };
-/// let event = Event::Input(ExtendedEvent::Input(InputEvent::Key(key)));
-/// assert_eq!(event.press().map(|press| press.to_string()).as_deref(), Some("ctrl+s"));
+/// let parsed = ExtendedParser::new(Dialect::Extended).parse_as_vec(b"\x13", true);
+/// let press = Event::Input(parsed[0].clone()).press();
+/// assert_eq!(press.map(|press| press.to_string()).as_deref(), Some("ctrl+s"));
 /// ```
 #[derive(Debug, Clone, PartialEq, Eq)]
 #[cfg_attr(feature = "use_serde", derive(serde::Serialize, serde::Deserialize))]
 pub enum Event {
     /// A key, a mouse report, a paste, a focus report, or a reply.
-    Input(ExtendedEvent),
+    Input(extended::Event),
     /// A part of a paste above the limit. The `Paste` that ends it has the rest of its text.
     PastePart(String),
     /// The terminal has a new size, in characters.
@@ -44,13 +37,13 @@ pub enum Event {
 }
 
 impl Event {
-    /// Returns the report of a key, as [`ExtendedEvent::key`] does, and `None` for any other event.
+    /// Returns the report of a key, and `None` for any other event.
     ///
     /// ```
     /// assert_eq!(hedrugal::terminal::Event::Resumed.key(), None);
     /// ```
     #[must_use]
-    pub fn key(&self) -> Option<KeyReport> {
+    pub fn key(&self) -> Option<&KeyReport> {
         match self {
             Event::Input(event) => event.key(),
             _ => None,
@@ -65,25 +58,25 @@ impl Event {
     /// ```
     #[must_use]
     pub fn press(&self) -> Option<KeyPress> {
-        self.key().and_then(|report| KeyPress::of_report(&report))
+        self.key().and_then(KeyPress::of_report)
     }
 
     // Whether a terminal sends it since it was asked, and never by itself.
     fn is_reply(&self) -> bool {
-        use ExtendedEvent::*;
+        use extended::Event::*;
         let Event::Input(event) = self else {
             return false;
         };
         match event {
             CursorPosition { .. } | KeyboardFlags(_) | Csi(_) | Osc(_) | Dcs(_) | Apc(_) => true,
             StringPart { .. } | StringCut { .. } => true,
-            Input(_) | Key(_) | SideButton(_) | FocusGained | FocusLost | Resize { .. } => false,
+            Key(_) | Mouse(_) | Paste(_) | FocusGained | FocusLost | Resize { .. } => false,
         }
     }
 
     // Whether it is the reply to ESC [c.
     fn is_attributes(&self) -> bool {
-        let Event::Input(ExtendedEvent::Csi(bytes)) = self else {
+        let Event::Input(extended::Event::Csi(bytes)) = self else {
             return false;
         };
         let numbers = bytes
@@ -107,8 +100,6 @@ pub(crate) struct Events {
     // When a paste or a string ends where it is, which was open when another program had the
     // terminal.
     cut_at: Option<Instant>,
-    // Kitty's protocol was asked for, and is read once the terminal replies.
-    wants_kitty: bool,
     paste_limit: usize,
     is_ended: bool,
 }
@@ -121,13 +112,14 @@ impl Events {
     // A beginning of a sequence has fewer bytes, and so many events at most. A string is one event.
     const MOST_FLUSHED: usize = 256;
 
-    pub fn new(modes: &Modes) -> Result<Events, AllocError> {
+    pub fn new(reading: Reading) -> Result<Events, AllocError> {
+        let mut parser = ExtendedParser::try_new(reading.dialect)?;
+        parser.set_reading(reading);
         Ok(Events {
-            parser: ExtendedParser::try_new(Protocol::Legacy)?,
+            parser,
             first: VecDeque::new(),
             questions: Questions::default(),
             cut_at: None,
-            wants_kitty: !modes.keyboard.is_empty(),
             paste_limit: Events::PASTE_LIMIT,
             is_ended: false,
         })
@@ -180,16 +172,13 @@ impl Events {
 
     // Has the parser's next event come last of those that are there. Returns whether it had one.
     pub fn pull(&mut self) -> Result<bool, AllocError> {
-        loop {
-            self.first.try_reserve(1).map_err(|_| AllocError)?;
-            let Some(event) = self.parsed()? else {
-                return Ok(false);
-            };
-            if self.note(&event) {
-                self.first.push_back(event);
-                return Ok(true);
-            }
-        }
+        self.first.try_reserve(1).map_err(|_| AllocError)?;
+        let Some(event) = self.parsed()? else {
+            return Ok(false);
+        };
+        self.note(&event);
+        self.first.push_back(event);
+        Ok(true)
     }
 
     fn parsed(&mut self) -> Result<Option<Event>, AllocError> {
@@ -203,26 +192,20 @@ impl Events {
         Ok(part.map(Event::PastePart))
     }
 
-    // Notes what an event tells. Returns whether the program gets it.
-    fn note(&mut self, event: &Event) -> bool {
+    // Notes what an event tells.
+    fn note(&mut self, event: &Event) {
         match event {
-            Event::PastePart(_) | Event::Input(ExtendedEvent::StringPart { .. }) => return true,
-            Event::Input(ExtendedEvent::KeyboardFlags(_)) if self.wants_kitty => {
-                self.parser.set_reading(Reading {
-                    protocol: Protocol::Kitty,
-                    ..self.parser.reading()
-                });
+            Event::PastePart(_) | Event::Input(extended::Event::StringPart { .. }) => return,
+            Event::Input(extended::Event::CursorPosition { .. }) => {
+                self.questions.answer_position();
             }
-            Event::Input(ExtendedEvent::CursorPosition { .. }) => self.questions.answer_position(),
             _ => {}
         }
         self.cut_at = None;
-        if !event.is_attributes() {
-            return true;
+        if event.is_attributes() {
+            self.questions.answer(Instant::now());
+            self.expect_positions();
         }
-        let is_told = self.questions.answer(Instant::now());
-        self.expect_positions();
-        is_told
     }
 
     // How long to wait for more bytes.
@@ -277,25 +260,15 @@ impl Events {
         };
     }
 
-    // Whether a paste or a string goes on that was open when another program had the terminal.
-    pub fn is_open(&self) -> bool {
-        self.cut_at.is_some()
-    }
-
     pub fn questions(&self) -> &Questions {
         &self.questions
     }
 
     // Notes that a question for the attributes is asked now, as `Questions::ask` does.
-    pub fn ask(
-        &mut self,
-        time: Duration,
-        positions: usize,
-        is_hidden: bool,
-    ) -> Result<u64, AllocError> {
+    pub fn ask(&mut self, time: Duration, positions: usize) -> Result<u64, AllocError> {
         self.forget_overdue();
         let now = Instant::now();
-        let number = self.questions.ask(now, time, positions, is_hidden)?;
+        let number = self.questions.ask(now, time, positions)?;
         self.expect_positions();
         Ok(number)
     }
@@ -323,7 +296,7 @@ impl Events {
     }
 
     // Takes the replies from this place on out of the events.
-    pub fn take_replies(&mut self, begin: usize) -> Result<Vec<ExtendedEvent>, AllocError> {
+    pub fn take_replies(&mut self, begin: usize) -> Result<Vec<extended::Event>, AllocError> {
         let count = self.first.range(begin..).filter(|it| it.is_reply()).count();
         let mut replies = Vec::new();
         replies.try_reserve_exact(count).map_err(|_| AllocError)?;

@@ -5,7 +5,7 @@ use std::fs::File;
 use std::io::{ErrorKind, Read};
 use std::os::fd::AsRawFd;
 use std::sync::atomic::Ordering::SeqCst;
-use std::sync::atomic::{AtomicBool, AtomicU64, AtomicUsize};
+use std::sync::atomic::{AtomicU64, AtomicUsize};
 use std::time::{Duration, Instant};
 
 // How long replies are waited for: twice as long as the slowest took, within these limits.
@@ -17,17 +17,14 @@ const NEVER: u64 = u64::MAX;
 pub struct Leftover {
     // How many replies to ATTRIBUTES are owed, as a `Terminal` counts them.
     owed: AtomicUsize,
-    // Whether any reply may come. Where no `Terminal` counts, that to the guard's own question may.
-    may_come: AtomicBool,
     // The longest time that a reply to ATTRIBUTES took, in milliseconds.
     longest: AtomicU64,
 }
 
 impl Leftover {
-    pub fn new(may_come: bool) -> Leftover {
+    pub fn new() -> Leftover {
         Leftover {
             owed: AtomicUsize::new(0),
-            may_come: AtomicBool::new(may_come),
             longest: AtomicU64::new(NEVER),
         }
     }
@@ -35,12 +32,12 @@ impl Leftover {
     pub fn set(&self, owed: usize, longest: Option<Duration>) {
         let millis = |time: Duration| time.as_millis().try_into().unwrap_or(NEVER - 1);
         self.owed.store(owed, SeqCst);
-        self.may_come.store(owed > 0, SeqCst);
         self.longest.store(longest.map_or(NEVER, millis), SeqCst);
     }
 
+    // Whether a reply may come.
     pub fn may_come(&self) -> bool {
-        self.may_come.load(SeqCst)
+        self.owed.load(SeqCst) > 0
     }
 
     // Reads up to the last reply that is owed, once modes are turned off. Where mouse reports came, a
@@ -52,7 +49,7 @@ impl Leftover {
             owed = usize::from(unix::write_all(output.as_raw_fd(), ATTRIBUTES).is_ok());
         }
         if owed == 0 {
-            return !has_mouse && !self.may_come();
+            return !has_mouse;
         }
         let slowest = Duration::from_millis(if longest == NEVER { 0 } else { longest });
         let time = slowest.saturating_mul(2).clamp(SHORTEST_WAIT, LONGEST_WAIT);

@@ -13,7 +13,7 @@ use crate::input::{KittyKeyboardFlags, MouseTracking};
 ///     keyboard: KittyKeyboardFlags::DISAMBIGUATE_ESCAPE_CODES,
 ///     ..Modes::default()
 /// };
-/// assert_eq!(modes.on(), "\x1b[?2004h\x1b[?1000h\x1b[?1006h\x1b[>1u\x1b[?u");
+/// assert_eq!(modes.on(), "\x1b[?2004h\x1b[?1000h\x1b[?1006h\x1b[>1u");
 /// assert_eq!(modes.off(), "\x1b[<u\x1b[?1006l\x1b[?1000l\x1b[?2004l");
 /// ```
 #[derive(Debug, Clone, Copy, PartialEq, Eq)]
@@ -27,9 +27,8 @@ pub struct Modes {
     pub focus: bool,
     /// xterm reports keys that have no sequence of their own (modifyOtherKeys 2).
     pub other_keys: bool,
-    /// The flags of Kitty's keyboard protocol. The terminal is asked for them too: once it replies,
-    /// keys are read by [`Protocol::Kitty`](crate::extended::Protocol::Kitty). A
-    /// [`Terminal`](super::Terminal) asks ESC `[c` behind that, and keeps the reply to itself.
+    /// The flags of Kitty's keyboard protocol. A terminal without the protocol ignores them, and its
+    /// keys are read all the same. Ask ESC `[?u` to know which of them the terminal has.
     pub keyboard: KittyKeyboardFlags,
     /// What else is written first, such as ESC `[?1049h` for the alternate screen.
     pub also_on: &'static str,
@@ -56,20 +55,6 @@ impl Modes {
     /// ```
     #[must_use]
     pub fn on(&self) -> String {
-        self.switched_on() + self.question()
-    }
-
-    // What asks for the flags of Kitty's protocol, where they are turned on.
-    pub(super) fn question(&self) -> &'static str {
-        if self.keyboard.is_empty() {
-            ""
-        } else {
-            "\x1b[?u"
-        }
-    }
-
-    // What turns the modes on, without that question.
-    pub(super) fn switched_on(&self) -> String {
         let switches = self.switches().into_iter().map(|(on, _)| on);
         self.also_on.to_string() + &switches.collect::<String>()
     }

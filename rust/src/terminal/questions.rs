@@ -20,8 +20,6 @@ struct Owed {
     until: Option<Instant>,
     // The questions for the cursor that went before it and are open.
     positions: usize,
-    // The program didn't ask it.
-    is_hidden: bool,
 }
 
 // Replies come in the order of the questions.
@@ -40,7 +38,6 @@ impl Questions {
         now: Instant,
         time: Duration,
         positions: usize,
-        is_hidden: bool,
     ) -> Result<u64, AllocError> {
         self.owed.try_reserve(1).map_err(|_| AllocError)?;
         self.asked += 1;
@@ -49,20 +46,16 @@ impl Questions {
             asked: now,
             until: now.checked_add(time.max(SHORTEST)),
             positions,
-            is_hidden,
         });
         Ok(self.asked)
     }
 
-    // A reply to ATTRIBUTES came. It is that to the oldest question, if any is owed. Returns whether
-    // the program asked it.
-    pub fn answer(&mut self, now: Instant) -> bool {
-        let Some(question) = self.owed.pop_front() else {
-            return true;
-        };
-        self.answered = question.number;
-        self.longest = self.longest.max(Some(now - question.asked));
-        !question.is_hidden
+    // A reply to ATTRIBUTES came. It is that to the oldest question, if any is owed.
+    pub fn answer(&mut self, now: Instant) {
+        if let Some(question) = self.owed.pop_front() {
+            self.answered = question.number;
+            self.longest = self.longest.max(Some(now - question.asked));
+        }
     }
 
     // A reply to a question for the cursor came.

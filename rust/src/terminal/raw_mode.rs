@@ -3,6 +3,7 @@ use super::leftover::Leftover;
 use super::unix::{self, Action, Settings};
 use super::unix::{SIGALRM, SIGCONT, SIGHUP, SIGINT, SIGQUIT, SIGTERM, SIGTSTP, SIGWINCH};
 use super::Modes;
+use crate::extended::{Dialect, Reading};
 use std::ffi::c_int;
 use std::fs::File;
 use std::io::{self, IsTerminal, Read, Write};
@@ -370,8 +371,8 @@ pub enum Heeded {
 /// Once the guard is dropped, these signals do what they did before, and one that was noted is sent
 /// again. SIGALRM is handled too. A signal that was ignored before stays ignored.
 ///
-/// What was typed ahead is left for the shell. Only what comes with mouse reports is discarded, or
-/// with the reply about Kitty's flags, unless the program tells what is owed: [`RawMode::set_owed`].
+/// What was typed ahead is left for the shell. Only what comes with mouse reports is discarded, unless
+/// the program tells what is owed: [`RawMode::set_owed`].
 ///
 /// A program has one guard at a time. A child of fork has a copy, which leaves the terminal to the
 /// parent. Nothing is restored by other signals that end the program, by `abort` or by
@@ -407,7 +408,7 @@ impl RawMode {
     /// If there is no terminal, if it can't be set, or if there is a guard already
     /// ([`AlreadyExists`](io::ErrorKind::AlreadyExists)). The terminal is unchanged then.
     pub fn new(modes: Modes) -> io::Result<RawMode> {
-        RawMode::begin(modes, modes.on(), false, None)
+        RawMode::begin(modes, false, None)
     }
 
     /// Does what [`RawMode::new`] does, and notes signals for the program's loop, SIGWINCH too.
@@ -429,7 +430,7 @@ impl RawMode {
     ///
     /// Those of [`RawMode::new`].
     pub fn noting(modes: Modes) -> io::Result<RawMode> {
-        RawMode::begin(modes, modes.on(), true, None)
+        RawMode::begin(modes, true, None)
     }
 
     // The terminal's settings as they are now.
@@ -438,16 +439,14 @@ impl RawMode {
         Settings::of(terminal_of(io::stdin())?.as_raw_fd())
     }
 
-    // `on` is what turns the modes on. `saved` has the settings to restore, if they aren't those of
-    // now.
+    // `saved` has the settings to restore, if they aren't those of now.
     pub(super) fn begin(
         modes: Modes,
-        on: String,
         has_loop: bool,
         saved: Option<Settings>,
     ) -> io::Result<RawMode> {
         let wake = wake()?;
-        claim(Entered::find(modes, on, has_loop, saved)?)?;
+        claim(Entered::find(modes, has_loop, saved)?)?;
         let guard = RawMode { wake };
         let turn = Turn::wait();
         HAS_LOOP.store(has_loop, SeqCst);
@@ -479,6 +478,28 @@ impl RawMode {
     /// If the terminal is gone.
     pub fn size(&self) -> io::Result<(u16, u16)> {
         unix::size(self.output().as_raw_fd())
+    }
+
+    /// Returns how an [`ExtendedParser`](crate::extended::ExtendedParser) is to read this terminal:
+    /// which byte its Backspace key sends (VERASE), and what byte 10 is (ICRNL).
+    ///
+    /// ```no_run
+    /// use hedrugal::extended::{Dialect, ExtendedParser};
+    /// use hedrugal::terminal::{Modes, RawMode};
+    ///
+    /// let guard = RawMode::new(Modes::default())?;
+    /// let mut parser = ExtendedParser::new(Dialect::Extended);
+    /// parser.set_reading(guard.reading());
+    /// # Ok::<(), std::io::Error>(())
+    /// ```
+    #[must_use]
+    pub fn reading(&self) -> Reading {
+        let settings = &self.entered().raw;
+        Reading {
+            erase: settings.erase(),
+            newline: settings.newline(),
+            ..Reading::new(Dialect::Extended)
+        }
     }
 
     /// Returns the terminal to read from. A program reads it by [`Read`] of `&File`, or by its
@@ -683,12 +704,7 @@ impl Drop for Entered {
 
 impl Entered {
     // The terminal of this program, as it is before raw mode.
-    fn find(
-        modes: Modes,
-        on: String,
-        has_loop: bool,
-        saved: Option<Settings>,
-    ) -> io::Result<Entered> {
+    fn find(modes: Modes, has_loop: bool, saved: Option<Settings>) -> io::Result<Entered> {
         let input = terminal_of(io::stdin())?;
         let output = terminal_of(io::stdout())?;
         let settings = Settings::of(input.as_raw_fd())?;
@@ -705,11 +721,11 @@ impl Entered {
             saved: saved.unwrap_or(settings),
             raw: settings.to_raw(),
             modes: Switches {
-                on,
+                on: modes.on(),
                 off: modes.off(),
             },
             own: AtomicPtr::new(Box::into_raw(Box::default())),
-            leftover: Leftover::new(!modes.keyboard.is_empty()),
+            leftover: Leftover::new(),
             owner: process::id(),
         })
     }

@@ -3,7 +3,7 @@ use super::events::{refused, Events};
 use super::questions::{ATTRIBUTES, POSITION};
 use super::unix::{self, Settings, EIO};
 use super::{Event, Heeded, Modes, RawMode};
-use crate::extended::ExtendedEvent;
+use crate::extended;
 use crate::input::Policy;
 use std::fmt;
 use std::io::{self, ErrorKind, Read, Write};
@@ -31,7 +31,7 @@ const MOST_EVENTS: usize = 1 << 16;
 pub struct Answers {
     /// The replies, in their order: `Csi`, `Osc`, `Dcs`, `Apc`, `StringPart`, `StringCut`,
     /// `CursorPosition` and `KeyboardFlags`.
-    pub events: Vec<ExtendedEvent>,
+    pub events: Vec<extended::Event>,
     /// Whether the last question, for the attributes, was answered: no reply is missing then but to
     /// questions that the terminal doesn't know.
     pub is_whole: bool,
@@ -68,8 +68,6 @@ pub struct Terminal {
     events: Events,
     // What was read and refused memory by the parser. It never grows.
     unfed: Vec<u8>,
-    // What asks for the flags of Kitty's protocol, if they are wanted.
-    question: &'static str,
     raw_mode: RawMode,
 }
 
@@ -114,23 +112,13 @@ impl Terminal {
 
     // `saved` has the settings to restore, if they aren't those of now.
     pub(crate) fn begin(modes: Modes, saved: Option<Settings>) -> io::Result<Terminal> {
-        let mut terminal = Terminal {
-            events: Events::new(&modes).map_err(refused)?,
-            unfed: Vec::with_capacity(READ),
-            question: modes.question(),
-            raw_mode: RawMode::begin(modes, modes.switched_on(), true, saved)?,
-        };
-        terminal.ask_for_flags()?;
-        Ok(terminal)
-    }
-
-    // In a paste or a string that goes on, the reply would be a part of it.
-    fn ask_for_flags(&mut self) -> io::Result<()> {
-        if !self.question.is_empty() && !self.events.is_open() {
-            self.ask_attributes(self.question, Duration::ZERO, true)?;
-        }
-        self.tell_owed();
-        Ok(())
+        let unfed = Vec::with_capacity(READ);
+        let raw_mode = RawMode::begin(modes, true, saved)?;
+        Ok(Terminal {
+            events: Events::new(raw_mode.reading()).map_err(refused)?,
+            unfed,
+            raw_mode,
+        })
     }
 
     /// Waits for an event. Returns `None` at the end of the input, where the terminal is gone, and
@@ -193,13 +181,13 @@ impl Terminal {
     /// events stay for [`Terminal::read`]. The answers aren't whole then.
     ///
     /// ```no_run
-    /// use hedrugal::extended::ExtendedEvent;
+    /// use hedrugal::extended::Event;
     /// use hedrugal::terminal::Terminal;
     /// use std::time::Duration;
     ///
     /// let mut terminal = Terminal::open()?;
     /// for reply in terminal.ask("\x1b[6n\x1b]11;?\x1b\\", Duration::from_secs(1))?.events {
-    ///     if let ExtendedEvent::CursorPosition { row, column } = reply {
+    ///     if let Event::CursorPosition { row, column } = reply {
     ///         println!("cursor in row {row}, column {column}");
     ///     } else if let Some(reply) = reply.reply() {
     ///         println!("{reply:?}");
@@ -215,7 +203,7 @@ impl Terminal {
     pub fn ask(&mut self, questions: &str, time: Duration) -> io::Result<Answers> {
         let end = Instant::now().checked_add(time);
         while self.pull()? {} // what came before is no reply
-        let number = self.ask_attributes(questions, time, false)?;
+        let number = self.ask_attributes(questions, time)?;
         let begin = self.read_replies(number, end)?;
         Ok(Answers {
             events: self.events.take_replies(begin).map_err(refused)?,
@@ -224,14 +212,9 @@ impl Terminal {
     }
 
     // Asks these questions, and last the one that nearly every terminal answers. Returns its number.
-    fn ask_attributes(
-        &mut self,
-        questions: &str,
-        time: Duration,
-        is_hidden: bool,
-    ) -> io::Result<u64> {
+    fn ask_attributes(&mut self, questions: &str, time: Duration) -> io::Result<u64> {
         let positions = questions.matches(POSITION).count();
-        let asked = self.events.ask(time, positions, is_hidden);
+        let asked = self.events.ask(time, positions);
         let number = asked.map_err(refused)?;
         self.tell_owed();
         io::stdout().flush()?;
@@ -276,7 +259,7 @@ impl Terminal {
     pub fn lend<T>(&mut self, call: impl FnOnce() -> T) -> io::Result<T> {
         self.forget_overdue();
         let done = self.raw_mode.lend(call)?;
-        self.resume()?;
+        self.resume();
         Ok(done)
     }
 
@@ -469,7 +452,7 @@ impl Terminal {
         self.forget_overdue();
         match self.raw_mode.heed()? {
             Heeded::Resumed => {
-                self.resume()?;
+                self.resume();
                 self.events.push(Event::Resumed);
                 self.note_size();
             }
@@ -487,11 +470,11 @@ impl Terminal {
     }
 
     // Another program had the terminal.
-    fn resume(&mut self) -> io::Result<()> {
+    fn resume(&mut self) {
         let _ = self.events.feed(&self.unfed); // of a paste that is open
         self.unfed.clear();
         self.events.resume(Instant::now());
-        self.ask_for_flags()
+        self.tell_owed();
     }
 
     // Has the guard know what the terminal still owes, for when it is left.

@@ -1,5 +1,6 @@
 // The calls of Unix that this module needs and std doesn't have, with the numbers of Linux. This
 // package depends on no other crate.
+use crate::extended::{EraseByte, NewlineByte};
 use std::ffi::{c_int, c_short, c_uint, c_ulong, c_void};
 use std::io;
 use std::os::fd::RawFd;
@@ -28,6 +29,8 @@ const TCSANOW: c_int = 0;
 const TCSADRAIN: c_int = 1;
 const TCSAFLUSH: c_int = 2;
 const TCIFLUSH: c_int = 0;
+const ICRNL: c_uint = 0o400;
+const VERASE: usize = 2;
 const TIOCGWINSZ: c_ulong = 0x5413;
 const SIG_DFL: usize = 0;
 const SIG_IGN: usize = 1;
@@ -81,8 +84,8 @@ fn checked(answer: c_int) -> io::Result<c_int> {
     }
 }
 
-/// The settings of a terminal, a `struct termios`: its flags, and what only the C library looks
-/// into. Its own has 60 bytes.
+/// The settings of a terminal, a `struct termios`: its flags, its characters, and what only the C
+/// library looks into. Its own has 60 bytes.
 #[repr(C)]
 #[derive(Clone, Copy, PartialEq)]
 pub struct Settings {
@@ -90,7 +93,9 @@ pub struct Settings {
     output: c_uint,
     control: c_uint,
     local: c_uint,
-    rest: [c_uint; 60],
+    discipline: u8,
+    characters: [u8; 32],
+    rest: [c_uint; 51],
 }
 
 impl Settings {
@@ -100,7 +105,9 @@ impl Settings {
             output: 0,
             control: 0,
             local: 0,
-            rest: [0; 60],
+            discipline: 0,
+            characters: [0; 32],
+            rest: [0; 51],
         };
         // SAFETY: there is room for a `struct termios`.
         checked(unsafe { tcgetattr(terminal, &mut settings) })?;
@@ -120,6 +127,23 @@ impl Settings {
     /// Whether these are settings in raw mode.
     pub fn is_raw(&self) -> bool {
         self.to_raw() == *self
+    }
+
+    /// Which byte the Backspace key sends.
+    pub fn erase(&self) -> EraseByte {
+        match self.characters[VERASE] {
+            8 => EraseByte::Backspace,
+            _ => EraseByte::Delete,
+        }
+    }
+
+    /// What byte 10 is.
+    pub fn newline(&self) -> NewlineByte {
+        if self.input & ICRNL != 0 {
+            NewlineByte::Enter
+        } else {
+            NewlineByte::CtrlJ
+        }
     }
 
     /// Sets the terminal once its output is written.

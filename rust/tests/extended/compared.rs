@@ -3,7 +3,7 @@ use crate::draws::Draws;
 use crate::examples::{Step, BOTH, LAST, MORE};
 use crate::generated::any_text;
 use crate::plain::PlainReader;
-use hedrugal::extended::{ExtendedParser, Protocol, Reading};
+use hedrugal::extended::{Dialect, ExtendedParser, Reading};
 
 // The end of a paste.
 const END: &[u8] = b"\x1b[201~";
@@ -17,10 +17,10 @@ pub struct Comparison {
 }
 
 impl Comparison {
-    pub fn new(protocol: Protocol) -> Comparison {
-        let first = Reading::new(protocol);
+    pub fn new(dialect: Dialect) -> Comparison {
+        let first = Reading::new(dialect);
         Comparison {
-            parser: ExtendedParser::new(protocol),
+            parser: ExtendedParser::new(dialect),
             reader: PlainReader::new(first),
             first,
             waiting: Vec::new(),
@@ -46,7 +46,7 @@ impl Comparison {
     }
 
     // Another drawn call between two reads, or none. What is buffered stays, but for a reset.
-    fn call_between(&mut self, draws: &mut Draws, protocol: Protocol) {
+    fn call_between(&mut self, draws: &mut Draws, dialect: Dialect) {
         match draws.below(10) {
             0 => {
                 self.parser.reset();
@@ -61,7 +61,7 @@ impl Comparison {
                 self.parser.expect_position();
                 self.reader.expect_position();
             }
-            5 => self.set_reading(draws.reading(protocol)),
+            5 => self.set_reading(draws.reading(dialect)),
             _ => (),
         }
         assert_eq!(self.parser.reading(), self.reader.reading());
@@ -133,12 +133,12 @@ impl Comparison {
 const TEXTS: usize = 1000;
 
 fn check_texts(seed: u64) {
-    for protocol in BOTH {
-        let (mut comparison, mut draws) = (Comparison::new(*protocol), Draws::new(seed));
+    for dialect in BOTH {
+        let (mut comparison, mut draws) = (Comparison::new(*dialect), Draws::new(seed));
         for _ in 0..TEXTS {
             let text = any_text(&mut draws);
             let place = draws.place_in(&text);
-            comparison.set_first(draws.reading(*protocol));
+            comparison.set_first(draws.reading(*dialect));
             comparison.check_text(&text, place);
         }
     }
@@ -155,20 +155,20 @@ fn reads_as_the_plain_reader_2() {
 }
 
 // Reads with other calls between them: questions are asked and forgotten, and the reading changes,
-// also its protocol, while bytes are buffered.
+// also its dialect, while bytes are buffered.
 #[test]
 fn reads_as_the_plain_reader_however_asked() {
     let mut draws = Draws::new(5);
-    let mut comparison = Comparison::new(Protocol::Legacy);
+    let mut comparison = Comparison::new(Dialect::Extended);
     for _ in 0..TEXTS {
-        comparison.set_first(draws.reading(Protocol::Legacy));
+        comparison.set_first(draws.reading(Dialect::Extended));
         comparison.begin();
         for _ in 0..4 {
             let text = any_text(&mut draws);
             let place = draws.place_in(&text);
             for piece in [&text[..place], &text[place..]] {
-                let protocol = BOTH[draws.below(2)];
-                comparison.call_between(&mut draws, protocol);
+                let dialect = BOTH[usize::from(draws.below(8) == 0)];
+                comparison.call_between(&mut draws, dialect);
                 comparison.check_call(piece, MORE);
             }
         }
@@ -179,8 +179,8 @@ fn reads_as_the_plain_reader_however_asked() {
 // Each number that may name a key, and each letter.
 #[test]
 fn reads_keys_as_the_plain_reader() {
-    for protocol in BOTH {
-        let mut comparison = Comparison::new(*protocol);
+    for dialect in BOTH {
+        let mut comparison = Comparison::new(*dialect);
         for number in (0..=300).chain(57300..=57500).chain(63740..=63750) {
             for text in [
                 format!("\x1b[{number}u"),
@@ -219,12 +219,12 @@ fn reads_keys_as_the_plain_reader() {
 // Each code of a mouse report, in all three ways to write it.
 #[test]
 fn reads_mouse_reports_as_the_plain_reader() {
-    for protocol in BOTH {
-        let mut comparison = Comparison::new(*protocol);
+    for dialect in BOTH {
+        let mut comparison = Comparison::new(*dialect);
         for x10_mouse in [false, true] {
             comparison.set_first(Reading {
                 x10_mouse,
-                ..Reading::new(*protocol)
+                ..Reading::new(*dialect)
             });
             for code in 0..=300 {
                 for text in [
@@ -246,12 +246,12 @@ fn reads_mouse_reports_as_the_plain_reader() {
 // Each entry that ends in R, while so many questions are open, and after ESC.
 #[test]
 fn reads_positions_as_the_plain_reader() {
-    for protocol in BOTH {
-        let mut comparison = Comparison::new(*protocol);
+    for dialect in BOTH {
+        let mut comparison = Comparison::new(*dialect);
         for questions in [0, 1, 2, 255] {
             comparison.set_first(Reading {
                 questions,
-                ..Reading::new(*protocol)
+                ..Reading::new(*dialect)
             });
             for column in (0..=20).chain(255..=258) {
                 let entry = format!("\x1b[1;{column}R");

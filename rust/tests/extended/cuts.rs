@@ -2,7 +2,7 @@
 // after it.
 use crate::examples::{Step, MORE};
 use crate::parser::{begin, given};
-use hedrugal::extended::{ExtendedEvent, ExtendedParser, Reading};
+use hedrugal::extended::{Event, ExtendedParser, Reading};
 
 // The events of bytes that are cut: those before `place` in pieces of `size`, with more to come,
 // and the others by one call under the flag.
@@ -12,7 +12,7 @@ pub fn read_cut(
     more: bool,
     place: usize,
     size: usize,
-) -> Vec<ExtendedEvent> {
+) -> Vec<Event> {
     let (front, last) = bytes.split_at(place.min(bytes.len()));
     let mut events = Vec::new();
     for piece in front.chunks(size) {

@@ -1,5 +1,5 @@
 // Texts and readings that look random, and are the same in each run.
-use hedrugal::extended::{Protocol, Reading};
+use hedrugal::extended::{Dialect, EraseByte, NewlineByte, Reading};
 
 // A linear congruential generator.
 pub struct Draws(u64);
@@ -23,12 +23,14 @@ impl Draws {
         self.below(text.len().max(1))
     }
 
-    // A reading of this protocol, often with open questions.
-    pub fn reading(&mut self, protocol: Protocol) -> Reading {
+    // A reading by this dialect, often with open questions.
+    pub fn reading(&mut self, dialect: Dialect) -> Reading {
         Reading {
-            protocol,
+            dialect,
             x10_mouse: self.below(2) == 0,
             questions: [0, 0, 1, 2, 255][self.below(5)],
+            erase: [EraseByte::Delete, EraseByte::Backspace][self.below(2)],
+            newline: [NewlineByte::CtrlJ, NewlineByte::Enter][self.below(2)],
         }
     }
 

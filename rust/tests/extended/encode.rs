@@ -1,7 +1,7 @@
 // Key reports to bytes, and back.
 use hedrugal::extended::{
-    ExtendedEvent, ExtendedParser, KeyEventKind, KeyReport, KittyEncodeError, KittyModifiers,
-    Protocol, ReportedKey,
+    Dialect, Event, ExtendedParser, KeyEventKind, KeyReport, KittyEncodeError, KittyModifiers,
+    ReportedKey,
 };
 use hedrugal::input::{KeyCode, KittyKeyboardFlags as Flags};
 
@@ -847,7 +847,7 @@ fn texts_of_a_key_alone() {
 
 #[test]
 fn read_back() {
-    let mut parser = ExtendedParser::new(Protocol::Kitty);
+    let mut parser = ExtendedParser::new(Dialect::Extended);
     let keys = [
         KeyCode::Char('a'),
         KeyCode::Char('\u{10ffff}'),
@@ -866,7 +866,7 @@ fn read_back() {
         let sent = report.encode(Flags::all()).unwrap();
         assert_eq!(
             parser.parse_as_vec(sent.as_bytes(), true),
-            [ExtendedEvent::Key(report)],
+            [Event::Key(report)],
             "{}",
             sent.escape_debug()
         );
@@ -890,14 +890,14 @@ fn read_back() {
 // key can be another: 29 is F16, and what Ctrl makes of i is Tab.
 #[test]
 fn legacy_read_back() {
-    let mut parser = ExtendedParser::new(Protocol::Kitty);
+    let mut parser = ExtendedParser::new(Dialect::Extended);
     let mut read = |sent: &KeyReport, key: KeyCode, modifiers: KittyModifiers| {
         let text = sent.encode(Flags::NONE).unwrap();
         let events = parser.parse_as_vec(text.as_bytes(), false);
         let [event] = events.as_slice() else {
             panic!("{sent:?}: {events:?}");
         };
-        assert_eq!(event.key(), Some(press(key, modifiers)), "{sent:?}");
+        assert_eq!(event.key(), Some(&press(key, modifiers)), "{sent:?}");
     };
     for bits in 0..64 {
         let modifiers = KittyModifiers::from_bits_retain(bits);

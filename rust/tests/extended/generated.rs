@@ -3,8 +3,9 @@
 use crate::cuts::read_cut;
 use crate::draws::Draws;
 use crate::examples::BOTH;
+use crate::lines::port_of;
 use crate::parser::{begin, parsed, CALLS};
-use hedrugal::extended::{ExtendedEvent, ExtendedParser, Protocol, Reading};
+use hedrugal::extended::{Dialect, ExtendedParser, Reading};
 use hedrugal::input::InputParser;
 
 // The bytes that the forms name, and parts and wholes of sequences. ESC stands twice, so that it is
@@ -46,6 +47,9 @@ const SYMBOLS: &[&[u8]] = &[
     b"\xc3",
     b"\xa9",
     b"\r",
+    b"\x08",
+    b"\n",
+    b"\x7f",
     b"\x1b[",
     b"\x1b[M",
     b"\x1b[1;5R",
@@ -95,7 +99,6 @@ const USUAL_SYMBOLS: &[&[u8]] = &[
     b"\x1b[\r",
     b"\x1b[24;8\r",
     b"\x1b[A",
-    b"\x1b[1;5R",
     b"\x1b[97;5u",
     b"\x1b[2$",
     b"\x1bOA",
@@ -167,12 +170,12 @@ fn check_calls(parser: &mut ExtendedParser, reading: Reading, text: &[u8], more:
 
 #[test]
 fn reads_2000_texts_however_cut() {
-    for protocol in BOTH {
-        let (mut draws, mut parser) = (Draws::new(1), ExtendedParser::new(*protocol));
+    for dialect in BOTH {
+        let (mut draws, mut parser) = (Draws::new(1), ExtendedParser::new(*dialect));
         for _ in 0..2000 {
             let text = any_text(&mut draws);
             let more = draws.below(2) == 0;
-            let reading = draws.reading(*protocol);
+            let reading = draws.reading(*dialect);
             check_cuts(&mut draws, &mut parser, reading, &text, more);
             check_calls(&mut parser, reading, &text, more);
         }
@@ -182,28 +185,47 @@ fn reads_2000_texts_however_cut() {
 // A text without extra sequences is read as the port reads it.
 #[test]
 fn reads_2000_usual_texts_as_the_port() {
-    let (mut port, mut parser) = (InputParser::new(), ExtendedParser::new(Protocol::Legacy));
+    let (mut port, mut parser) = (InputParser::new(), ExtendedParser::new(Dialect::Extended));
     let mut draws = Draws::new(2);
     for _ in 0..2000 {
         let text = drawn(&mut draws, USUAL_SYMBOLS);
         port.reset();
         parser.reset();
-        let wanted: Vec<ExtendedEvent> = port
+        let wanted: Vec<_> = port
             .parse_as_vec(&text, false)
             .into_iter()
-            .map(ExtendedEvent::Input)
+            .map(Some)
             .collect();
-        assert_eq!(
-            parser.parse_as_vec(&text, false),
-            wanted,
-            "{}",
-            text.escape_ascii()
-        );
+        let events = parser.parse_as_vec(&text, false);
+        let events: Vec<_> = events.iter().map(port_of).collect();
+        assert_eq!(events, wanted, "{}", text.escape_ascii());
         assert_eq!(
             parser.waiting_len(),
             port.waiting_len(),
             "{}",
             text.escape_ascii()
         );
+    }
+}
+
+// By termwiz's dialect each text is read as the port reads it, whatever else is set.
+#[test]
+fn reads_2000_texts_as_the_port() {
+    let (mut port, mut parser) = (InputParser::new(), ExtendedParser::new(Dialect::Termwiz));
+    let mut draws = Draws::new(6);
+    for _ in 0..2000 {
+        let (text, more) = (any_text(&mut draws), draws.below(2) == 0);
+        port.reset();
+        begin(&mut parser, draws.reading(Dialect::Termwiz));
+        let wanted: Vec<_> = port
+            .parse_as_vec(&text, more)
+            .into_iter()
+            .map(Some)
+            .collect();
+        let events = parser.parse_as_vec(&text, more);
+        let events: Vec<_> = events.iter().map(port_of).collect();
+        assert_eq!(events, wanted, "{}", text.escape_ascii());
+        assert_eq!(parser.waiting_len(), port.waiting_len());
+        assert_eq!(parser.is_paste_open(), port.is_paste_open());
     }
 }

@@ -2,7 +2,7 @@
 // is what kitty sent for it with all flags. So it shows which key that was, what it types with
 // Shift, and its text.
 use hedrugal::extended::{
-    ExtendedEvent, ExtendedParser, KeyEventKind, KeyReport, KittyModifiers, Protocol, ReportedKey,
+    Dialect, Event, ExtendedParser, KeyEventKind, KeyReport, KittyModifiers, ReportedKey,
 };
 use hedrugal::input::{KeyCode, KittyKeyboardFlags as Flags};
 
@@ -128,8 +128,8 @@ fn unescaped(column: &str) -> String {
 
 // The report that kitty sent with all flags.
 fn told(name: &str, modifiers: &str, sent: &str) -> KeyReport {
-    let events = ExtendedParser::new(Protocol::Kitty).parse_as_vec(sent.as_bytes(), true);
-    let [ExtendedEvent::Key(report)] = events.as_slice() else {
+    let events = ExtendedParser::new(Dialect::Extended).parse_as_vec(sent.as_bytes(), true);
+    let [Event::Key(report)] = events.as_slice() else {
         panic!("{name} {modifiers}: {}", sent.escape_debug());
     };
     report.clone()

@@ -1,8 +1,8 @@
 // Texts at the limits of the forms: the longest of each, and those that are a byte longer.
 use crate::cuts::read_cut;
-use crate::examples::{BOTH, MORE};
+use crate::examples::MORE;
 use crate::parser::given;
-use hedrugal::extended::{ExtendedParser, Protocol};
+use hedrugal::extended::{Dialect, ExtendedParser};
 
 // A text, or what it gives with more to come, by its parts, each so many times.
 type Parts<Part> = &'static [(Part, usize)];
@@ -116,7 +116,7 @@ const CONTROLS: &[LongExample] = &[
     ),
     (
         &[(b"\x1b[97;;", 1), (b"65:", 82), (b"229u", 1)],
-        &[("report Char('a') NONE text \"", 1), ("A", 82), ("å\"", 1)],
+        &[("key Char('a') NONE text \"", 1), ("A", 82), ("å\"", 1)],
     ),
     (
         &[(b"\x1b[", 1), (b"1", 254), (b"x", 1)],
@@ -155,31 +155,29 @@ fn check(parser: &mut ExtendedParser, (parts, wanted): &LongExample) {
     }
 }
 
-pub fn check_all(readings: &[Protocol], examples: &[LongExample]) {
-    for protocol in readings {
-        let mut parser = ExtendedParser::new(*protocol);
-        for example in examples {
-            check(&mut parser, example);
-        }
+pub fn check_all(examples: &[LongExample]) {
+    let mut parser = ExtendedParser::new(Dialect::Extended);
+    for example in examples {
+        check(&mut parser, example);
     }
 }
 
 #[test]
 fn reads_strings_up_to_their_limit() {
-    check_all(BOTH, STRINGS);
+    check_all(STRINGS);
 }
 
 #[test]
 fn reads_longer_strings_in_parts() {
-    check_all(BOTH, PARTS);
+    check_all(PARTS);
 }
 
 #[test]
 fn reads_titles_up_to_their_limit() {
-    check_all(BOTH, TITLES);
+    check_all(TITLES);
 }
 
 #[test]
 fn reads_control_sequences_up_to_their_limit() {
-    check_all(BOTH, CONTROLS);
+    check_all(CONTROLS);
 }

@@ -1,24 +1,23 @@
 // Events as lines of text.
-use hedrugal::extended::{ExtendedEvent, KeyEventKind, KeyReport, ReportedKey, StringKind};
-use hedrugal::input::InputEvent;
+use hedrugal::extended::{
+    Event, KeyEventKind, KeyReport, KittyModifiers, MouseReport, ReportedKey, StringKind,
+};
+use hedrugal::input::{InputEvent, KeyEvent, Modifiers, MouseEvent};
 
-fn input(event: &InputEvent) -> String {
-    match event {
-        InputEvent::Key(event) => format!("key {:?} {}", event.key, event.modifiers),
-        InputEvent::Mouse(event) => format!(
-            "mouse {} {} {} {}",
-            event.x, event.y, event.mouse_buttons, event.modifiers
-        ),
-        InputEvent::Paste(text) => format!("paste {text:?}"),
-        event => panic!("the parser never makes {event:?}"),
+fn mouse(report: &MouseReport) -> String {
+    let (x, y, buttons, modifiers) = (report.x, report.y, report.buttons, report.modifiers);
+    let mut line = format!("mouse {x} {y} {buttons} {modifiers} {:?}", report.kind);
+    if let Some(button) = report.button {
+        line += &format!(" {button}");
     }
+    line
 }
 
 // A press is not named, nor what the terminal didn't report.
 fn report(report: &KeyReport) -> String {
     let mut line = match report.key {
-        ReportedKey::Named(key) => format!("report {key:?} {}", report.modifiers),
-        ReportedKey::Functional(number) => format!("report {number} {}", report.modifiers),
+        ReportedKey::Named(key) => format!("key {key:?} {}", report.modifiers),
+        ReportedKey::Functional(number) => format!("key {number} {}", report.modifiers),
     };
     if report.kind != KeyEventKind::Press {
         line += &format!(" {:?}", report.kind);
@@ -48,39 +47,69 @@ fn bytes(name: &str, bytes: &[u8]) -> String {
 }
 
 // The line of an event, without its end.
-pub fn line(event: &ExtendedEvent) -> String {
+pub fn line(event: &Event) -> String {
     match event {
-        ExtendedEvent::Input(event) => input(event),
-        ExtendedEvent::Key(event) => report(event),
-        ExtendedEvent::FocusGained => "focus gained".to_string(),
-        ExtendedEvent::FocusLost => "focus lost".to_string(),
-        ExtendedEvent::CursorPosition { row, column } => format!("cursor {row} {column}"),
-        ExtendedEvent::Resize {
+        Event::Key(event) => report(event),
+        Event::Mouse(event) => mouse(event),
+        Event::Paste(text) => format!("paste {text:?}"),
+        Event::FocusGained => "focus gained".to_string(),
+        Event::FocusLost => "focus lost".to_string(),
+        Event::CursorPosition { row, column } => format!("cursor {row} {column}"),
+        Event::Resize {
             rows,
             columns,
             height,
             width,
         } => format!("size {rows} {columns} {height} {width}"),
-        ExtendedEvent::KeyboardFlags(flags) => format!("flags {flags}"),
-        ExtendedEvent::SideButton(button) => format!(
-            "side {} {:?} {} {} {}",
-            button.number, button.kind, button.x, button.y, button.modifiers
-        ),
-        ExtendedEvent::Csi(text) => bytes("csi", text),
-        ExtendedEvent::Osc(text) => bytes("osc", text),
-        ExtendedEvent::Dcs(text) => bytes("dcs", text),
-        ExtendedEvent::Apc(text) => bytes("apc", text),
-        ExtendedEvent::StringPart { kind, bytes: part } => {
-            bytes(&format!("{} part", name_of(*kind)), part)
-        }
-        ExtendedEvent::StringCut { kind, bytes: cut } => {
-            bytes(&format!("{} cut", name_of(*kind)), cut)
-        }
+        Event::KeyboardFlags(flags) => format!("flags {flags}"),
+        Event::Csi(text) => bytes("csi", text),
+        Event::Osc(text) => bytes("osc", text),
+        Event::Dcs(text) => bytes("dcs", text),
+        Event::Apc(text) => bytes("apc", text),
+        Event::StringPart { kind, bytes: part } => bytes(&format!("{} part", name_of(*kind)), part),
+        Event::StringCut { kind, bytes: cut } => bytes(&format!("{} cut", name_of(*kind)), cut),
     }
 }
 
 // The lines of events, parted by commas.
-pub fn lines(events: &[ExtendedEvent]) -> String {
+pub fn lines(events: &[Event]) -> String {
     let lines: Vec<String> = events.iter().map(line).collect();
     lines.join(", ")
+}
+
+// The event of the port for a key: a press with these modifiers alone, of which nothing else is told.
+fn key_of(report: &KeyReport) -> Option<KeyEvent> {
+    let ReportedKey::Named(key) = report.key else {
+        return None;
+    };
+    let (mut modifiers, mut others) = (Modifiers::NONE, report.modifiers);
+    for (held, flag) in [
+        (Modifiers::SHIFT, KittyModifiers::SHIFT),
+        (Modifiers::ALT, KittyModifiers::ALT),
+        (Modifiers::CTRL, KittyModifiers::CTRL),
+        (Modifiers::SUPER, KittyModifiers::SUPER),
+    ] {
+        modifiers.set(held, others.contains(flag));
+        others.remove(flag);
+    }
+    let is_told = report.shifted.is_some() || report.base.is_some() || !report.text.is_empty();
+    let is_plain = report.kind == KeyEventKind::Press && others.is_empty() && !is_told;
+    is_plain.then_some(KeyEvent { key, modifiers })
+}
+
+// The port's event of an event that has one.
+pub fn port_of(event: &Event) -> Option<InputEvent> {
+    match event {
+        Event::Key(report) => key_of(report).map(InputEvent::Key),
+        Event::Mouse(report) if !matches!(report.button, Some(8..)) => {
+            Some(InputEvent::Mouse(MouseEvent {
+                x: report.x,
+                y: report.y,
+                mouse_buttons: report.buttons,
+                modifiers: report.modifiers,
+            }))
+        }
+        Event::Paste(text) => Some(InputEvent::Paste(text.clone())),
+        _ => None,
+    }
 }

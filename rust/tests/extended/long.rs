@@ -1,37 +1,31 @@
 // Long texts, by each way to call the parser.
-use crate::examples::{BOTH, LAST};
+use crate::examples::LAST;
 use crate::limits::{check_all, joined, LongExample};
 use crate::lines::lines;
 use crate::parser::{parsed, CALLS};
-use hedrugal::extended::{ExtendedEvent, ExtendedParser, ExtendedWaiting, Protocol};
-use hedrugal::input::InputEvent;
+use hedrugal::extended::{Dialect, Event, ExtendedParser, ExtendedWaiting};
 
 // A text of one event, by each call as a whole, and in reads of 4096 bytes.
-fn check(text: &[u8], wanted: &ExtendedEvent) {
-    for protocol in BOTH {
-        let mut parser = ExtendedParser::new(*protocol);
-        for call in 0..CALLS {
-            assert!(
-                parsed(call, &mut parser, text, true) == [wanted.clone()],
-                "{protocol:?}, call {call}"
-            );
-            let mut events = Vec::new();
-            for bytes in text.chunks(4096) {
-                events.extend(parsed(call, &mut parser, bytes, true));
-            }
-            assert!(
-                events == [wanted.clone()],
-                "{protocol:?}, call {call}, in reads"
-            );
-            assert_eq!(parser.waiting_len(), 0);
+fn check(text: &[u8], wanted: &Event) {
+    let mut parser = ExtendedParser::new(Dialect::Extended);
+    for call in 0..CALLS {
+        assert!(
+            parsed(call, &mut parser, text, true) == [wanted.clone()],
+            "call {call}"
+        );
+        let mut events = Vec::new();
+        for bytes in text.chunks(4096) {
+            events.extend(parsed(call, &mut parser, bytes, true));
         }
+        assert!(events == [wanted.clone()], "call {call}, in reads");
+        assert_eq!(parser.waiting_len(), 0);
     }
 }
 
 #[test]
 fn a_paste_of_100_kb() {
     let text = "täxt \x1b[I\x1b]0;".repeat(8000);
-    let paste = ExtendedEvent::Input(InputEvent::Paste(text.clone()));
+    let paste = Event::Paste(text.clone());
     assert!(text.len() > 100_000);
     check(format!("\x1b[200~{text}\x1b[201~").as_bytes(), &paste);
 }
@@ -42,22 +36,20 @@ fn a_command_of_60000_bytes() {
     for end in [&b"\x1b\\"[..], b"\x07"] {
         check(
             &[b"\x1b]", &text[..], end].concat(),
-            &ExtendedEvent::Osc(text.clone()),
+            &Event::Osc(text.clone()),
         );
     }
 }
 
 // What a program gets of a long string: parts, and what ends it. Each begins with the opening, here
 // of so many bytes after the introducer. Returns the kinds of these, and all other bytes.
-fn joined_string(events: &[ExtendedEvent], opening: usize) -> (String, Vec<u8>) {
+fn joined_string(events: &[Event], opening: usize) -> (String, Vec<u8>) {
     let (mut names, mut data) = (String::new(), Vec::new());
     for event in events {
         let (name, bytes) = match event {
-            ExtendedEvent::StringPart { bytes, .. } => ('p', bytes),
-            ExtendedEvent::StringCut { bytes, .. } => ('c', bytes),
-            ExtendedEvent::Osc(bytes) | ExtendedEvent::Dcs(bytes) | ExtendedEvent::Apc(bytes) => {
-                ('e', bytes)
-            }
+            Event::StringPart { bytes, .. } => ('p', bytes),
+            Event::StringCut { bytes, .. } => ('c', bytes),
+            Event::Osc(bytes) | Event::Dcs(bytes) | Event::Apc(bytes) => ('e', bytes),
             event => panic!("{event:?}"),
         };
         names.push(name);
@@ -72,34 +64,32 @@ fn joined_string(events: &[ExtendedEvent], opening: usize) -> (String, Vec<u8>) 
 fn a_clipboard_of_100_kb() {
     let text = b"rm -rf ~\r\x03\x00\x7f\n".repeat(8000);
     assert!(text.len() > 100_000);
-    for protocol in BOTH {
-        for (opening, end, wanted) in [
-            (&b"\x1b]52;"[..], &b"\x07"[..], "pe"),
-            (b"\x1b]52;", b"\x1b\\", "pe"),
-            (b"\x1b]52;", b"", "pc"),
-            (b"\x1b]52;", b"\x1b", "pc"),
-            (b"\x1bP>|", b"\x1b\\", "pe"),
-            (b"\x1b_Gi=", b"", "pc"),
-        ] {
-            for size in [1, 4096, 200_000] {
-                let mut parser = ExtendedParser::new(*protocol);
-                let mut events = Vec::new();
-                for bytes in [opening, &text, end].concat().chunks(size) {
-                    events.extend(parser.parse_as_vec(bytes, true));
-                    assert!(parser.waiting_len() <= 65535);
-                }
-                if wanted == "pc" {
-                    assert_eq!(parser.waiting(), ExtendedWaiting::String);
-                    events.extend(parser.parse_as_vec(b"", LAST));
-                }
-                let (kinds, data) = joined_string(&events, opening.len() - 2);
-                assert_eq!(kinds, wanted);
-                assert!(data == text, "{protocol:?}, pieces of {size}");
-                assert_eq!(
-                    lines(&parser.parse_as_vec(b"q", true)),
-                    "key Char('q') NONE"
-                );
+    for (opening, end, wanted) in [
+        (&b"\x1b]52;"[..], &b"\x07"[..], "pe"),
+        (b"\x1b]52;", b"\x1b\\", "pe"),
+        (b"\x1b]52;", b"", "pc"),
+        (b"\x1b]52;", b"\x1b", "pc"),
+        (b"\x1bP>|", b"\x1b\\", "pe"),
+        (b"\x1b_Gi=", b"", "pc"),
+    ] {
+        for size in [1, 4096, 200_000] {
+            let mut parser = ExtendedParser::new(Dialect::Extended);
+            let mut events = Vec::new();
+            for bytes in [opening, &text, end].concat().chunks(size) {
+                events.extend(parser.parse_as_vec(bytes, true));
+                assert!(parser.waiting_len() <= 65535);
             }
+            if wanted == "pc" {
+                assert_eq!(parser.waiting(), ExtendedWaiting::String);
+                events.extend(parser.parse_as_vec(b"", LAST));
+            }
+            let (kinds, data) = joined_string(&events, opening.len() - 2);
+            assert_eq!(kinds, wanted);
+            assert!(data == text, "pieces of {size}");
+            assert_eq!(
+                lines(&parser.parse_as_vec(b"q", true)),
+                "key Char('q') NONE"
+            );
         }
     }
 }
@@ -107,20 +97,12 @@ fn a_clipboard_of_100_kb() {
 // 70000 events in one call.
 #[test]
 fn events_70000_at_once() {
-    for protocol in BOTH {
-        let mut parser = ExtendedParser::new(*protocol);
-        for call in 0..CALLS {
-            let events = parsed(call, &mut parser, &b"\x1b[I\x1b]4;\x07".repeat(35000), true);
-            let wanted = [
-                ExtendedEvent::FocusGained,
-                ExtendedEvent::Osc(b"4;".to_vec()),
-            ];
-            assert_eq!(events.len(), 70000);
-            assert!(
-                events.chunks(2).all(|pair| pair == wanted),
-                "{protocol:?}, call {call}"
-            );
-        }
+    let mut parser = ExtendedParser::new(Dialect::Extended);
+    for call in 0..CALLS {
+        let events = parsed(call, &mut parser, &b"\x1b[I\x1b]4;\x07".repeat(35000), true);
+        let wanted = [Event::FocusGained, Event::Osc(b"4;".to_vec())];
+        assert_eq!(events.len(), 70000);
+        assert!(events.chunks(2).all(|pair| pair == wanted), "call {call}");
     }
 }
 
@@ -136,8 +118,8 @@ const MIXED: LongExample = (
     &[
         ("key Char('s') NONE", 1),
         (
-            ", key Char('a') NONE, key ApplicationUpArrow NONE, focus gained, report Char('a') CTRL Release, osc 0;t, key Char('é') NONE\
-             , key Char('b') NONE, paste \"p\", mouse 1 2 LEFT NONE, key Char('c') NONE, key Char('d') NONE, key Char('e') NONE",
+            ", key Char('a') NONE, key ApplicationUpArrow NONE, focus gained, key Char('a') CTRL Release, osc 0;t, key Char('é') NONE\
+             , key Char('b') NONE, paste \"p\", mouse 1 2 LEFT NONE Press 1, key Char('c') NONE, key Char('d') NONE, key Char('e') NONE",
             2000,
         ),
     ],
@@ -150,7 +132,7 @@ const PASTE: LongExample = (
 
 #[test]
 fn reads_of_100000_bytes() {
-    check_all(BOTH, &[MIXED, PASTE]);
+    check_all(&[MIXED, PASTE]);
 }
 
 // Each way to call the parser reads many events at once.
@@ -159,7 +141,7 @@ fn mixed_events_at_once() {
     let (parts, wanted) = MIXED;
     let (text, wanted) = (joined(parts), joined(wanted));
     assert_eq!(text.len(), 100_001);
-    let mut parser = ExtendedParser::new(Protocol::Kitty);
+    let mut parser = ExtendedParser::new(Dialect::Extended);
     for call in 0..CALLS {
         let events = parsed(call, &mut parser, &text, LAST);
         assert_eq!(events.len(), 24001, "call {call}");

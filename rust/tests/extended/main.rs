@@ -21,6 +21,7 @@ mod rows;
 mod sending;
 mod streams;
 mod waiting;
+mod worked;
 mod written;
 
 // The plain reader of the port, its texts, and how recorded answers are fed. The tests of the port use more of these.

@@ -2,19 +2,19 @@
 use crate::compared::Comparison;
 use crate::cuts::check_cuts;
 use crate::examples::{
-    Example, Step, BARE_KEYS, BOTH, EXPECTED_POSITIONS, KEYS, KINDS_AND_MODIFIERS, MOUSE_REPORTS,
+    Example, Step, BARE_KEYS, EXPECTED_POSITIONS, KEYS, KINDS_AND_MODIFIERS, MOUSE_REPORTS,
     NAMES_AND_FIELDS, OTHERS, PASTES, REPLIES, RXVT_AND_KEYPAD_KEYS, SIDE_BUTTONS, STRINGS,
     THIRD_FUNCTION_KEYS, X10_REPORTS,
 };
 use crate::lines::lines;
 use hedrugal::extended::{
-    ExtendedEvent, ExtendedParser, ExtendedWaiting, KeyEventKind, KeyReport, KittyModifiers,
-    Protocol, Reading, ReportedKey, SideButtonEvent,
+    Dialect, Event, ExtendedParser, ExtendedWaiting, KeyEventKind, KeyReport, KittyModifiers,
+    MouseReport, Reading, ReportedKey,
 };
 use hedrugal::input::{InputEvent, InputParser, KeyCode, KittyKeyboardFlags};
 
 // What a call gave, and how many bytes are buffered after it.
-pub fn given(events: &[ExtendedEvent], parser: &ExtendedParser) -> String {
+pub fn given(events: &[Event], parser: &ExtendedParser) -> String {
     let mut given = lines(events);
     if parser.waiting_len() > 0 {
         given += &format!("; {}", parser.waiting_len());
@@ -32,12 +32,7 @@ pub fn begin(parser: &mut ExtendedParser, reading: Reading) {
 }
 
 // The events of a call, by each way to call the parser.
-pub fn parsed(
-    call: usize,
-    parser: &mut ExtendedParser,
-    bytes: &[u8],
-    more: bool,
-) -> Vec<ExtendedEvent> {
+pub fn parsed(call: usize, parser: &mut ExtendedParser, bytes: &[u8], more: bool) -> Vec<Event> {
     let mut events = Vec::new();
     match call {
         0 => return parser.parse_as_vec(bytes, more),
@@ -121,25 +116,21 @@ fn check_pieces(parser: &mut ExtendedParser, reading: Reading, steps: &[Step]) {
     }
 }
 
-// The examples under a protocol are read by the reading that is made of it.
-fn check_all_by(reading_of: fn(Protocol) -> Reading, examples: &[Example]) {
-    for protocol in BOTH {
-        let (mut parser, mut comparison) =
-            (ExtendedParser::new(*protocol), Comparison::new(*protocol));
-        assert_eq!(parser.protocol(), *protocol);
-        let reading = reading_of(*protocol);
-        comparison.set_first(reading);
-        for (_, steps) in examples.iter().filter(|(read, _)| read.contains(protocol)) {
-            check_steps(&mut parser, reading, steps);
-            check_cuts(&mut parser, reading, steps);
-            check_pieces(&mut parser, reading, steps);
-            comparison.check_steps(steps);
-        }
+// The examples are read by this reading.
+fn check_all_by(reading: Reading, examples: &[Example]) {
+    let mut parser = ExtendedParser::new(Dialect::Extended);
+    let mut comparison = Comparison::new(Dialect::Extended);
+    comparison.set_first(reading);
+    for steps in examples {
+        check_steps(&mut parser, reading, steps);
+        check_cuts(&mut parser, reading, steps);
+        check_pieces(&mut parser, reading, steps);
+        comparison.check_steps(steps);
     }
 }
 
 fn check_all(examples: &[Example]) {
-    check_all_by(Reading::new, examples);
+    check_all_by(Reading::new(Dialect::Extended), examples);
 }
 
 #[test]
@@ -168,9 +159,9 @@ fn keys_of_other_terminals() {
 
 #[test]
 fn expected_positions() {
-    let asked = |protocol| Reading {
+    let asked = Reading {
         questions: 2,
-        ..Reading::new(protocol)
+        ..Reading::new(Dialect::Extended)
     };
     check_all_by(asked, EXPECTED_POSITIONS);
 }
@@ -183,9 +174,9 @@ fn mouse_reports() {
 
 #[test]
 fn x10_mouse_reports() {
-    let with_x10 = |protocol| Reading {
+    let with_x10 = Reading {
         x10_mouse: true,
-        ..Reading::new(protocol)
+        ..Reading::new(Dialect::Extended)
     };
     check_all_by(with_x10, X10_REPORTS);
     check_all_by(with_x10, SIDE_BUTTONS);
@@ -213,15 +204,15 @@ fn pressed(key: KeyCode, modifiers: KittyModifiers) -> KeyReport {
     }
 }
 
-// A key of the port is a press, so a program needs one case for both.
+// A key that is typed is a press, so a program needs one case for both.
 #[test]
 fn finds_keys_of_events() {
-    let mut parser = ExtendedParser::new(Protocol::Legacy);
+    let mut parser = ExtendedParser::new(Dialect::Extended);
     let events = parser.parse_as_vec(
         b"a\x1b[1;8A\x1b[I\x1b[97;5:3u\x1b[200~p\x1b[201~\x1b[<0;1;1M\x1b[?1u\x1b]4;\x07",
         true,
     );
-    let keys: Vec<Option<KeyReport>> = events.iter().map(ExtendedEvent::key).collect();
+    let keys: Vec<Option<KeyReport>> = events.iter().map(|it| it.key().cloned()).collect();
     let held = KittyModifiers::SHIFT | KittyModifiers::ALT | KittyModifiers::CTRL;
     let released = KeyReport {
         kind: KeyEventKind::Release,
@@ -247,28 +238,28 @@ fn finds_keys_of_events() {
 // Each key is found as a report, also one with a text and a key of the port.
 #[test]
 fn finds_keys_of_reports() {
-    let mut parser = ExtendedParser::new(Protocol::Legacy);
+    let mut parser = ExtendedParser::new(Dialect::Extended);
     let events = parser.parse_as_vec(
         b"a\x1b[97;5u\x1b[I\x1b[1;2:3A\x1b[200~p\x1b[201~\x1b[97;;65u\x1bOP",
         false,
     );
-    let keys: Vec<ExtendedEvent> = events
+    let keys: Vec<Event> = events
         .iter()
-        .filter_map(ExtendedEvent::key)
-        .map(ExtendedEvent::Key)
+        .filter(|event| event.key().is_some())
+        .cloned()
         .collect();
     assert_eq!(
         lines(&keys),
-        "report Char('a') NONE, report Char('a') CTRL, report UpArrow SHIFT Release, report Char('a') NONE text \"A\", \
-         report Function(1) NONE"
+        "key Char('a') NONE, key Char('a') CTRL, key UpArrow SHIFT Release, key Char('a') NONE text \"A\", \
+         key Function(1) NONE"
     );
 }
 
 // The flags of a reply are those that a program pushes.
 #[test]
 fn tells_keyboard_flags() {
-    let events = ExtendedParser::new(Protocol::Kitty).parse_as_vec(b"\x1b[?5u", true);
-    let [ExtendedEvent::KeyboardFlags(bits)] = events[..] else {
+    let events = ExtendedParser::new(Dialect::Extended).parse_as_vec(b"\x1b[?5u", true);
+    let [Event::KeyboardFlags(bits)] = events[..] else {
         panic!("{events:?}")
     };
     let flags =
@@ -290,7 +281,7 @@ fn writes_and_reads_modifiers() {
 // A callback that panics loses no later event.
 #[test]
 fn goes_on_after_a_panic() {
-    let mut parser = ExtendedParser::new(Protocol::Legacy);
+    let mut parser = ExtendedParser::new(Dialect::Extended);
     let caught = std::panic::catch_unwind(std::panic::AssertUnwindSafe(|| {
         parser.parse(
             b"\x1b[I\x1b]4;\x07",
@@ -299,16 +290,13 @@ fn goes_on_after_a_panic() {
         );
     }));
     assert!(caught.is_err());
-    assert_eq!(
-        parser.parse_as_vec(b"", true),
-        [ExtendedEvent::Osc(b"4;".to_vec())]
-    );
+    assert_eq!(parser.parse_as_vec(b"", true), [Event::Osc(b"4;".to_vec())]);
 }
 
 // What stays buffered is read by two threads at once, and the parser then goes on in a third.
 #[test]
 fn shares_a_parser_between_threads() {
-    let mut parser = ExtendedParser::new(Protocol::Kitty);
+    let mut parser = ExtendedParser::new(Dialect::Extended);
     parser.parse(b"\x1b]0;title", |_| {}, true);
     std::thread::scope(|scope| {
         for _ in 0..2 {
@@ -319,49 +307,46 @@ fn shares_a_parser_between_threads() {
                         (ExtendedWaiting::String, 9)
                     );
                     assert!(!parser.is_paste_open());
-                    assert_eq!(parser.reading(), Reading::new(Protocol::Kitty));
+                    assert_eq!(parser.reading(), Reading::new(Dialect::Extended));
                 }
             });
         }
     });
     let events = std::thread::spawn(move || parser.parse_as_vec(b"\x07", true)).join();
-    assert_eq!(
-        events.ok(),
-        Some(vec![ExtendedEvent::Osc(b"0;title".to_vec())])
-    );
+    assert_eq!(events.ok(), Some(vec![Event::Osc(b"0;title".to_vec())]));
 }
 
 #[test]
 fn has_the_traits() {
     fn is_shared<T: Send + Sync + std::panic::UnwindSafe + std::panic::RefUnwindSafe>() {}
     is_shared::<ExtendedParser>();
-    is_shared::<ExtendedEvent>();
+    is_shared::<Event>();
     is_shared::<KittyModifiers>();
     is_shared::<Reading>();
-    is_shared::<SideButtonEvent>();
+    is_shared::<MouseReport>();
 }
 
 #[test]
 fn shows_a_parser() {
-    let mut parser = ExtendedParser::new(Protocol::Legacy);
+    let mut parser = ExtendedParser::new(Dialect::Extended);
     parser.parse(b"\x1b[", |_| (), true);
     assert_eq!(
         format!("{parser:?}"),
-        "ExtendedParser { reading: Reading { protocol: Legacy, x10_mouse: false, questions: 0 }, \
-         waiting_len: 2, .. }"
+        "ExtendedParser { reading: Reading { dialect: Extended, x10_mouse: false, questions: 0, \
+         erase: Delete, newline: CtrlJ }, waiting_len: 2, .. }"
     );
 }
 
 // Two parsers at once, of either kind, have nothing in common.
 #[test]
 fn parts_parsers() {
-    let (mut plain, mut extended) = (InputParser::new(), ExtendedParser::new(Protocol::Legacy));
+    let (mut plain, mut extended) = (InputParser::new(), ExtendedParser::new(Dialect::Extended));
     assert_eq!(plain.parse_as_vec(b"\x1b[200~a", true), []);
     assert_eq!(extended.parse_as_vec(b"\x1b[200~b", true), []);
-    let [a, b] = ["a", "b"].map(|text| InputEvent::Paste(text.to_string()));
-    assert_eq!(plain.parse_as_vec(b"\x1b[201~", true), [a]);
-    assert_eq!(
-        extended.parse_as_vec(b"\x1b[201~", true),
-        [ExtendedEvent::Input(b)]
+    let (a, b) = (
+        InputEvent::Paste("a".to_string()),
+        Event::Paste("b".to_string()),
     );
+    assert_eq!(plain.parse_as_vec(b"\x1b[201~", true), [a]);
+    assert_eq!(extended.parse_as_vec(b"\x1b[201~", true), [b]);
 }

@@ -12,9 +12,11 @@ mod strings;
 
 use crate::port::plain::{report_of, PlainReader as PortReader};
 use forms::{is_form, is_keypad_key};
-use hedrugal::extended::{ExtendedEvent, KittyModifiers, Protocol, Reading};
+use hedrugal::extended::{
+    Dialect, EraseByte, Event, KeyReport, KittyModifiers, NewlineByte, Reading, ReportedKey,
+};
 use hedrugal::input::{InputEvent, KeyCode, KeyEvent, Modifiers};
-use meanings::event_of;
+use meanings::{event_of, pressed, sgr_report};
 use strings::{begins_opening, opening_of, string_at};
 
 const ESC: &[u8] = b"\x1b";
@@ -27,30 +29,61 @@ const ENDS_OF_FORMS: &[&[u8]] = &[
 ];
 
 // 11: the key Escape.
-fn escape_key() -> ExtendedEvent {
-    ExtendedEvent::Input(InputEvent::Key(KeyEvent {
-        key: KeyCode::Escape,
-        modifiers: Modifiers::NONE,
-    }))
+fn escape_key() -> Event {
+    let key = ReportedKey::Named(KeyCode::Escape);
+    Event::Key(pressed(key, KittyModifiers::NONE))
 }
 
 // 3: whether the event of a row isn't left to the port.
-fn overrides(reading: Reading, event: &ExtendedEvent) -> bool {
+fn overrides(reading: Reading, event: &Event) -> bool {
     match event {
-        ExtendedEvent::Key(_) => reading.protocol == Protocol::Kitty,
-        ExtendedEvent::CursorPosition { .. } => {
-            reading.protocol == Protocol::Kitty || reading.questions > 0
-        }
+        Event::Key(_) => true,
+        Event::CursorPosition { .. } => reading.questions > 0,
         _ => false,
     }
 }
 
-// 11: the event of a bare key after ESC.
-fn with_alt(event: ExtendedEvent) -> ExtendedEvent {
+// A key of the port as a report: SHIFT, ALT and CTRL, and nothing else is told.
+fn key_of_port(event: &KeyEvent) -> KeyReport {
+    let mut modifiers = KittyModifiers::NONE;
+    for (held, flag) in [
+        (Modifiers::SHIFT, KittyModifiers::SHIFT),
+        (Modifiers::ALT, KittyModifiers::ALT),
+        (Modifiers::CTRL, KittyModifiers::CTRL),
+    ] {
+        modifiers.set(flag, event.modifiers.contains(held));
+    }
+    pressed(ReportedKey::Named(event.key), modifiers)
+}
+
+// An event of the port, of these bytes. A mouse report tells more.
+fn event_of_port(event: InputEvent, bytes: &[u8]) -> Event {
     match event {
-        ExtendedEvent::Key(mut report) => {
+        InputEvent::Key(event) => Event::Key(key_of_port(&event)),
+        InputEvent::Mouse(_) => sgr_report(bytes).expect("a report of mode 1006"),
+        InputEvent::Paste(text) => Event::Paste(text),
+        event => panic!("the port never makes {event:?}"),
+    }
+}
+
+// The key of the bytes 8, 10 and 127, by the terminal's settings. Other bytes are the port's.
+fn key_of_byte(byte: u8, reading: Reading) -> Option<KeyCode> {
+    Some(match (byte, reading.erase, reading.newline) {
+        (8, EraseByte::Delete, _) => KeyCode::Char('\x08'),
+        (127, EraseByte::Backspace, _) => KeyCode::Char('\x7f'),
+        (8 | 127, _, _) => KeyCode::Backspace,
+        (10, _, NewlineByte::CtrlJ) => KeyCode::Char('\n'),
+        (10, _, NewlineByte::Enter) => KeyCode::Enter,
+        _ => return None,
+    })
+}
+
+// 11: the event of a bare key after ESC.
+fn with_alt(event: Event) -> Event {
+    match event {
+        Event::Key(mut report) => {
             report.modifiers |= KittyModifiers::ALT;
-            ExtendedEvent::Key(report)
+            Event::Key(report)
         }
         event => event,
     }
@@ -63,7 +96,7 @@ pub struct PlainReader {
 }
 
 // An event, and what its item leaves: what follows its bytes, after an opening that it put back.
-type Item = (ExtendedEvent, Vec<u8>);
+type Item = (Event, Vec<u8>);
 
 impl PlainReader {
     pub fn new(reading: Reading) -> PlainReader {
@@ -92,8 +125,8 @@ impl PlainReader {
     }
 
     // A position answers one question, if any is open.
-    fn note(&mut self, event: &ExtendedEvent) {
-        if let ExtendedEvent::CursorPosition { .. } = event {
+    fn note(&mut self, event: &Event) {
+        if let Event::CursorPosition { .. } = event {
             self.reading.questions = self.reading.questions.saturating_sub(1);
         }
     }
@@ -104,7 +137,7 @@ impl PlainReader {
     }
 
     // 3: the event of a text that is an extra sequence.
-    fn extra_event(&self, text: &[u8]) -> Option<ExtendedEvent> {
+    fn extra_event(&self, text: &[u8]) -> Option<Event> {
         if !is_form(text, self.reading.x10_mouse) || report_of(text).is_some() {
             return None;
         }
@@ -116,7 +149,7 @@ impl PlainReader {
     }
 
     // The extra sequence that begins the text: it, its event, and what follows it.
-    fn extra_parts<'a>(&self, text: &'a [u8]) -> Option<(&'a [u8], ExtendedEvent, &'a [u8])> {
+    fn extra_parts<'a>(&self, text: &'a [u8]) -> Option<(&'a [u8], Event, &'a [u8])> {
         (0..=text.len().min(256)).find_map(|len| {
             let (bytes, rest) = text.split_at(len);
             Some((bytes, self.extra_event(bytes)?, rest))
@@ -130,13 +163,13 @@ impl PlainReader {
     }
 
     // 11: whether an extra sequence is a bare key.
-    fn is_bare(&self, text: &[u8], event: &ExtendedEvent) -> bool {
-        let is_key = matches!(event, ExtendedEvent::Key(_));
+    fn is_bare(&self, text: &[u8], event: &Event) -> bool {
+        let is_key = matches!(event, Event::Key(_));
         let is_control = matches!(
             text,
             [0x1b, b'[', .., b'^' | b'@' | b'$' | b'Z']
                 | [0x1b, b'[', b'3', b'5'..=b'8', b'~']
-                | [0x1b, b'[', b'G']
+                | [0x1b, b'[', b'E' | b'G']
                 | [0x1b, b'[', b'2'..=b'8', b'A'..=b'F' | b'H' | b'P'..=b'S']
         );
         is_key && (self.is_row(text) || is_keypad_key(text) || is_control)
@@ -163,10 +196,24 @@ impl PlainReader {
         more && !text.is_empty() && (self.begins_more(text) || self.port.is_open(text, more))
     }
 
-    // 12: the port's item at a text that isn't open: its event, and what follows it.
+    // The port's item at a text: its event, and what follows it.
     fn item_of_port(&self, text: &[u8], more: bool) -> Option<Item> {
         let (event, rest) = self.port.item_at(text, more)?;
-        Some((ExtendedEvent::Input(event), rest.to_vec()))
+        let bytes = &text[..text.len() - rest.len()];
+        Some((event_of_port(event, bytes), rest.to_vec()))
+    }
+
+    // 12: the same at a text that isn't open. Some bytes are keys by the terminal's settings, also
+    // after ESC.
+    fn usual_item(&self, text: &[u8], more: bool) -> Option<Item> {
+        let (mut event, rest) = self.item_of_port(text, more)?;
+        let bytes = &text[..text.len() - rest.len()];
+        if let (Event::Key(report), [byte] | [0x1b, byte]) = (&mut event, bytes) {
+            if let Some(key) = key_of_byte(*byte, self.reading) {
+                report.key = ReportedKey::Named(key);
+            }
+        }
+        Some((event, rest))
     }
 
     // Whether an opening begins the text.
@@ -179,8 +226,12 @@ impl PlainReader {
         self.extra_at(text).is_some() || self.is_string(text)
     }
 
-    // 9 to 12: the item at a text: its event, and what it leaves.
+    // 9 to 12: the item at a text: its event, and what it leaves. Of termwiz's dialect that is the
+    // port's.
     fn item_at(&self, text: &[u8], more: bool) -> Option<Item> {
+        if self.reading.dialect == Dialect::Termwiz {
+            return self.item_of_port(text, more);
+        }
         let extra = self.extra_at(text);
         if extra.is_some() {
             return extra;
@@ -203,7 +254,7 @@ impl PlainReader {
         if self.is_open(text, more) {
             return None;
         }
-        self.item_of_port(text, more)
+        self.usual_item(text, more)
     }
 
     // Whether an extra sequence or an opening begins an item of a text under a flag, after at most
@@ -231,7 +282,7 @@ impl PlainReader {
 
     // 13: the events of a text under a flag, and the rest that stays buffered. Each event is noted
     // before the next item is matched.
-    pub fn read(&mut self, text: &[u8], more: bool) -> (Vec<ExtendedEvent>, Vec<u8>) {
+    pub fn read(&mut self, text: &[u8], more: bool) -> (Vec<Event>, Vec<u8>) {
         let (mut events, mut rest) = (Vec::new(), text.to_vec());
         while let Some((event, left)) = self.item_at(&rest, more) {
             self.note(&event);

@@ -2,7 +2,7 @@
 use crate::draws::Draws;
 use crate::plain::presses::{said_of, second_of, Said};
 use hedrugal::extended::{
-    typed_text, ExtendedParser, KeyEventKind, KeyPress, KeyReport, KittyModifiers, Protocol,
+    typed_text, Dialect, ExtendedParser, KeyEventKind, KeyPress, KeyReport, KittyModifiers,
     ReportedKey,
 };
 use hedrugal::input::{KeyCode, KeyEvent, Modifiers};
@@ -73,6 +73,12 @@ fn events_have_presses() {
             CTRL.union(ALT),
         ),
         (KeyCode::Char('\t'), Modifiers::CTRL, KeyCode::Tab, CTRL),
+        (
+            KeyCode::Char('\x7f'),
+            Modifiers::SHIFT,
+            KeyCode::Backspace,
+            CTRL_SHIFT,
+        ),
         (
             KeyCode::Char('A'),
             Modifiers::CTRL,
@@ -182,6 +188,11 @@ fn reports_have_presses() {
             ALT.union(CTRL),
         ),
         (report(KeyCode::Char('\n'), NONE), KeyCode::Char('j'), CTRL),
+        (
+            report(KeyCode::Char('\x7f'), ALT),
+            KeyCode::Backspace,
+            ALT.union(CTRL),
+        ),
         (
             KeyReport {
                 text: "å".to_string(),
@@ -567,8 +578,8 @@ fn bytes_of_one_key_have_one_press() {
         let presses: BTreeSet<KeyPress> = texts
             .iter()
             .map(|text| {
-                let events = ExtendedParser::new(Protocol::Kitty).parse_as_vec(text, false);
-                KeyPress::of_report(&events[0].key().unwrap()).unwrap()
+                let events = ExtendedParser::new(Dialect::Extended).parse_as_vec(text, false);
+                KeyPress::of_report(events[0].key().unwrap()).unwrap()
             })
             .collect();
         assert_eq!(presses.len(), 1, "{texts:?}");

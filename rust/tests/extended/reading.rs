@@ -2,7 +2,7 @@
 use crate::examples::BOTH;
 use crate::lines::lines;
 use crate::parser::given;
-use hedrugal::extended::{ExtendedParser, Protocol, Reading};
+use hedrugal::extended::{Dialect, EraseByte, ExtendedParser, NewlineByte, Reading};
 
 // What a call with more to come gives.
 fn read(parser: &mut ExtendedParser, bytes: &[u8]) -> String {
@@ -16,34 +16,42 @@ fn questions(parser: &ExtendedParser) -> u8 {
 
 #[test]
 fn begins_without_questions() {
-    for protocol in BOTH {
-        let parser = ExtendedParser::new(*protocol);
+    for dialect in BOTH {
+        let parser = ExtendedParser::new(*dialect);
         let wanted = Reading {
-            protocol: *protocol,
+            dialect: *dialect,
             x10_mouse: false,
             questions: 0,
+            erase: EraseByte::Delete,
+            newline: NewlineByte::CtrlJ,
         };
         assert_eq!(parser.reading(), wanted);
-        assert_eq!(Reading::new(*protocol), wanted);
+        assert_eq!(Reading::new(*dialect), wanted);
     }
-    assert_eq!(Reading::default(), Reading::new(Protocol::Legacy));
+    assert_eq!(Reading::default(), Reading::new(Dialect::Extended));
 }
 
 // Each reading is the one that was set.
 #[test]
 fn tells_the_reading() {
-    let mut parser = ExtendedParser::new(Protocol::Legacy);
-    for protocol in BOTH {
+    let mut parser = ExtendedParser::new(Dialect::Extended);
+    for dialect in BOTH {
         for x10_mouse in [true, false] {
             for questions in [0, 1, 254, 255] {
-                let reading = Reading {
-                    protocol: *protocol,
-                    x10_mouse,
-                    questions,
-                };
-                parser.set_reading(reading);
-                assert_eq!(parser.reading(), reading);
-                assert_eq!(parser.protocol(), *protocol);
+                for erase in [EraseByte::Delete, EraseByte::Backspace] {
+                    for newline in [NewlineByte::CtrlJ, NewlineByte::Enter] {
+                        let reading = Reading {
+                            dialect: *dialect,
+                            x10_mouse,
+                            questions,
+                            erase,
+                            newline,
+                        };
+                        parser.set_reading(reading);
+                        assert_eq!(parser.reading(), reading);
+                        assert_eq!(parser.dialect(), *dialect);
+                    }
+                }
             }
         }
     }
@@ -52,45 +60,41 @@ fn tells_the_reading() {
 // A question is answered once. The next reply that nobody asked for is a key.
 #[test]
 fn expects_each_position_once() {
-    for (protocol, kind) in [(Protocol::Legacy, "key"), (Protocol::Kitty, "report")] {
-        let mut parser = ExtendedParser::new(protocol);
-        let f3 = format!("{kind} Function(3) CTRL");
-        assert_eq!(read(&mut parser, b"\x1b[1;5R"), f3);
-        parser.expect_position();
-        parser.expect_position();
-        assert_eq!(questions(&parser), 2);
-        assert_eq!(read(&mut parser, b"\x1b[1;5R"), "cursor 1 5");
-        assert_eq!(questions(&parser), 1);
-        assert_eq!(
-            read(&mut parser, b"\x1b[24;80R\x1b[1;5R"),
-            format!("cursor 24 80, {f3}")
-        );
-        assert_eq!(questions(&parser), 0);
-    }
+    let mut parser = ExtendedParser::new(Dialect::Extended);
+    let f3 = "key Function(3) CTRL";
+    assert_eq!(read(&mut parser, b"\x1b[1;5R"), f3);
+    parser.expect_position();
+    parser.expect_position();
+    assert_eq!(questions(&parser), 2);
+    assert_eq!(read(&mut parser, b"\x1b[1;5R"), "cursor 1 5");
+    assert_eq!(questions(&parser), 1);
+    assert_eq!(
+        read(&mut parser, b"\x1b[24;80R\x1b[1;5R"),
+        format!("cursor 24 80, {f3}")
+    );
+    assert_eq!(questions(&parser), 0);
 }
 
 // A position that nobody asked for, or that no entry has the bytes of, takes no question below 0.
 #[test]
 fn counts_from_0_to_255() {
-    for protocol in BOTH {
-        let mut parser = ExtendedParser::new(*protocol);
-        assert_eq!(read(&mut parser, b"\x1b[?24;80R"), "cursor 24 80");
-        assert_eq!(questions(&parser), 0);
-        for count in 1..=300 {
-            parser.expect_position();
-            assert_eq!(questions(&parser), u8::try_from(count).unwrap_or(255));
-        }
-        parser.parse(&b"\x1b[24;80R".repeat(254), |_| (), true);
-        assert_eq!(questions(&parser), 1);
-        parser.parse(&b"\x1b[24;80R".repeat(3), |_| (), true);
-        assert_eq!(questions(&parser), 0);
+    let mut parser = ExtendedParser::new(Dialect::Extended);
+    assert_eq!(read(&mut parser, b"\x1b[?24;80R"), "cursor 24 80");
+    assert_eq!(questions(&parser), 0);
+    for count in 1..=300 {
+        parser.expect_position();
+        assert_eq!(questions(&parser), u8::try_from(count).unwrap_or(255));
     }
+    parser.parse(&b"\x1b[24;80R".repeat(254), |_| (), true);
+    assert_eq!(questions(&parser), 1);
+    parser.parse(&b"\x1b[24;80R".repeat(3), |_| (), true);
+    assert_eq!(questions(&parser), 0);
 }
 
 // A reply that is overdue is expected no longer. Bytes that came before are read by the later call.
 #[test]
 fn forgets_positions() {
-    let mut parser = ExtendedParser::new(Protocol::Legacy);
+    let mut parser = ExtendedParser::new(Dialect::Extended);
     parser.expect_position();
     parser.expect_position();
     assert_eq!(read(&mut parser, b"\x1b[1;"), "; 4");
@@ -107,7 +111,7 @@ fn forgets_positions() {
 // A flush at a limit in time keeps the questions.
 #[test]
 fn keeps_questions_over_a_pause() {
-    let mut parser = ExtendedParser::new(Protocol::Legacy);
+    let mut parser = ExtendedParser::new(Dialect::Extended);
     parser.expect_position();
     assert_eq!(read(&mut parser, b"\x1b"), "; 1");
     assert_eq!(lines(parser.flush_escape().as_slice()), "key Escape NONE");
@@ -120,89 +124,93 @@ fn keeps_questions_over_a_pause() {
 // A reset forgets questions alone of the reading.
 #[test]
 fn resets_questions() {
-    for protocol in BOTH {
-        let mut parser = ExtendedParser::new(*protocol);
-        let with_x10 = Reading {
-            x10_mouse: true,
-            ..Reading::new(*protocol)
-        };
-        parser.set_reading(Reading {
-            questions: 7,
-            ..with_x10
-        });
-        assert_eq!(read(&mut parser, b"\x1b[M!"), "; 4");
-        assert_eq!(parser.reset(), 4);
-        assert_eq!(parser.reading(), with_x10);
-        assert_eq!(read(&mut parser, b"\x1b[M !!"), "mouse 1 1 LEFT NONE");
-        parser.expect_position();
-        assert_eq!(parser.reset(), 0);
-        assert_eq!(parser.reading(), with_x10);
-    }
+    let mut parser = ExtendedParser::new(Dialect::Extended);
+    let with_x10 = Reading {
+        x10_mouse: true,
+        ..Reading::new(Dialect::Extended)
+    };
+    parser.set_reading(Reading {
+        questions: 7,
+        ..with_x10
+    });
+    assert_eq!(read(&mut parser, b"\x1b[M!"), "; 4");
+    assert_eq!(parser.reset(), 4);
+    assert_eq!(parser.reading(), with_x10);
+    assert_eq!(
+        read(&mut parser, b"\x1b[M !!"),
+        "mouse 1 1 LEFT NONE Press 1"
+    );
+    parser.expect_position();
+    assert_eq!(parser.reset(), 0);
+    assert_eq!(parser.reading(), with_x10);
 }
 
 // What is buffered is read by the reading that is set.
 #[test]
 fn reads_what_is_buffered_anew() {
-    let mut parser = ExtendedParser::new(Protocol::Legacy);
-    let kitty = Reading::new(Protocol::Kitty);
-    parser.feed(b"\x1b[1;5R\x1b[A");
-    parser.set_reading(kitty);
+    let mut parser = ExtendedParser::new(Dialect::Extended);
+    parser.feed(b"\x1b[1;9A\x08");
+    parser.set_reading(Reading::new(Dialect::Termwiz));
     assert_eq!(
         read(&mut parser, b""),
-        "report Function(3) CTRL, report UpArrow NONE"
+        "key UpArrow ALT, key Backspace NONE"
     );
-    parser.feed(b"\x1b[1;5R\x1b[A");
-    parser.set_reading(Reading::new(Protocol::Legacy));
+    parser.feed(b"\x1b[1;9A\x08");
+    parser.set_reading(Reading::new(Dialect::Extended));
     assert_eq!(
         read(&mut parser, b""),
-        "key Function(3) CTRL, key UpArrow NONE"
+        r"key UpArrow SUPER, key Char('\u{8}') NONE"
     );
     assert_eq!(read(&mut parser, b"\x1b\x1b[97;5"), "; 7");
-    parser.set_reading(kitty);
-    assert_eq!(read(&mut parser, b"u"), "report Char('a') ALT|CTRL");
+    assert_eq!(read(&mut parser, b"u"), "key Char('a') ALT|CTRL");
 }
 
 // Between two events of one read the reading may change too.
 #[test]
 fn changes_between_events() {
-    let mut parser = ExtendedParser::new(Protocol::Legacy);
-    parser.feed(b"\x1b[?1u\x1b[1;9A\x1b[1;9A");
-    let flags = parser.next_event(true);
-    assert_eq!(lines(flags.as_slice()), "flags 1");
-    parser.set_reading(Reading::new(Protocol::Kitty));
+    let mut parser = ExtendedParser::new(Dialect::Extended);
+    parser.feed(b"\x1b[1;9A\x1b[1;9A\n\n");
+    let mut next = |reading| {
+        parser.set_reading(reading);
+        lines(parser.next_event(true).as_slice())
+    };
+    let extended = Reading::new(Dialect::Extended);
+    let newline = NewlineByte::Enter;
+    assert_eq!(next(extended), "key UpArrow SUPER");
+    assert_eq!(next(Reading::new(Dialect::Termwiz)), "key UpArrow ALT");
+    assert_eq!(next(extended), r"key Char('\n') NONE");
     assert_eq!(
-        lines(parser.next_event(true).as_slice()),
-        "report UpArrow SUPER"
+        next(Reading {
+            newline,
+            ..extended
+        }),
+        "key Enter NONE"
     );
-    parser.set_reading(Reading::new(Protocol::Legacy));
-    assert_eq!(lines(parser.next_event(true).as_slice()), "key UpArrow ALT");
-    assert_eq!(parser.next_event(true), None);
+    assert_eq!(next(extended), "");
 }
 
 // The beginning of an X10 report is decided once these are read no longer.
 #[test]
 fn decides_the_beginning_of_a_mouse_report() {
-    for protocol in BOTH {
-        let mut parser = ExtendedParser::new(*protocol);
-        let without_x10 = parser.reading();
-        parser.set_reading(Reading {
-            x10_mouse: true,
-            ..without_x10
-        });
-        assert_eq!(read(&mut parser, b"\x1b[M !"), "; 5");
-        parser.set_reading(without_x10);
-        assert_eq!(parser.waiting_len(), 5);
-        assert_eq!(
-            read(&mut parser, b""),
-            "csi M, key Char(' ') NONE, key Char('!') NONE"
-        );
-    }
+    let mut parser = ExtendedParser::new(Dialect::Extended);
+    let without_x10 = parser.reading();
+    parser.set_reading(Reading {
+        x10_mouse: true,
+        ..without_x10
+    });
+    assert_eq!(read(&mut parser, b"\x1b[M !"), "; 5");
+    parser.set_reading(without_x10);
+    assert_eq!(parser.waiting_len(), 5);
+    assert_eq!(
+        read(&mut parser, b""),
+        "csi M, key Char(' ') NONE, key Char('!') NONE"
+    );
 }
 
 // An open paste and an open string stay as they are.
 #[test]
 fn keeps_pastes_and_strings() {
-    let mut parser = ExtendedParser::new(Protocol::Legacy);
+    let mut parser = ExtendedParser::new(Dialect::Extended);
     for (begin, waiting, end, wanted) in [
         (
             &b"\x1b[200~\x1b[1;5R"[..],
@@ -215,9 +223,9 @@ fn keeps_pastes_and_strings() {
         assert_eq!(read(&mut parser, begin), waiting);
         parser.expect_position();
         parser.set_reading(Reading {
-            protocol: Protocol::Kitty,
             x10_mouse: true,
             questions: 3,
+            ..Reading::new(Dialect::Extended)
         });
         assert_eq!(read(&mut parser, end), wanted);
         assert_eq!(questions(&parser), 3);

@@ -1,14 +1,14 @@
-// The answers in tests/recorded, and the port's on generated texts. Under `Protocol::Legacy` the
-// extended parser gives the same, but where an extra sequence occurs or has begun.
+// The answers in tests/recorded, and the port's on generated texts. By termwiz's dialect the extended
+// parser gives the same. By its own it does, but for the bytes 8, 10 and 127, and where an extra
+// sequence occurs or has begun.
 use crate::compared::Comparison;
 use crate::cuts::read_cut;
-use crate::examples::BOTH;
-use crate::lines::{self, name_of};
+use crate::lines::{self, name_of, port_of};
 use crate::port::draws::Draws;
-use crate::port::feeder::{answer, at, data, feed_file, told, Feeder, Reader};
+use crate::port::feeder::{answer, at, data, feed_file, told, Counts, Feeder, Reader};
 use crate::port::lines::{bytes, hex, line};
 use crate::port::plain::PlainReader as PortReader;
-use hedrugal::extended::{ExtendedEvent, ExtendedParser, Protocol};
+use hedrugal::extended::{Dialect, Event, ExtendedParser};
 use hedrugal::input::InputParser;
 
 impl Reader for ExtendedParser {
@@ -44,21 +44,23 @@ impl Reader for ExtendedParser {
 
 // The line of an event: that of the port, if it has one. Of a string the number of its bytes and the
 // bytes.
-pub fn answer_line(event: &ExtendedEvent) -> String {
+pub fn answer_line(event: &Event) -> String {
     let of = |name: &str, bytes: &[u8]| format!("{name} {}:{}", bytes.len(), hex(bytes));
+    if let Some(event) = port_of(event) {
+        return line(&event);
+    }
     match event {
-        ExtendedEvent::Input(event) => line(event),
-        ExtendedEvent::Osc(bytes) => of("osc", bytes),
-        ExtendedEvent::Dcs(bytes) => of("dcs", bytes),
-        ExtendedEvent::Apc(bytes) => of("apc", bytes),
-        ExtendedEvent::StringPart { kind, bytes } => of(&format!("{} part", name_of(*kind)), bytes),
-        ExtendedEvent::StringCut { kind, bytes } => of(&format!("{} cut", name_of(*kind)), bytes),
+        Event::Osc(bytes) => of("osc", bytes),
+        Event::Dcs(bytes) => of("dcs", bytes),
+        Event::Apc(bytes) => of("apc", bytes),
+        Event::StringPart { kind, bytes } => of(&format!("{} part", name_of(*kind)), bytes),
+        Event::StringCut { kind, bytes } => of(&format!("{} cut", name_of(*kind)), bytes),
         event => lines::line(event),
     }
 }
 
 // The parser, its calls since the last reset, and whether one had another answer than the port's.
-struct LegacyReader {
+struct OwnReader {
     parser: ExtendedParser,
     calls: Vec<(Vec<u8>, bool)>,
     is_other: bool,
@@ -67,19 +69,19 @@ struct LegacyReader {
     compared: (Vec<u8>, String),
 }
 
-impl LegacyReader {
-    fn new() -> LegacyReader {
-        LegacyReader {
-            parser: ExtendedParser::new(Protocol::Legacy),
+impl OwnReader {
+    fn new() -> OwnReader {
+        OwnReader {
+            parser: ExtendedParser::new(Dialect::Extended),
             calls: Vec::new(),
             is_other: false,
-            comparison: Comparison::new(Protocol::Legacy),
+            comparison: Comparison::new(Dialect::Extended),
             compared: Default::default(),
         }
     }
 }
 
-impl Reader for LegacyReader {
+impl Reader for OwnReader {
     fn reset(&mut self) {
         self.parser.reset();
         self.calls.clear();
@@ -104,7 +106,8 @@ impl Reader for LegacyReader {
     }
 
     // The plain reader answers the calls as the parser does. In the first other answer there is an
-    // extra sequence, or the beginning of one is buffered that the port doesn't buffer.
+    // extra sequence, or the beginning of one is buffered that the port doesn't buffer, or a byte that
+    // the port reads otherwise.
     fn check_other(&mut self, came: &str, waiting: &[u8], wanted: &str) {
         let text = self
             .calls
@@ -119,18 +122,30 @@ impl Reader for LegacyReader {
         self.compared = compared;
         let has_extra = self.comparison.check_calls(&self.calls);
         let has_begun = self.comparison.begins_extra() && !wanted.ends_with(&hex(waiting));
+        let has_byte = self.compared.0.iter().any(|it| matches!(it, 8 | 10 | 127));
         assert!(
-            self.is_other || has_extra || has_begun,
+            self.is_other || has_extra || has_begun || has_byte,
             "{came}, and not {wanted}"
         );
         self.is_other = true;
     }
 }
 
-// As many lines are answered otherwise than the port answers as tests/recorded/README.md says.
+// By termwiz's dialect all lines are answered so. By its own the parser answers as many otherwise as
+// tests/recorded/README.md says.
 fn check(file: &str) {
-    let counts = feed_file(&mut LegacyReader::new(), file);
-    assert_eq!(counts, told(file), "{file}");
+    let wanted = told(file);
+    let mut termwiz = ExtendedParser::new(Dialect::Termwiz);
+    let counts = feed_file(&mut termwiz, file);
+    assert_eq!(
+        counts,
+        Counts {
+            others: 0,
+            ..wanted
+        },
+        "{file}"
+    );
+    assert_eq!(feed_file(&mut OwnReader::new(), file), wanted, "{file}");
 }
 
 #[test]
@@ -180,39 +195,37 @@ fn check_cut(
     assert_eq!(came.join(" | "), answers, "to {place} in pieces of {size}");
 }
 
-// The worked strings, under both protocols: as they stand, with each call cut at each place, and as
-// the plain reader reads them.
+// The worked strings: as they stand, with each call cut at each place, and as the plain reader reads
+// them.
 #[test]
 fn strings() {
-    for protocol in BOTH {
-        let mut parser = ExtendedParser::new(*protocol);
-        assert_eq!(feed_file(&mut parser, "strings.txt"), told("strings.txt"));
-        let mut comparison = Comparison::new(*protocol);
-        for line in data("strings.txt").lines() {
-            let Some((given, answers)) = line.split_once(" = ") else {
-                continue;
-            };
-            if given.contains(':') {
-                continue;
-            }
-            let calls: Vec<(Vec<u8>, bool)> = given
-                .split(' ')
-                .map(|call| (bytes(&call[1..]), call.starts_with('+')))
-                .collect();
-            let longest = calls.iter().map(|(bytes, _)| bytes.len()).max();
-            for place in 0..=longest.unwrap_or(0) {
-                check_cut(&mut parser, &calls, answers, place, 1);
-                check_cut(&mut parser, &calls, answers, place, place.max(1));
-            }
-            comparison.check_calls(&calls);
+    let mut parser = ExtendedParser::new(Dialect::Extended);
+    assert_eq!(feed_file(&mut parser, "strings.txt"), told("strings.txt"));
+    let mut comparison = Comparison::new(Dialect::Extended);
+    for line in data("strings.txt").lines() {
+        let Some((given, answers)) = line.split_once(" = ") else {
+            continue;
+        };
+        if given.contains(':') {
+            continue;
         }
+        let calls: Vec<(Vec<u8>, bool)> = given
+            .split(' ')
+            .map(|call| (bytes(&call[1..]), call.starts_with('+')))
+            .collect();
+        let longest = calls.iter().map(|(bytes, _)| bytes.len()).max();
+        for place in 0..=longest.unwrap_or(0) {
+            check_cut(&mut parser, &calls, answers, place, 1);
+            check_cut(&mut parser, &calls, answers, place, place.max(1));
+        }
+        comparison.check_calls(&calls);
     }
 }
 
 // 5000 texts that the port's generated tests draw, each whole, cut in two at each place and byte by
 // byte. So many of them are answered otherwise than the port answers.
 fn check_drawn(seed: u64, others: usize) {
-    let (mut port, mut reader) = (InputParser::new(), LegacyReader::new());
+    let (mut port, mut reader) = (InputParser::new(), OwnReader::new());
     let mut draws = Draws::new(seed, &PortReader::new());
     let mut seen = 0;
     for _ in 0..5000 {
@@ -229,28 +242,28 @@ fn check_drawn(seed: u64, others: usize) {
 
 #[test]
 fn generated_texts_1() {
-    check_drawn(1, 421);
+    check_drawn(1, 1205);
 }
 
 #[test]
 fn generated_texts_2() {
-    check_drawn(2, 462);
+    check_drawn(2, 1201);
 }
 
 #[test]
 fn generated_texts_3() {
-    check_drawn(3, 415);
+    check_drawn(3, 1210);
 }
 
 #[test]
 fn generated_texts_4() {
-    check_drawn(4, 422);
+    check_drawn(4, 1225);
 }
 
 // Long ones, which the plain reader reads.
 #[test]
 fn long_generated_texts() {
-    let mut comparison = Comparison::new(Protocol::Legacy);
+    let mut comparison = Comparison::new(Dialect::Extended);
     let mut draws = Draws::new(5, &PortReader::new());
     for _ in 0..20 {
         let text = draws.symbols(200);

@@ -4,10 +4,9 @@ use crate::plain::replies::reply;
 use crate::port::feeder::data;
 use crate::port::lines::{bytes, hex};
 use hedrugal::extended::{
-    ColourName, ColourScheme, DeviceAttributes, ExtendedEvent, ExtendedParser, ModeState, Protocol,
-    Reply, SideButtonEvent, SideButtonKind, StringKind,
+    ColourName, ColourScheme, DeviceAttributes, Dialect, Event, ExtendedParser, ModeState, Reply,
+    StringKind,
 };
-use hedrugal::input::{InputEvent, KeyCode, KeyEvent, Modifiers};
 
 // A reply as a line of tests/recorded/replies.txt has it.
 fn line(reply: &Reply) -> String {
@@ -62,14 +61,12 @@ fn reads_what_terminals_replied() {
     let mut count = 0;
     for recorded in file.lines().filter(|line| !line.starts_with('#')) {
         let (sent, wanted) = recorded.split_once(" =").expect("an equals sign");
-        for protocol in [Protocol::Legacy, Protocol::Kitty] {
-            let events = ExtendedParser::new(protocol).parse_as_vec(&bytes(sent), false);
-            assert_eq!(events.len(), 1, "{sent}");
-            let told = events[0]
-                .reply()
-                .map_or("-".to_string(), |reply| line(&reply));
-            assert_eq!(told.trim_end(), wanted.trim_start(), "{sent}");
-        }
+        let events = ExtendedParser::new(Dialect::Extended).parse_as_vec(&bytes(sent), false);
+        assert_eq!(events.len(), 1, "{sent}");
+        let told = events[0]
+            .reply()
+            .map_or("-".to_string(), |reply| line(&reply));
+        assert_eq!(told.trim_end(), wanted.trim_start(), "{sent}");
         count += 1;
     }
     assert!(count > 250, "{count}");
@@ -79,34 +76,25 @@ fn reads_what_terminals_replied() {
 fn other_events_are_no_replies() {
     let bytes = || b"11;rgb:0/0/0".to_vec();
     let kind = StringKind::Osc;
-    let key = KeyEvent {
-        key: KeyCode::Char('c'),
-        modifiers: Modifiers::NONE,
-    };
-    let side_button = SideButtonEvent {
-        number: 8,
-        kind: SideButtonKind::Press,
-        x: 1,
-        y: 1,
-        modifiers: Modifiers::NONE,
-    };
+    let typed = ExtendedParser::new(Dialect::Extended).parse_as_vec(b"c\x1b[<0;1;1M", true);
     for event in [
-        ExtendedEvent::Input(InputEvent::Key(key)),
-        ExtendedEvent::FocusGained,
-        ExtendedEvent::CursorPosition { row: 1, column: 1 },
-        ExtendedEvent::KeyboardFlags(1),
-        ExtendedEvent::SideButton(side_button),
-        ExtendedEvent::Apc(bytes()),
-        ExtendedEvent::Dcs(bytes()),
-        ExtendedEvent::Csi(bytes()),
-        ExtendedEvent::Csi(Vec::new()),
-        ExtendedEvent::Osc(Vec::new()),
-        ExtendedEvent::Dcs(Vec::new()),
-        ExtendedEvent::StringPart {
+        typed[0].clone(),
+        typed[1].clone(),
+        Event::Paste("c".to_string()),
+        Event::FocusGained,
+        Event::CursorPosition { row: 1, column: 1 },
+        Event::KeyboardFlags(1),
+        Event::Apc(bytes()),
+        Event::Dcs(bytes()),
+        Event::Csi(bytes()),
+        Event::Csi(Vec::new()),
+        Event::Osc(Vec::new()),
+        Event::Dcs(Vec::new()),
+        Event::StringPart {
             kind,
             bytes: bytes(),
         },
-        ExtendedEvent::StringCut {
+        Event::StringCut {
             kind,
             bytes: bytes(),
         },
@@ -117,7 +105,7 @@ fn other_events_are_no_replies() {
 
 #[test]
 fn versions_may_have_any_bytes() {
-    let version = |bytes: &[u8]| ExtendedEvent::Dcs([b">|", bytes].concat()).reply();
+    let version = |bytes: &[u8]| Event::Dcs([b">|", bytes].concat()).reply();
     for text in ["", "a", "\u{e9}\u{1f600}", "a\0b"] {
         assert_eq!(
             version(text.as_bytes()),
@@ -140,7 +128,7 @@ fn versions_may_have_any_bytes() {
 fn reads_long_clipboards() {
     for len in [4, 65520, 65524] {
         let sent = ["\x1b]52;c;", &"QUFB".repeat(len / 4), "\x07"].concat();
-        let events = ExtendedParser::new(Protocol::Legacy).parse_as_vec(sent.as_bytes(), true);
+        let events = ExtendedParser::new(Dialect::Extended).parse_as_vec(sent.as_bytes(), true);
         let bytes = vec![b'A'; len / 4 * 3];
         let selection = Some('c');
         assert_eq!(
@@ -152,7 +140,7 @@ fn reads_long_clipboards() {
     let sent = [&b"!|"[..], &b"07".repeat(40_000)].concat();
     let report = DeviceAttributes::Tertiary;
     assert_eq!(
-        ExtendedEvent::Dcs(sent).reply(),
+        Event::Dcs(sent).reply(),
         Some(Reply::DeviceAttributes { report, numbers })
     );
 }
@@ -190,10 +178,10 @@ fn generated_replies_are_read_as_by_the_plain_reader() {
             body = body.strip_suffix(b"\x1b\\").unwrap_or(body);
         }
         let event = match introducer {
-            b'[' => ExtendedEvent::Csi(body.to_vec()),
-            b']' => ExtendedEvent::Osc(body.to_vec()),
-            b'P' => ExtendedEvent::Dcs(body.to_vec()),
-            _ => ExtendedEvent::Apc(body.to_vec()),
+            b'[' => Event::Csi(body.to_vec()),
+            b']' => Event::Osc(body.to_vec()),
+            b'P' => Event::Dcs(body.to_vec()),
+            _ => Event::Apc(body.to_vec()),
         };
         let told = event.reply();
         assert_eq!(told, reply(introducer, body), "{event:?}");

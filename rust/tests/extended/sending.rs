@@ -1,8 +1,8 @@
 // Pasted texts and mouse reports that are sent, and read back.
-use hedrugal::extended::{ExtendedEvent, ExtendedParser, Protocol, Reading};
+use hedrugal::extended::{self, Dialect, Event, ExtendedParser, MouseKind, Reading};
 use hedrugal::input::{
     encode_paste, InputEvent, InputParser, Modifiers, MouseButton, MouseButtons, MouseEncoding,
-    MouseError, MouseEvent, MouseReport, MouseTracking,
+    MouseError, MouseReport, MouseTracking,
 };
 
 // Texts, and what they are made.
@@ -23,9 +23,9 @@ fn is_one_paste(text: &[u8], safe: &str) {
     assert_eq!(encode_paste(text, false), safe);
     let mut port = InputParser::new();
     assert_eq!(port.parse_as_vec(sent.as_bytes(), true), [paste()]);
-    let mut extended = ExtendedParser::new(Protocol::Kitty);
+    let mut extended = ExtendedParser::new(Dialect::Extended);
     let events = extended.parse_as_vec(sent.as_bytes(), true);
-    assert_eq!(events, [ExtendedEvent::Input(paste())]);
+    assert_eq!(events, [Event::Paste(safe.to_string())]);
     assert_eq!((port.waiting_len(), extended.waiting_len()), (0, 0));
 }
 
@@ -46,9 +46,9 @@ fn report(x: u16, y: u16, button: MouseButton, modifiers: Modifiers) -> MouseRep
     }
 }
 
-// The mouse event that the bytes are read as, by a parser that reads X10 mouse reports.
-fn read(bytes: &[u8]) -> Option<MouseEvent> {
-    let mut parser = ExtendedParser::new(Protocol::Legacy);
+// The report that the bytes are read as, by a parser that reads X10 mouse reports.
+fn read(bytes: &[u8]) -> Option<extended::MouseReport> {
+    let mut parser = ExtendedParser::new(Dialect::Extended);
     parser.set_reading(Reading {
         x10_mouse: true,
         ..Reading::default()
@@ -57,7 +57,7 @@ fn read(bytes: &[u8]) -> Option<MouseEvent> {
     assert_eq!(parser.waiting_len(), 0);
     match &events[..] {
         [] => None,
-        [ExtendedEvent::Input(InputEvent::Mouse(event))] => Some(event.clone()),
+        [Event::Mouse(report)] => Some(*report),
         _ => panic!("{events:?}"),
     }
 }
@@ -69,31 +69,51 @@ fn mouse_reports_are_read_back() {
     let released = report(1, 1, MouseButton::Button1Release, Modifiers::CTRL);
     let far = report(223, 95, MouseButton::Button1Press, Modifiers::NONE);
     let (none, middle) = (MouseButtons::NONE, MouseButtons::MIDDLE);
-    for (it, tracking, encoding, sent, buttons) in [
+    for (it, tracking, encoding, sent, (kind, buttons, button)) in [
         (
             drag,
             MouseTracking::Button,
             Sgr,
             &b"\x1b[<37;80;24M"[..],
-            middle,
+            (MouseKind::Drag, middle, Some(2)),
         ),
-        (released, MouseTracking::Normal, Default, b"\x1b[M3!!", none),
-        (released, MouseTracking::Normal, Sgr, b"\x1b[<16;1;1m", none),
-        (released, MouseTracking::Any, Urxvt, b"\x1b[51;1;1M", none),
+        (
+            released,
+            MouseTracking::Normal,
+            Default,
+            b"\x1b[M3!!",
+            (MouseKind::Release, none, None),
+        ),
+        (
+            released,
+            MouseTracking::Normal,
+            Sgr,
+            b"\x1b[<16;1;1m",
+            (MouseKind::Release, none, Some(1)),
+        ),
+        (
+            released,
+            MouseTracking::Any,
+            Urxvt,
+            b"\x1b[51;1;1M",
+            (MouseKind::Release, none, None),
+        ),
         (
             far,
             MouseTracking::X10,
             Default,
             b"\x1b[M \xff\x7f",
-            MouseButtons::LEFT,
+            (MouseKind::Press, MouseButtons::LEFT, Some(1)),
         ),
     ] {
         assert_eq!(it.encode(tracking, encoding).as_deref(), Ok(sent));
-        let event = MouseEvent {
+        let event = extended::MouseReport {
             x: it.x,
             y: it.y,
-            mouse_buttons: buttons,
             modifiers: it.modifiers,
+            buttons,
+            kind,
+            button,
         };
         assert_eq!(read(sent), Some(event));
     }

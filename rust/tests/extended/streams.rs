@@ -1,13 +1,12 @@
 // Random streams of sequences and their beginnings: how they are cut changes no event, and what a
 // pause flushes is flushed in time.
 use crate::draws::Draws;
-use crate::examples::BOTH;
+use crate::lines::port_of;
 use crate::plain::PlainReader;
 use crate::port::feeder::{events_in_time, Reader, Timed};
 use crate::recorded::answer_line;
 use crate::waiting::{limit_of, LIMITS};
-use hedrugal::extended::{ExtendedEvent, ExtendedParser, ExtendedWaiting, Reading};
-use hedrugal::input::InputEvent;
+use hedrugal::extended::{Dialect, Event, ExtendedParser, ExtendedWaiting, Reading};
 
 const SYMBOLS: &[&[u8]] = &[
     b"\x1b",
@@ -66,7 +65,7 @@ const SYMBOLS: &[&[u8]] = &[
 
 // What comes of a text: the events, how many bytes are buffered before a flush, and the reading at
 // the end.
-type Read = (Vec<ExtendedEvent>, usize, Reading);
+type Read = (Vec<Event>, usize, Reading);
 
 // The events of a text in pieces, and of a flush at its end; then what an open paste gives. As much
 // is buffered after each cut.
@@ -85,30 +84,28 @@ fn read(parser: &mut ExtendedParser, reading: Reading, text: &[u8], piece: usize
 
 #[test]
 fn cuts_change_nothing() {
-    for protocol in BOTH {
-        let (mut draws, mut parser) = (Draws::new(31), ExtendedParser::new(*protocol));
-        let mut extra = 0;
-        for _ in 0..5000 {
-            let count = 1 + draws.below(20);
-            let text = draws.text(count, SYMBOLS);
-            let reading = draws.reading(*protocol);
-            let whole = read(&mut parser, reading, &text, text.len());
-            for piece in [1, 2, 3, 7] {
-                assert_eq!(
-                    read(&mut parser, reading, &text, piece),
-                    whole,
-                    "{reading:?}, pieces of {piece}: {}",
-                    text.escape_ascii()
-                );
-            }
-            extra += whole
-                .0
-                .iter()
-                .filter(|event| !matches!(event, ExtendedEvent::Input(_)))
-                .count();
+    let (mut draws, mut parser) = (Draws::new(31), ExtendedParser::new(Dialect::Extended));
+    let mut extra = 0;
+    for _ in 0..5000 {
+        let count = 1 + draws.below(20);
+        let text = draws.text(count, SYMBOLS);
+        let reading = draws.reading(Dialect::Extended);
+        let whole = read(&mut parser, reading, &text, text.len());
+        for piece in [1, 2, 3, 7] {
+            assert_eq!(
+                read(&mut parser, reading, &text, piece),
+                whole,
+                "{reading:?}, pieces of {piece}: {}",
+                text.escape_ascii()
+            );
         }
-        assert!(extra > 5000, "{extra}");
+        extra += whole
+            .0
+            .iter()
+            .filter(|event| port_of(event).is_none())
+            .count();
     }
+    assert!(extra > 5000, "{extra}");
 }
 
 // What a rest is.
@@ -143,11 +140,11 @@ impl Rest {
     }
 
     // The events of a flush, or of the end of a paste.
-    fn flush(&mut self, reader: &mut PlainReader) -> Vec<ExtendedEvent> {
+    fn flush(&mut self, reader: &mut PlainReader) -> Vec<Event> {
         let bytes = std::mem::take(&mut self.bytes);
         if let Some(text) = bytes.strip_prefix(b"\x1b[200~") {
             let text = String::from_utf8_lossy(text).into_owned();
-            return vec![ExtendedEvent::Input(InputEvent::Paste(text))];
+            return vec![Event::Paste(text)];
         }
         let (events, left) = reader.read(&bytes, false);
         assert_eq!(left, b"");
@@ -155,7 +152,7 @@ impl Rest {
     }
 
     // The events of a read.
-    fn read(&mut self, reader: &mut PlainReader, time: u64, bytes: &[u8]) -> Vec<ExtendedEvent> {
+    fn read(&mut self, reader: &mut PlainReader, time: u64, bytes: &[u8]) -> Vec<Event> {
         let (events, left) = reader.read(&[&self.bytes, bytes].concat(), true);
         if self.bytes.is_empty() || !events.is_empty() {
             self.first = time;
@@ -174,7 +171,7 @@ fn plain_events(
     asks: &[bool],
 ) -> Vec<Timed<Vec<String>>> {
     let (mut rest, mut events) = (Rest::default(), Vec::new());
-    let mut note = |time: u64, came: Vec<ExtendedEvent>| {
+    let mut note = |time: u64, came: Vec<Event>| {
         if !came.is_empty() {
             events.push((time, came.iter().map(answer_line).collect()));
         }
@@ -231,35 +228,33 @@ impl Reader for Asking<'_> {
 
 #[test]
 fn pauses_flush_in_time() {
-    for protocol in BOTH {
-        let (mut draws, mut parser) = (Draws::new(32), ExtendedParser::new(*protocol));
-        let mut reader = PlainReader::new(Reading::new(*protocol));
-        assert_eq!(parser.set_policy(LIMITS), Ok(()));
-        let mut flushed = 0;
-        for _ in 0..2000 {
-            let (mut time, mut reads, mut asks) = (0, Vec::new(), Vec::new());
-            let reading = draws.reading(*protocol);
-            parser.set_reading(reading);
-            reader.set_reading(reading);
-            for _ in 0..=draws.below(12) {
-                let count = 1 + draws.below(3);
-                reads.push((time, draws.text(count, SYMBOLS)));
-                asks.push(draws.below(4) == 0);
-                time += [0, 5, 9, 10, 11, 19, 20, 21, 30, 45, 51, 70][draws.below(12)];
-            }
-            let mut asking = Asking {
-                parser: &mut parser,
-                asks: asks.iter(),
-            };
-            let events = events_in_time(&mut asking, &reads, None);
-            let wanted = plain_events(&mut reader, &reads, &asks);
-            assert_eq!(events, wanted, "{reading:?}, {reads:?}, {asks:?}");
-            assert_eq!(parser.reading(), reader.reading());
-            flushed += events
-                .iter()
-                .filter(|(time, _)| reads.iter().all(|(read, _)| read != time))
-                .count();
+    let (mut draws, mut parser) = (Draws::new(32), ExtendedParser::new(Dialect::Extended));
+    let mut reader = PlainReader::new(Reading::new(Dialect::Extended));
+    assert_eq!(parser.set_policy(LIMITS), Ok(()));
+    let mut flushed = 0;
+    for _ in 0..2000 {
+        let (mut time, mut reads, mut asks) = (0, Vec::new(), Vec::new());
+        let reading = draws.reading(Dialect::Extended);
+        parser.set_reading(reading);
+        reader.set_reading(reading);
+        for _ in 0..=draws.below(12) {
+            let count = 1 + draws.below(3);
+            reads.push((time, draws.text(count, SYMBOLS)));
+            asks.push(draws.below(4) == 0);
+            time += [0, 5, 9, 10, 11, 19, 20, 21, 30, 45, 51, 70][draws.below(12)];
         }
-        assert!(flushed > 1000, "{flushed}");
+        let mut asking = Asking {
+            parser: &mut parser,
+            asks: asks.iter(),
+        };
+        let events = events_in_time(&mut asking, &reads, None);
+        let wanted = plain_events(&mut reader, &reads, &asks);
+        assert_eq!(events, wanted, "{reading:?}, {reads:?}, {asks:?}");
+        assert_eq!(parser.reading(), reader.reading());
+        flushed += events
+            .iter()
+            .filter(|(time, _)| reads.iter().all(|(read, _)| read != time))
+            .count();
     }
+    assert!(flushed > 1000, "{flushed}");
 }

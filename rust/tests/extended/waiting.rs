@@ -1,12 +1,11 @@
 // What stays buffered, and what a pause, a limit for pastes, time and a reset do with it.
-use crate::examples::BOTH;
 use crate::lines::lines;
 use crate::port::feeder::{at, events_in_time, Timed};
 use crate::recorded::answer_line;
 use hedrugal::extended::{
-    ExtendedEvent, ExtendedParser, ExtendedWaiting as Waiting, Reading, StringKind,
+    Dialect, Event, ExtendedParser, ExtendedWaiting as Waiting, Reading, StringKind,
 };
-use hedrugal::input::{InputEvent, Policy};
+use hedrugal::input::Policy;
 use std::time::{Duration, Instant};
 
 // What stays buffered of a text, and its kind.
@@ -60,14 +59,12 @@ fn check_rest(parser: &ExtendedParser, rest: &[u8], kind: Waiting) {
 
 // Calls with a parser, and each text that stays buffered in it and its kind.
 fn for_each_rest(check: impl Fn(&mut ExtendedParser, &[u8], Waiting)) {
-    for protocol in BOTH {
-        let mut parser = ExtendedParser::new(*protocol);
-        for (rest, kind) in RESTS {
-            assert_eq!(parser.parse_as_vec(rest, true), []);
-            check_rest(&parser, rest, *kind);
-            check(&mut parser, rest, *kind);
-            parser.reset();
-        }
+    let mut parser = ExtendedParser::new(Dialect::Extended);
+    for (rest, kind) in RESTS {
+        assert_eq!(parser.parse_as_vec(rest, true), []);
+        check_rest(&parser, rest, *kind);
+        check(&mut parser, rest, *kind);
+        parser.reset();
     }
 }
 
@@ -91,17 +88,15 @@ fn tells_kinds() {
 // X10 mouse reports are read where the reading has them.
 #[test]
 fn tells_kinds_of_mouse_reports() {
-    for protocol in BOTH {
-        let mut parser = ExtendedParser::new(*protocol);
-        parser.set_reading(Reading {
-            x10_mouse: true,
-            ..Reading::new(*protocol)
-        });
-        for rest in [&b"\x1b[M"[..], b"\x1b[M0\xc3", b"\x1b\x1b[M0\xc3"] {
-            assert_eq!(parser.parse_as_vec(rest, true), []);
-            check_rest(&parser, rest, Waiting::Sequence);
-            assert_eq!(parser.reset(), rest.len());
-        }
+    let mut parser = ExtendedParser::new(Dialect::Extended);
+    parser.set_reading(Reading {
+        x10_mouse: true,
+        ..Reading::new(Dialect::Extended)
+    });
+    for rest in [&b"\x1b[M"[..], b"\x1b[M0\xc3", b"\x1b\x1b[M0\xc3"] {
+        assert_eq!(parser.parse_as_vec(rest, true), []);
+        check_rest(&parser, rest, Waiting::Sequence);
+        assert_eq!(parser.reset(), rest.len());
     }
 }
 
@@ -148,7 +143,7 @@ fn ends_open_pastes_alone() {
         let paste = parser.end_paste();
         if kind == Waiting::Paste {
             let text = String::from_utf8_lossy(&rest[6..]).into_owned();
-            assert_eq!(paste, Some(ExtendedEvent::Input(InputEvent::Paste(text))));
+            assert_eq!(paste, Some(Event::Paste(text)));
             check_rest(parser, b"", Waiting::Nothing);
             let after = parser.parse_as_vec(b"c\x1b[I\x1b[201~", true);
             assert_eq!(
@@ -166,39 +161,35 @@ fn ends_open_pastes_alone() {
 // A pause in a string or a control sequence breaks nothing.
 #[test]
 fn goes_on_after_a_pause() {
-    for protocol in BOTH {
-        let mut parser = ExtendedParser::new(*protocol);
-        let texts: [(&[u8], &[u8], &str); 4] = [
-            (b"\x1b[?24;", b"80R", "cursor 24 80"),
-            (b"\x1b]0;a\x1b", b"\\", "osc 0;a"),
-            (b"\x1b[97;1:", b"3u", "report Char('a') NONE Release"),
-            (b"\x1b[200~\x1b", b"[201~", "paste \"\""),
-        ];
-        for (first, second, wanted) in texts {
-            assert_eq!(parser.parse_as_vec(first, true), []);
-            assert_eq!(parser.flush_escape(), None);
-            assert_eq!(lines(&parser.parse_as_vec(second, true)), wanted);
-        }
+    let mut parser = ExtendedParser::new(Dialect::Extended);
+    let texts: [(&[u8], &[u8], &str); 4] = [
+        (b"\x1b[?24;", b"80R", "cursor 24 80"),
+        (b"\x1b]0;a\x1b", b"\\", "osc 0;a"),
+        (b"\x1b[97;1:", b"3u", "key Char('a') NONE Release"),
+        (b"\x1b[200~\x1b", b"[201~", "paste \"\""),
+    ];
+    for (first, second, wanted) in texts {
+        assert_eq!(parser.parse_as_vec(first, true), []);
+        assert_eq!(parser.flush_escape(), None);
+        assert_eq!(lines(&parser.parse_as_vec(second, true)), wanted);
     }
 }
 
 // What the terminal still sends of a paste that was ended is read as typed text.
 #[test]
 fn ends_a_long_paste_and_reads_on() {
-    for protocol in BOTH {
-        let mut parser = ExtendedParser::new(*protocol);
-        assert_eq!(parser.parse_as_vec(b"\x1b[200~", true), []);
-        assert_eq!(parser.parse_as_vec(&b"x".repeat(300_000), true), []);
-        assert_eq!(parser.waiting_len(), 300_006);
-        let paste = ExtendedEvent::Input(InputEvent::Paste("x".repeat(300_000)));
-        assert!(parser.end_paste() == Some(paste));
-        assert_eq!(parser.waiting_len(), 0);
-        let events = parser.parse_as_vec(b"q\x1b[I\x1b[201~", false);
-        assert_eq!(
-            lines(&events),
-            "key Char('q') NONE, focus gained, key InternalPasteEnd NONE"
-        );
-    }
+    let mut parser = ExtendedParser::new(Dialect::Extended);
+    assert_eq!(parser.parse_as_vec(b"\x1b[200~", true), []);
+    assert_eq!(parser.parse_as_vec(&b"x".repeat(300_000), true), []);
+    assert_eq!(parser.waiting_len(), 300_006);
+    let paste = Event::Paste("x".repeat(300_000));
+    assert!(parser.end_paste() == Some(paste));
+    assert_eq!(parser.waiting_len(), 0);
+    let events = parser.parse_as_vec(b"q\x1b[I\x1b[201~", false);
+    assert_eq!(
+        lines(&events),
+        "key Char('q') NONE, focus gained, key InternalPasteEnd NONE"
+    );
 }
 
 // Of an open paste its text is taken, or skipped, but for what may begin its end; of nothing else.
@@ -219,7 +210,7 @@ fn takes_and_skips_open_pastes_alone() {
             assert_eq!(parser.parse_as_vec(b"rm -rf ~\rq", true), []);
             assert_eq!(parser.skip_paste(), Some(left.len() - 6 + 10));
             check_rest(parser, b"\x1b[200~", kind);
-            let paste = ExtendedEvent::Input(InputEvent::Paste(String::new()));
+            let paste = Event::Paste(String::new());
             assert_eq!(parser.parse_as_vec(b"\x1b[201~", true), [paste]);
         }
     });
@@ -252,7 +243,7 @@ pub fn limit_of(policy: &Policy, rest: &[u8], kind: Waiting) -> Option<Duration>
 }
 
 // The events of what has waited too long.
-fn expired(parser: &mut ExtendedParser, now: Instant) -> Vec<ExtendedEvent> {
+fn expired(parser: &mut ExtendedParser, now: Instant) -> Vec<Event> {
     let mut events = Vec::new();
     assert_eq!(parser.expire(now, |event| events.push(event)), Ok(()));
     events
@@ -263,7 +254,7 @@ fn expired(parser: &mut ExtendedParser, now: Instant) -> Vec<ExtendedEvent> {
 fn expires_by_each_limit() {
     for policy in [Policy::usual(), LIMITS] {
         for_each_rest(|parser, rest, kind| {
-            let mut other = ExtendedParser::new(parser.protocol());
+            let mut other = ExtendedParser::new(parser.dialect());
             let mut wanted = other.parse_as_vec(rest, false);
             wanted.extend(other.end_paste());
             assert_eq!(parser.set_policy(policy), Ok(()));
@@ -288,82 +279,70 @@ fn expires_by_each_limit() {
 // Keys that are held after Alt-] are typed a second after it, or at once.
 #[test]
 fn flushes_under_a_held_key() {
-    for protocol in BOTH {
-        let mut parser = ExtendedParser::new(*protocol);
-        let held = (1..=60).map(|count| (count * 30, b"l".to_vec()));
-        let reads: Vec<Timed<Vec<u8>>> = [(0, b"\x1b]".to_vec())].into_iter().chain(held).collect();
-        let events = events_in_time(&mut parser, &reads, None);
-        let (time, flushed) = &events[0];
-        assert_eq!((*time, flushed.len()), (1000, 34));
-        assert_eq!(
-            flushed[..2],
-            ["key U+005D ALT", "key U+006C NONE"].map(str::to_string)
-        );
-        let times = events[1..].iter().map(|(time, keys)| (*time, keys.len()));
-        assert!(times.eq((34..=60).map(|count| (count * 30, 1))));
-    }
+    let mut parser = ExtendedParser::new(Dialect::Extended);
+    let held = (1..=60).map(|count| (count * 30, b"l".to_vec()));
+    let reads: Vec<Timed<Vec<u8>>> = [(0, b"\x1b]".to_vec())].into_iter().chain(held).collect();
+    let events = events_in_time(&mut parser, &reads, None);
+    let (time, flushed) = &events[0];
+    assert_eq!((*time, flushed.len()), (1000, 34));
+    assert_eq!(
+        flushed[..2],
+        ["key U+005D ALT", "key U+006C NONE"].map(str::to_string)
+    );
+    let times = events[1..].iter().map(|(time, keys)| (*time, keys.len()));
+    assert!(times.eq((34..=60).map(|count| (count * 30, 1))));
 }
 
 // A reply of 60,000 bytes comes at 2 KB in a second. No limit passes, and nothing is typed.
 #[test]
 fn reads_a_string_on_a_slow_line() {
-    for protocol in BOTH {
-        let mut parser = ExtendedParser::new(*protocol);
-        let text = [b"\x1b]52;", &b"c\r;0"[..].repeat(15_000)[..]].concat();
-        let slow = (0..).zip(text.chunks(2));
-        let mut reads: Vec<Timed<Vec<u8>>> =
-            slow.map(|(time, bytes)| (time, bytes.to_vec())).collect();
-        reads.push((33_000, b"\x07".to_vec()));
-        let events = events_in_time(&mut parser, &reads, None);
-        let wanted = answer_line(&ExtendedEvent::Osc(text[2..].to_vec()));
-        assert!(events == [(33_000, vec![wanted])]);
-    }
+    let mut parser = ExtendedParser::new(Dialect::Extended);
+    let text = [b"\x1b]52;", &b"c\r;0"[..].repeat(15_000)[..]].concat();
+    let slow = (0..).zip(text.chunks(2));
+    let mut reads: Vec<Timed<Vec<u8>>> = slow.map(|(time, bytes)| (time, bytes.to_vec())).collect();
+    reads.push((33_000, b"\x07".to_vec()));
+    let events = events_in_time(&mut parser, &reads, None);
+    let wanted = answer_line(&Event::Osc(text[2..].to_vec()));
+    assert!(events == [(33_000, vec![wanted])]);
 }
 
 // A string whose line is dead is cut off. Keys that are held meanwhile are its data, and end it in
 // some six seconds.
 #[test]
 fn cuts_a_string_under_a_held_key() {
-    for protocol in BOTH {
-        let mut parser = ExtendedParser::new(*protocol);
-        let held = (1..=200).map(|count| (count * 30, b"\r".to_vec()));
-        let reads: Vec<Timed<Vec<u8>>> = [(0, b"\x1b]11;rgb".to_vec())]
-            .into_iter()
-            .chain(held)
-            .collect();
-        let events = events_in_time(&mut parser, &reads, None);
-        let (time, cut) = &events[0];
-        // 5000 ms and one for each of 8 + 172 bytes.
-        assert_eq!(*time, 5180);
-        let bytes = [b"11;rgb", &b"\r".repeat(172)[..]].concat();
-        let kind = StringKind::Osc;
-        assert_eq!(
-            *cut,
-            [answer_line(&ExtendedEvent::StringCut { kind, bytes })]
-        );
-        assert!(events[1..]
-            .iter()
-            .all(|(_, keys)| keys == &["key Enter NONE"]));
-        assert_eq!(events.len(), 1 + 28);
-    }
+    let mut parser = ExtendedParser::new(Dialect::Extended);
+    let held = (1..=200).map(|count| (count * 30, b"\r".to_vec()));
+    let reads: Vec<Timed<Vec<u8>>> = [(0, b"\x1b]11;rgb".to_vec())]
+        .into_iter()
+        .chain(held)
+        .collect();
+    let events = events_in_time(&mut parser, &reads, None);
+    let (time, cut) = &events[0];
+    // 5000 ms and one for each of 8 + 172 bytes.
+    assert_eq!(*time, 5180);
+    let bytes = [b"11;rgb", &b"\r".repeat(172)[..]].concat();
+    let kind = StringKind::Osc;
+    assert_eq!(*cut, [answer_line(&Event::StringCut { kind, bytes })]);
+    assert!(events[1..]
+        .iter()
+        .all(|(_, keys)| keys == &["key Enter NONE"]));
+    assert_eq!(events.len(), 1 + 28);
 }
 
 // The start of a paste may be cut anywhere.
 #[test]
 fn reads_a_start_with_pauses() {
-    for protocol in BOTH {
-        let start = b"\x1b[200~";
-        for place in 1..start.len() {
-            let (first, second) = start.split_at(place);
-            let pause = [49, 99, 999][place.min(3) - 1];
-            let reads = [
-                (0, first.to_vec()),
-                (pause, second.to_vec()),
-                (90_000, b"q\x1b[201~".to_vec()),
-            ];
-            let mut parser = ExtendedParser::new(*protocol);
-            let events = events_in_time(&mut parser, &reads, None);
-            assert_eq!(events, [(90_000, vec!["paste 1:71".to_string()])]);
-        }
+    let start = b"\x1b[200~";
+    for place in 1..start.len() {
+        let (first, second) = start.split_at(place);
+        let pause = [49, 99, 999][place.min(3) - 1];
+        let reads = [
+            (0, first.to_vec()),
+            (pause, second.to_vec()),
+            (90_000, b"q\x1b[201~".to_vec()),
+        ];
+        let mut parser = ExtendedParser::new(Dialect::Extended);
+        let events = events_in_time(&mut parser, &reads, None);
+        assert_eq!(events, [(90_000, vec!["paste 1:71".to_string()])]);
     }
 }

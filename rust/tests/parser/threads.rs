@@ -1,5 +1,5 @@
 // Threads that make, use and free parsers. All of these share one sequence table.
-use hedrugal::extended::{ExtendedEvent, ExtendedParser, Protocol};
+use hedrugal::extended::{Dialect, Event, ExtendedParser};
 use hedrugal::input::{InputEvent, InputParser, KeyCode, KeyEvent, Modifiers};
 use std::sync::mpsc::{channel, Sender};
 use std::thread;
@@ -19,12 +19,10 @@ fn ctrl_up() -> InputEvent {
 fn make_and_use(passed_on: &Sender<InputParser>) {
     for _ in 0..ROUNDS {
         let (mut parser, mut extended) =
-            (InputParser::new(), ExtendedParser::new(Protocol::Legacy));
+            (InputParser::new(), ExtendedParser::new(Dialect::Extended));
         assert_eq!(parser.parse_as_vec(b"\x1b[1;5A", true), [ctrl_up()]);
-        assert_eq!(
-            extended.parse_as_vec(b"\x1b[1;5A", true),
-            [ExtendedEvent::Input(ctrl_up())]
-        );
+        let events = extended.parse_as_vec(b"\x1b[1;5A", true);
+        assert!(matches!(events[..], [Event::Key(_)]));
         drop(extended);
         parser.parse(b"\x1b[1;", |_| {}, true);
         passed_on.send(parser).expect("the main thread takes it");

@@ -1,7 +1,6 @@
 // The derives behind the feature `use_serde`, which rust/with builds.
 use hedrugal::extended::{
-    ExtendedEvent, KeyEventKind, KeyReport, KittyModifiers, ReportedKey, SideButtonEvent,
-    SideButtonKind, StringKind,
+    Event, KeyEventKind, KeyReport, KittyModifiers, MouseKind, MouseReport, ReportedKey, StringKind,
 };
 use hedrugal::input::{
     InputEvent, KeyCode, KeyEvent, KittyKeyboardFlags, Modifiers, MouseButtons, MouseEvent,
@@ -105,41 +104,39 @@ fn writes_and_reads_extended_events() {
         text: String::new(),
     };
     check(
-        ExtendedEvent::Key(report),
+        Event::Key(report),
         r#"{"Key":{"key":{"Functional":57428},"modifiers":"SHIFT | NUM_LOCK","kind":"Release","shifted":"A","base":null,"text":""}}"#,
     );
+    check(Event::Paste("text".to_string()), r#"{"Paste":"text"}"#);
     check(
-        ExtendedEvent::Input(InputEvent::Wake),
-        r#"{"Input":"Wake"}"#,
-    );
-    check(
-        ExtendedEvent::CursorPosition {
+        Event::CursorPosition {
             row: 24,
             column: 80,
         },
         r#"{"CursorPosition":{"row":24,"column":80}}"#,
     );
     check(
-        ExtendedEvent::SideButton(SideButtonEvent {
-            number: 9,
-            kind: SideButtonKind::Drag,
+        Event::Mouse(MouseReport {
             x: 3,
             y: 4,
             modifiers: BOTH,
+            buttons: MouseButtons::LEFT,
+            kind: MouseKind::Drag,
+            button: Some(1),
         }),
-        r#"{"SideButton":{"number":9,"kind":"Drag","x":3,"y":4,"modifiers":"SHIFT | CTRL"}}"#,
+        r#"{"Mouse":{"x":3,"y":4,"modifiers":"SHIFT | CTRL","buttons":"LEFT","kind":"Drag","button":1}}"#,
     );
-    check(ExtendedEvent::Osc(b"1;".to_vec()), r#"{"Osc":[49,59]}"#);
+    check(Event::Osc(b"1;".to_vec()), r#"{"Osc":[49,59]}"#);
     let (kind, bytes) = (StringKind::Dcs, b">|".to_vec());
     check(
-        ExtendedEvent::StringPart {
+        Event::StringPart {
             kind,
             bytes: bytes.clone(),
         },
         r#"{"StringPart":{"kind":"Dcs","bytes":[62,124]}}"#,
     );
     check(
-        ExtendedEvent::StringCut { kind, bytes },
+        Event::StringCut { kind, bytes },
         r#"{"StringCut":{"kind":"Dcs","bytes":[62,124]}}"#,
     );
 }

@@ -6,7 +6,8 @@ mod malloc;
 
 use bytes::BytesMut;
 use futures_core::Stream;
-use hedrugal::terminal::{Event, EventDecoder, Modes};
+use hedrugal::extended::{EraseByte, NewlineByte, Reading};
+use hedrugal::terminal::{Event, EventDecoder};
 use std::future::{poll_fn, Future};
 use std::io::{self, Write};
 use std::pin::{pin, Pin};
@@ -21,7 +22,7 @@ use tokio_util::codec::{Decoder, FramedRead};
 const SENT: &[u8] = b"a\x1b[A\x1b[200~text\x1b[201~\x1b[24;80R\x1b]11;rgb:1/2/3\x1b\\\xc3\xa9\x1b";
 
 fn decoder() -> EventDecoder {
-    EventDecoder::new(Modes::default()).expect("memory is granted")
+    EventDecoder::new(Reading::default()).expect("memory is granted")
 }
 
 fn decode(decoder: &mut EventDecoder, bytes: &[u8], is_end: bool) -> Vec<Event> {
@@ -51,7 +52,7 @@ fn wanted() -> Vec<String> {
     [
         "a",
         "up",
-        "Input(Input(Paste(\"text\")))",
+        "Input(Paste(\"text\"))",
         "Input(CursorPosition { row: 24, column: 80 })",
         "Input(Osc([49, 49, 59, 114, 103, 98, 58, 49, 47, 50, 47, 51]))",
         "é",
@@ -77,7 +78,7 @@ fn decodes_however_bytes_are_cut() {
 #[test]
 fn ends_an_open_paste_at_the_end() {
     let events = decode(&mut decoder(), b"\x1b[200~text\x1b[20", true);
-    assert_eq!(names(&events), ["Input(Input(Paste(\"text\\u{1b}[20\")))"]);
+    assert_eq!(names(&events), ["Input(Paste(\"text\\u{1b}[20\"))"]);
 }
 
 #[test]
@@ -87,7 +88,7 @@ fn gives_a_long_paste_in_parts() {
     let events = decode(&mut decoder, b"\x1b[200~text", false);
     assert_eq!(events, [Event::PastePart("text".to_string())]);
     let events = decode(&mut decoder, b"s\x1b[201~", false);
-    assert_eq!(names(&events), ["Input(Input(Paste(\"s\")))"]);
+    assert_eq!(names(&events), ["Input(Paste(\"s\"))"]);
 }
 
 // What a refused request was for comes once more, and what came before it, too.
@@ -105,18 +106,29 @@ fn loses_no_event_if_memory_is_refused() {
     }
 }
 
+// The bytes 8, 127 and 10 are the keys that the reading says. So is all else in any form.
 #[test]
-fn reads_by_kittys_protocol_once_a_reply_came() {
-    let modes = Modes {
-        keyboard: hedrugal::input::KittyKeyboardFlags::REPORT_EVENT_TYPES,
-        ..Modes::default()
-    };
-    let mut decoder = EventDecoder::new(modes).expect("memory is granted");
-    let events = decode(&mut decoder, b"\x1b[1;9A\x1b[?2u\x1b[1;9A", false);
-    assert_eq!(
-        names(&events),
-        ["alt+up", "Input(KeyboardFlags(2))", "super+up"]
-    );
+fn reads_as_it_is_told() {
+    let sent = b"\x08\x7f\n\x1b[1;9A\x1b[?2u";
+    let others = ["super+up", "Input(KeyboardFlags(2))"];
+    for (erase, eight, last) in [
+        (EraseByte::Delete, "ctrl+h", "backspace"),
+        (EraseByte::Backspace, "backspace", "ctrl+backspace"),
+    ] {
+        for (newline, ten) in [
+            (NewlineByte::CtrlJ, "ctrl+j"),
+            (NewlineByte::Enter, "enter"),
+        ] {
+            let reading = Reading {
+                erase,
+                newline,
+                ..Reading::default()
+            };
+            let mut decoder = EventDecoder::new(reading).expect("memory is granted");
+            let events = decode(&mut decoder, sent, false);
+            assert_eq!(names(&events), [&[eight, last, ten][..], &others].concat());
+        }
+    }
 }
 
 // What a server does: it waits for the next event, and for the limit in time. Then it looks once

@@ -6,10 +6,9 @@ use super::keys::{
 use super::strings::event_of_string;
 use crate::port::plain::buttons_of;
 use hedrugal::extended::{
-    ExtendedEvent, KeyEventKind, KeyReport, KittyModifiers, ReportedKey, SideButtonEvent,
-    SideButtonKind,
+    Event, KeyEventKind, KeyReport, KittyModifiers, MouseKind, MouseReport, ReportedKey,
 };
-use hedrugal::input::{InputEvent, KeyCode, Modifiers, MouseEvent};
+use hedrugal::input::{KeyCode, Modifiers, MouseButtons};
 use std::str;
 
 // A number of at most so many digits.
@@ -99,6 +98,12 @@ fn report_of(key: ReportedKey, manner: Manner) -> KeyReport {
     }
 }
 
+// A press of which nothing else is told.
+pub fn pressed(key: ReportedKey, modifiers: KittyModifiers) -> KeyReport {
+    let kind = KeyEventKind::Press;
+    report_of(key, Manner { modifiers, kind })
+}
+
 // c [`:` [shifted] [`:` base]].
 struct Codes {
     c: char,
@@ -167,14 +172,14 @@ fn lettered_key(t: &[u8]) -> Option<KeyReport> {
 }
 
 // The lines of F3: no position can be meant, or none is asked for.
-fn third_function_key(t: &[u8]) -> Option<ExtendedEvent> {
+fn third_function_key(t: &[u8]) -> Option<Event> {
     let manner = manner_before_letter(t.strip_suffix(b"R")?)?;
     let key = ReportedKey::Named(KeyCode::Function(3));
-    Some(ExtendedEvent::Key(report_of(key, manner)))
+    Some(Event::Key(report_of(key, manner)))
 }
 
 // The line of rxvt-unicode's keys.
-fn rxvt_key(t: &[u8]) -> Option<ExtendedEvent> {
+fn rxvt_key(t: &[u8]) -> Option<Event> {
     let (last, number) = t.split_last()?;
     let modifiers = match last {
         b'^' => KittyModifiers::CTRL,
@@ -184,7 +189,7 @@ fn rxvt_key(t: &[u8]) -> Option<ExtendedEvent> {
     };
     let kind = KeyEventKind::Press;
     let report = report_of(rxvt_key_of(number)?, Manner { modifiers, kind });
-    Some(ExtendedEvent::Key(report))
+    Some(Event::Key(report))
 }
 
 // The line of the keys that end in `~`.
@@ -219,16 +224,16 @@ fn other_key(t: &[u8]) -> Option<KeyReport> {
 }
 
 // The lines of keys.
-fn key_event(t: &[u8]) -> Option<ExtendedEvent> {
+fn key_event(t: &[u8]) -> Option<Event> {
     let report = character_key(t)
         .or_else(|| lettered_key(t))
         .or_else(|| numbered_key(t))
         .or_else(|| other_key(t));
-    report.map(ExtendedEvent::Key)
+    report.map(Event::Key)
 }
 
 // The lines of cursor positions. The first row and column are 1.
-fn cursor_position(t: &[u8]) -> Option<ExtendedEvent> {
+fn cursor_position(t: &[u8]) -> Option<Event> {
     let body = t.strip_suffix(b"R")?;
     let is_marked = body.starts_with(b"?");
     let mut fields = body
@@ -245,18 +250,18 @@ fn cursor_position(t: &[u8]) -> Option<ExtendedEvent> {
     }
     match fields.next() {
         Some(_) => None,
-        None => Some(ExtendedEvent::CursorPosition { row, column }),
+        None => Some(Event::CursorPosition { row, column }),
     }
 }
 
 // The line of the flags of the keyboard.
-fn keyboard_flags(t: &[u8]) -> Option<ExtendedEvent> {
+fn keyboard_flags(t: &[u8]) -> Option<Event> {
     let flags = short_number(t.strip_prefix(b"?")?.strip_suffix(b"u")?)?;
-    Some(ExtendedEvent::KeyboardFlags(u8::try_from(flags).ok()?))
+    Some(Event::KeyboardFlags(u8::try_from(flags).ok()?))
 }
 
 // The line of sizes.
-fn resize(t: &[u8]) -> Option<ExtendedEvent> {
+fn resize(t: &[u8]) -> Option<Event> {
     let body = t.strip_prefix(b"48;")?.strip_suffix(b"t")?;
     let mut fields = body.split(|byte| *byte == b';');
     let rows = short_number(fields.next()?)?;
@@ -265,7 +270,7 @@ fn resize(t: &[u8]) -> Option<ExtendedEvent> {
     let width = short_number(fields.next()?)?;
     match fields.next() {
         Some(_) => None,
-        None => Some(ExtendedEvent::Resize {
+        None => Some(Event::Resize {
             rows,
             columns,
             height,
@@ -283,62 +288,85 @@ fn held_with(code: u16) -> Modifiers {
     modifiers
 }
 
-// The side button of a code from 128 to 191 at x, y. A button that isn't released is pressed or
-// dragged.
-fn side_button(code: u16, x: u16, y: u16, is_released: bool) -> Option<ExtendedEvent> {
+// How a mouse report is written. Only SGR's tell which button was released.
+#[derive(Clone, Copy, PartialEq)]
+enum Form {
+    Pressed,
+    Released,
+    Other,
+}
+
+// The report of a code at x, y: the buttons have the numbers 1 to 3, the wheel 4 to 7, and the side
+// buttons 8 to 11.
+fn mouse_report(code: u16, x: u16, y: u16, form: Form) -> Option<Event> {
+    let is_moved = code & 32 != 0;
     let number = match code & !(4 | 8 | 16 | 32) {
-        128 => 8,
-        129 => 9,
-        130 => 10,
-        131 => 11,
+        base @ 0..=2 => Some(base as u8 + 1),
+        3 => None,
+        base @ 64..=67 if !is_moved => Some(base as u8 - 64 + 4),
+        base @ 128..=131 => Some(base as u8 - 128 + 8),
         _ => return None,
     };
-    let kind = match (is_released, code & 32) {
-        (true, _) => SideButtonKind::Release,
-        (false, 0) => SideButtonKind::Press,
-        (false, _) => SideButtonKind::Drag,
+    let kind = match number {
+        None if !is_moved && form == Form::Other => MouseKind::Release,
+        None => MouseKind::Move,
+        Some(_) if form == Form::Released => MouseKind::Release,
+        Some(4..=7) => MouseKind::Wheel,
+        Some(_) if is_moved => MouseKind::Drag,
+        Some(_) => MouseKind::Press,
     };
-    Some(ExtendedEvent::SideButton(SideButtonEvent {
-        number,
-        kind,
+    let buttons = match kind {
+        MouseKind::Release => MouseButtons::NONE,
+        _ => buttons_of(code & !(4 | 8 | 16)),
+    };
+    Some(Event::Mouse(MouseReport {
         x,
         y,
         modifiers: held_with(code),
+        buttons,
+        kind,
+        button: number,
     }))
 }
 
-// The mouse event of code b - 32 at x, y; b is from 32 to 127. From 160 to 223 it is a side button.
-fn mouse_event(b: u16, x: u16, y: u16) -> Option<ExtendedEvent> {
-    let code = b.checked_sub(32)?;
-    if code >= 96 {
-        return side_button(code, x, y, false);
-    }
-    Some(ExtendedEvent::Input(InputEvent::Mouse(MouseEvent {
-        x,
-        y,
-        mouse_buttons: buttons_of(code & !(4 | 8 | 16)),
-        modifiers: held_with(code),
-    })))
+// The mouse event of code b - 32 at x, y.
+fn mouse_event(b: u16, x: u16, y: u16) -> Option<Event> {
+    mouse_report(b.checked_sub(32)?, x, y, Form::Other)
 }
 
-// The line of side buttons in SGR reports.
-fn sgr_side_button(t: &[u8]) -> Option<ExtendedEvent> {
-    let (last, body) = t.split_last()?;
-    if !matches!(last, b'M' | b'm') {
-        return None;
-    }
-    let mut fields = body.strip_prefix(b"<")?.split(|byte| *byte == b';');
+// SGR's reports, of which the port has those of side buttons not.
+pub fn sgr_report(text: &[u8]) -> Option<Event> {
+    let (last, body) = text.strip_prefix(b"\x1b[<")?.split_last()?;
+    let form = match last {
+        b'M' => Form::Pressed,
+        b'm' => Form::Released,
+        _ => return None,
+    };
+    let mut fields = body.split(|byte| *byte == b';');
     let code = short_number(fields.next()?)?;
     let x = short_number(fields.next()?)?;
     let y = short_number(fields.next()?)?;
     match fields.next() {
         Some(_) => None,
-        None => side_button(code, x, y, *last == b'm'),
+        None => mouse_report(code, x, y, form),
     }
 }
 
+// The line of side buttons in SGR reports.
+fn sgr_side_button(t: &[u8]) -> Option<Event> {
+    let event = sgr_report(&[b"\x1b[", t].concat())?;
+    matches!(
+        event,
+        Event::Mouse(MouseReport {
+            button: Some(8..),
+            ..
+        })
+    )
+    .then_some(event)
+}
+
 // The line of urxvt's mouse reports.
-fn urxvt_report(t: &[u8]) -> Option<ExtendedEvent> {
+fn urxvt_report(t: &[u8]) -> Option<Event> {
     let mut fields = t.strip_suffix(b"M")?.split(|byte| *byte == b';');
     let b = short_number(fields.next()?)?;
     let x = short_number(fields.next()?)?;
@@ -350,7 +378,7 @@ fn urxvt_report(t: &[u8]) -> Option<ExtendedEvent> {
 }
 
 // The line of X10 mouse reports. Each byte is at least 32.
-fn x10_report(t: &[u8]) -> Option<ExtendedEvent> {
+fn x10_report(t: &[u8]) -> Option<Event> {
     match t {
         [b'M', b, x, y] => mouse_event(u16::from(*b), u16::from(*x) - 32, u16::from(*y) - 32),
         _ => None,
@@ -358,28 +386,25 @@ fn x10_report(t: &[u8]) -> Option<ExtendedEvent> {
 }
 
 // The line of the Linux console's keys.
-fn console_key(t: &[u8]) -> Option<ExtendedEvent> {
+fn console_key(t: &[u8]) -> Option<Event> {
     match t {
-        [b'[', letter] => Some(ExtendedEvent::Key(report_of(
-            console_key_of(*letter)?,
-            PRESSED,
-        ))),
+        [b'[', letter] => Some(Event::Key(report_of(console_key_of(*letter)?, PRESSED))),
         _ => None,
     }
 }
 
 // The line of Tab with Shift.
-fn back_tab(t: &[u8]) -> Option<ExtendedEvent> {
+fn back_tab(t: &[u8]) -> Option<Event> {
     let body = t.strip_suffix(b"Z")?;
     let field = body.strip_prefix(b"1").unwrap_or(body).strip_prefix(b";")?;
     let mut manner = manner_of(field)?;
     manner.modifiers |= KittyModifiers::SHIFT;
     let key = ReportedKey::Named(KeyCode::Tab);
-    Some(ExtendedEvent::Key(report_of(key, manner)))
+    Some(Event::Key(report_of(key, manner)))
 }
 
 // The lines of a letter after a digit, and of `G`.
-fn short_key(t: &[u8]) -> Option<ExtendedEvent> {
+fn short_key(t: &[u8]) -> Option<Event> {
     let report = match t {
         [m @ b'2'..=b'8', letter] => {
             let manner = Manner {
@@ -391,14 +416,14 @@ fn short_key(t: &[u8]) -> Option<ExtendedEvent> {
         [b'G'] => report_of(ReportedKey::Named(KeyCode::KeyPadBegin), PRESSED),
         _ => return None,
     };
-    Some(ExtendedEvent::Key(report))
+    Some(Event::Key(report))
 }
 
 // The first line that fits, while a question for the cursor is open or not.
-fn event_of_control(t: &[u8], is_asked: bool) -> ExtendedEvent {
+fn event_of_control(t: &[u8], is_asked: bool) -> Event {
     match t {
-        [b'I'] => return ExtendedEvent::FocusGained,
-        [b'O'] => return ExtendedEvent::FocusLost,
+        [b'I'] => return Event::FocusGained,
+        [b'O'] => return Event::FocusLost,
         _ => (),
     }
     key_event(t)
@@ -414,21 +439,21 @@ fn event_of_control(t: &[u8], is_asked: bool) -> ExtendedEvent {
         .or_else(|| console_key(t))
         .or_else(|| back_tab(t))
         .or_else(|| short_key(t))
-        .unwrap_or_else(|| ExtendedEvent::Csi(t.to_vec()))
+        .unwrap_or_else(|| Event::Csi(t.to_vec()))
 }
 
 // The key behind ESC `O` and a number.
-fn modified_key(m: u8, letter: u8) -> Option<ExtendedEvent> {
+fn modified_key(m: u8, letter: u8) -> Option<Event> {
     let manner = Manner {
         modifiers: modifiers_of(&[m])?,
         kind: KeyEventKind::Press,
     };
     let report = report_of(modified_keypad_key_of(letter)?, manner);
-    Some(ExtendedEvent::Key(report))
+    Some(Event::Key(report))
 }
 
 // The event of a text of a form, while a question for the cursor is open or not.
-pub fn event_of(text: &[u8], is_asked: bool) -> Option<ExtendedEvent> {
+pub fn event_of(text: &[u8], is_asked: bool) -> Option<Event> {
     if text.starts_with(b"\x1b]") {
         let end = if text.ends_with(b"\x07") { 1 } else { 2 };
         return Some(event_of_string(&text[..text.len() - end]));
@@ -437,10 +462,7 @@ pub fn event_of(text: &[u8], is_asked: bool) -> Option<ExtendedEvent> {
         return Some(event_of_control(t, is_asked));
     }
     match text {
-        [0x1b, b'O', letter] => Some(ExtendedEvent::Key(report_of(
-            keypad_key_of(*letter)?,
-            PRESSED,
-        ))),
+        [0x1b, b'O', letter] => Some(Event::Key(report_of(keypad_key_of(*letter)?, PRESSED))),
         [0x1b, b'O', m, letter] | [0x1b, b'O', b'0' | b'1', b';', m, letter] => {
             modified_key(*m, *letter)
         }

@@ -174,11 +174,11 @@ fn main_key(key: ReportedKey) -> ReportedKey {
     ReportedKey::Named(main.map_or(named, |row| row.1))
 }
 
-// 6: a control character's key, or the character that is it with CTRL.
+// 6: a control character's key, and whether CTRL is held with it.
 fn of_control(c: char) -> Option<(KeyCode, bool)> {
     Some(match u32::from(c) {
         0 => (Char(' '), true),
-        127 => (KeyCode::Backspace, false),
+        127 => (KeyCode::Backspace, true),
         9 => (KeyCode::Tab, false),
         13 => (KeyCode::Enter, false),
         27 => (KeyCode::Escape, false),

@@ -1,6 +1,6 @@
 // 5 to 7: strings, and what comes of them.
 use super::ESC;
-use hedrugal::extended::{ExtendedEvent, StringKind};
+use hedrugal::extended::{Event, StringKind};
 
 const ST: &[u8] = b"\x1b\\";
 
@@ -74,17 +74,17 @@ fn kind_of(opening: &[u8]) -> StringKind {
 }
 
 // The event of a string that has its end.
-pub fn event_of_string(string: &[u8]) -> ExtendedEvent {
+pub fn event_of_string(string: &[u8]) -> Event {
     let bytes = string[2..].to_vec();
     match kind_of(string) {
-        StringKind::Osc => ExtendedEvent::Osc(bytes),
-        StringKind::Dcs => ExtendedEvent::Dcs(bytes),
-        StringKind::Apc => ExtendedEvent::Apc(bytes),
+        StringKind::Osc => Event::Osc(bytes),
+        StringKind::Dcs => Event::Dcs(bytes),
+        StringKind::Apc => Event::Apc(bytes),
     }
 }
 
 // 6 and 7: what comes of a text that an opening begins: an event, and what is left.
-pub fn string_at(opening: &[u8], text: &[u8], more: bool) -> Option<(ExtendedEvent, Vec<u8>)> {
+pub fn string_at(opening: &[u8], text: &[u8], more: bool) -> Option<(Event, Vec<u8>)> {
     let kind = kind_of(opening);
     let is_end = |byte: &u8| *byte == 0x1b || (kind == StringKind::Osc && *byte == 0x07);
     let data = &text[opening.len()..];
@@ -92,14 +92,14 @@ pub fn string_at(opening: &[u8], text: &[u8], more: bool) -> Option<(ExtendedEve
     if len >= PART {
         let bytes = text[2..PART].to_vec();
         let left = [opening, &text[PART..]].concat();
-        return Some((ExtendedEvent::StringPart { kind, bytes }, left));
+        return Some((Event::StringPart { kind, bytes }, left));
     }
     let (string, after) = text.split_at(len);
     if let Some(left) = after.strip_prefix(ST).or_else(|| after.strip_prefix(BEL)) {
         return Some((event_of_string(string), left.to_vec()));
     }
     let bytes = string[2..].to_vec();
-    let cut = ExtendedEvent::StringCut { kind, bytes };
+    let cut = Event::StringCut { kind, bytes };
     match after {
         [0x1b, 0x1b, ..] => Some((cut, after[1..].to_vec())),
         [0x1b, _, ..] => Some((cut, after.to_vec())),
