@@ -34,6 +34,22 @@ def make(request):
 
 
 @pytest.fixture
+def key(make):
+    """What makes the event of a key as either parser has it."""
+    from helpers import events_of
+
+    return lambda *words: events_of(make, [hedrugal.KeyEvent(*words)])[0]
+
+
+@pytest.fixture
+def events_of_stream(make):
+    """The events of STREAM as either parser has them."""
+    from helpers import EVENTS, events_of
+
+    return events_of(make, EVENTS)
+
+
+@pytest.fixture
 def parser(make):
     with make() as it:
         yield it

@@ -8,7 +8,20 @@ import sys
 import pytest
 
 import hedrugal
-from hedrugal import KeyCode, KeyEvent, Modifiers, MouseButtons, MouseEvent, Paste, Waiting
+from hedrugal import (
+    ExtendedParser,
+    KeyCode,
+    KeyEvent,
+    KeyReport,
+    KittyModifiers,
+    Modifiers,
+    MouseButtons,
+    MouseEvent,
+    MouseKind,
+    MouseReport,
+    Paste,
+    Waiting,
+)
 
 HERE = os.path.dirname(os.path.abspath(__file__))
 TOP = os.path.dirname(HERE)
@@ -30,6 +43,34 @@ EVENTS = [
     KeyEvent("é"),
     KeyEvent(KeyCode.ESCAPE),
 ]
+
+
+# What a MouseReport tells beside the buttons that are down.
+MOUSE_KINDS = {
+    MouseButtons.LEFT: (MouseKind.PRESS, 1),
+    MouseButtons.MIDDLE: (MouseKind.PRESS, 2),
+    MouseButtons.RIGHT: (MouseKind.PRESS, 3),
+    MouseButtons.NONE: (MouseKind.MOVE, None),
+}
+
+
+def events_of(make, events):
+    """What a parser of this type says where an InputParser has these events, of which none is a
+    release or a drag of the mouse."""
+    return events if make is not ExtendedParser else [reported(event) for event in events]
+
+
+def reported(event):
+    if isinstance(event, KeyEvent):
+        names = ("SHIFT", "ALT", "CTRL", "SUPER")
+        held = KittyModifiers.NONE
+        for name in names:
+            held |= KittyModifiers[name if event.modifiers & Modifiers[name] else "NONE"]
+        return KeyReport(event.key, held)
+    if isinstance(event, MouseEvent):
+        place = event.x, event.y, event.modifiers, event.buttons
+        return MouseReport(*place, *MOUSE_KINDS[event.buttons])
+    return event
 
 
 def read(path):
@@ -129,6 +170,9 @@ def limit(more):
     most = resource.RLIM_INFINITY if more is None else pages * resource.getpagesize() + more
     resource.setrlimit(resource.RLIMIT_AS, (most, resource.RLIM_INFINITY))
 MB = 1 << 20
+# The event of a key, of either parser.
+def key(parser, *words):
+    return (KeyReport if hasattr(parser, "reading") else KeyEvent)(*words)
 def refused(call):
     try:
         return None, call()

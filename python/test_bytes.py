@@ -10,7 +10,6 @@ from hedrugal import (
     Exact,
     InputParser,
     KeyCode,
-    KeyEvent,
     KeyMap,
     KeyReport,
     KittyKeyboardFlags,
@@ -20,7 +19,13 @@ from hedrugal import (
 )
 
 UP = b"\x1b[1;5A"
-CTRL_UP = [KeyEvent(KeyCode.UP_ARROW, Modifiers.CTRL)]
+
+
+@pytest.fixture
+def ctrl_up(key):
+    return [key(KeyCode.UP_ARROW, Modifiers.CTRL)]
+
+
 # Lengths that a class claims: fewer bytes than there are, and more.
 CLAIMED = (0, 3, 199, 1 << 40)
 
@@ -38,21 +43,21 @@ def liar(kind, claimed):
 
 @pytest.mark.parametrize("claimed", CLAIMED)
 @pytest.mark.parametrize("kind", [bytes, bytearray])
-def test_classes_that_claim_a_length(parser, kind, claimed):
+def test_classes_that_claim_a_length(parser, kind, claimed, ctrl_up):
     data = liar(kind, claimed)(UP)
     assert len(data) == claimed
-    assert parser.parse(data, False) == CTRL_UP
+    assert parser.parse(data, False) == ctrl_up
     parser.feed(data)
-    assert (parser.waiting_len, list(parser)) == (len(UP), CTRL_UP)
+    assert (parser.waiting_len, list(parser)) == (len(UP), ctrl_up)
     with KeyMap() as keys:
         keys.insert(data, 1)
         assert keys.lookup(UP, False) == keys.lookup(data, False) == Exact(len(UP), 1)
 
 
 @pytest.mark.skipif(sys.version_info < (3, 12), reason="no class has a buffer of its own")
-def test_classes_with_a_buffer_of_their_own(parser):
+def test_classes_with_a_buffer_of_their_own(parser, ctrl_up):
     calls = {"__buffer__": lambda *_: memoryview(UP), "__len__": lambda _: 199}
-    assert parser.parse(type("Own", (bytes,), calls)(b"q"), False) == CTRL_UP
+    assert parser.parse(type("Own", (bytes,), calls)(b"q"), False) == ctrl_up
 
 
 @pytest.mark.parametrize(
@@ -65,10 +70,10 @@ def test_classes_with_a_buffer_of_their_own(parser):
         lambda text: memoryview(bytearray(text)).cast("H", (len(text) // 4, 2)),
     ],
 )
-def test_items_of_several_bytes(parser, view):
+def test_items_of_several_bytes(parser, view, key, ctrl_up):
     """A view's bytes are counted, and not its items."""
     text = b"\x1b[1;5Aab"
-    assert parser.parse(view(text), False) == [*CTRL_UP, KeyEvent("a"), KeyEvent("b")]
+    assert parser.parse(view(text), False) == [*ctrl_up, key("a"), key("b")]
 
 
 @pytest.mark.parametrize("kind", [ctypes.c_uint32 * 2, ctypes.c_uint32])
@@ -78,7 +83,7 @@ def test_buffers_that_are_no_bytes(parser, kind):
             parser.parse(wrong)
 
 
-def test_resized_in_the_call(parser):
+def test_resized_in_the_call(parser, ctrl_up):
     """By what is asked whether more may come. The bytes are those before or after that."""
 
     class Resizes:
@@ -88,7 +93,7 @@ def test_resized_in_the_call(parser):
             return False
 
     data = bytearray(UP)
-    assert parser.parse(data, Resizes())[:1] == CTRL_UP
+    assert parser.parse(data, Resizes())[:1] == ctrl_up
     with KeyMap() as keys:
         keys.insert(UP, 1)
         assert keys.lookup(data, Resizes()) == Exact(len(UP), 1)

@@ -10,11 +10,12 @@ from pathlib import Path
 import pytest
 
 import hedrugal
-from hedrugal import ExtendedParser, InputParser, KeyMap, extended, replies, terminal
+from hedrugal import ExtendedParser, InputParser, KeyMap
+from hedrugal import extended, replies, sending, terminal, written
 from helpers import HERE, LIBRARY, SECONDS, TOP, assert_documented, assert_prints, listings
 
 
-@pytest.mark.parametrize("module", [hedrugal, extended, replies, terminal])
+@pytest.mark.parametrize("module", [hedrugal, extended, replies, sending, terminal, written])
 def test_docstrings(module):
     failed, tried = doctest.testmod(module)
     assert (failed, tried > 0) == (0, True)

@@ -14,7 +14,9 @@ from hedrugal import (
     Csi,
     CursorPosition,
     Dcs,
+    Dialect,
     EncodeError,
+    EraseByte,
     ExtendedParser,
     FocusGained,
     FocusLost,
@@ -31,24 +33,24 @@ from hedrugal import (
     Modifiers,
     MouseButtons,
     MouseEvent,
+    MouseKind,
+    MouseReport,
+    NewlineByte,
     Osc,
     Paste,
-    Protocol,
     Reading,
     Resize,
-    SideButton,
-    SideButtonKind,
     StringCut,
     StringKind,
     StringPart,
     Waiting,
     extended,
-    key_report,
     typed_text,
 )
-from helpers import assert_rest, constants, events_in_time
+from helpers import assert_rest, constants, events_in_time, events_of, reported
 
 CTRL, SHIFT, ALT = KittyModifiers.CTRL, KittyModifiers.SHIFT, KittyModifiers.ALT
+SUPER = KittyModifiers.SUPER
 RELEASE, REPEAT = KeyEventKind.RELEASE, KeyEventKind.REPEAT
 UP, DOWN, RIGHT, LEFT = (
     KeyCode.UP_ARROW,
@@ -56,15 +58,26 @@ UP, DOWN, RIGHT, LEFT = (
     KeyCode.RIGHT_ARROW,
     KeyCode.LEFT_ARROW,
 )
-ALT_BRACKET = KeyEvent("[", Modifiers.ALT)
-ALT_LINE = [KeyEvent("_", Modifiers.ALT), KeyEvent("j")]
+BACKSPACE, UP_WHEEL = KeyCode.BACKSPACE, MouseButtons.VERT_WHEEL | MouseButtons.WHEEL_POSITIVE
+ALT_BRACKET = KeyReport("[", ALT)
+ALT_LINE = [KeyReport("_", ALT), KeyReport("j")]
 
 
 def typed(text):
-    return [KeyEvent(character) for character in text]
+    return [KeyReport(character) for character in text]
 
 
-# Bytes and their events under either protocol. Most are those of docs/EXTENDED.md.
+def pressed(x, y, modifiers=Modifiers.NONE):
+    """The left button was pressed."""
+    return MouseReport(x, y, modifiers, MouseButtons.LEFT, MouseKind.PRESS, 1)
+
+
+def side(number, kind, x, y, modifiers=Modifiers.NONE):
+    """The report of a side button, or of a release: no button is down."""
+    return MouseReport(x, y, modifiers, MouseButtons.NONE, kind, number)
+
+
+# Bytes and their events. Most are those of docs/EXTENDED.md.
 CASES = {
     "cursor": [
         (b"\x1b[24;80R", [CursorPosition(24, 80)]),
@@ -75,7 +88,7 @@ CASES = {
     ],
     "focus": [
         (b"\x1b[I\x1b[O", [FocusGained(), FocusLost()]),
-        (b"\x1b\x1b[I", [KeyEvent(KeyCode.ESCAPE), FocusGained()]),
+        (b"\x1b\x1b[I", [KeyReport(KeyCode.ESCAPE), FocusGained()]),
     ],
     "flags": [
         (b"\x1b[?0u", [KeyboardFlags(KittyKeyboardFlags.NONE)]),
@@ -97,37 +110,37 @@ CASES = {
     ],
     "mouse": [
         (b"\x1b[M !!", [Csi(b"M"), *typed(" !!")]),
-        (b"\x1b[32;30;40M", [MouseEvent(30, 40, MouseButtons.LEFT)]),
+        (b"\x1b[32;30;40M", [pressed(30, 40)]),
         (
             b"\x1b[96;300;2M",
-            [MouseEvent(300, 2, MouseButtons.VERT_WHEEL | MouseButtons.WHEEL_POSITIVE)],
+            [MouseReport(300, 2, Modifiers.NONE, UP_WHEEL, MouseKind.WHEEL, 4)],
         ),
         (
             b"\x1b[<0;20;10M\x1b[<0;20;10m",
-            [MouseEvent(20, 10, MouseButtons.LEFT), MouseEvent(20, 10)],
+            [pressed(20, 10), side(1, MouseKind.RELEASE, 20, 10)],
         ),
     ],
     "side buttons": [
         (
             b"\x1b[<128;20;10M\x1b[<129;20;10m\x1b[<163;1;2M",
             [
-                SideButton(8, SideButtonKind.PRESS, 20, 10),
-                SideButton(9, SideButtonKind.RELEASE, 20, 10),
-                SideButton(11, SideButtonKind.DRAG, 1, 2),
+                side(8, MouseKind.PRESS, 20, 10),
+                side(9, MouseKind.RELEASE, 20, 10),
+                side(11, MouseKind.DRAG, 1, 2),
             ],
         ),
         (
             b"\x1b[<156;3;4M\x1b[160;30;40M\x1b[202;30;40M",
             [
-                SideButton(
+                side(
                     8,
-                    SideButtonKind.PRESS,
+                    MouseKind.PRESS,
                     3,
                     4,
                     Modifiers.SHIFT | Modifiers.ALT | Modifiers.CTRL,
                 ),
-                SideButton(8, SideButtonKind.PRESS, 30, 40),
-                SideButton(10, SideButtonKind.DRAG, 30, 40, Modifiers.ALT),
+                side(8, MouseKind.PRESS, 30, 40),
+                side(10, MouseKind.DRAG, 30, 40, Modifiers.ALT),
             ],
         ),
         (
@@ -136,7 +149,7 @@ CASES = {
         ),
         (
             b"\x1b\x1b[<128;1;1M",
-            [KeyEvent(KeyCode.ESCAPE), SideButton(8, SideButtonKind.PRESS, 1, 1)],
+            [KeyReport(KeyCode.ESCAPE), side(8, MouseKind.PRESS, 1, 1)],
         ),
     ],
     "control sequences": [
@@ -160,15 +173,15 @@ CASES = {
         (
             b"\x1b\x1b_Gi=1\x1bq",
             [
-                KeyEvent(KeyCode.ESCAPE),
+                KeyReport(KeyCode.ESCAPE),
                 StringCut(StringKind.APC, b"Gi=1"),
-                KeyEvent("q", Modifiers.ALT),
+                KeyReport("q", ALT),
             ],
         ),
-        (b"\x1b]0;\xc3\xa9\xff\x07q", [Osc(b"0;\xc3\xa9\xff"), KeyEvent("q")]),
+        (b"\x1b]0;\xc3\xa9\xff\x07q", [Osc(b"0;\xc3\xa9\xff"), KeyReport("q")]),
         (b"\x1bP>|XTerm(388)\x1b\\", [Dcs(b">|XTerm(388)")]),
         (b"\x1b_Gi=31;OK\x1b\\", [Apc(b"Gi=31;OK")]),
-        (b"\x1b\x1b]0;t\x07", [KeyEvent(KeyCode.ESCAPE), Osc(b"0;t")]),
+        (b"\x1b\x1b]0;t\x07", [KeyReport(KeyCode.ESCAPE), Osc(b"0;t")]),
     ],
     "kinds of key events": [
         (
@@ -241,7 +254,7 @@ CASES = {
             b"\x1b[57358u\x1b[57376u\x1b[57399u",
             [KeyReport(KeyCode.CAPS_LOCK), KeyReport(Function(13)), KeyReport(KeyCode.NUMPAD_0)],
         ),
-        (b"\x1b[57449;3:3u", [KeyReport(KeyCode.RIGHT_ALT, KittyModifiers.ALT, RELEASE)]),
+        (b"\x1b[57449;3:3u", [KeyReport(KeyCode.RIGHT_ALT, ALT, RELEASE)]),
         (b"\x1b[57428u\x1b[63743~", [KeyReport(57428), KeyReport(63743)]),
         (b"\x1b[[A\x1b[[E", [KeyReport(Function(1)), KeyReport(Function(5))]),
         (
@@ -274,9 +287,9 @@ CASES = {
             ],
         ),
         (b"\x1bO1;5S", [KeyReport(Function(4), CTRL)]),
-        (b"\x1bO1;5q", [KeyEvent("O", Modifiers.ALT), *typed("1;5q")]),
-        (b"\x1bO2~", [KeyEvent("O", Modifiers.ALT), *typed("2~")]),
-        (b"\x1bO9P", [KeyEvent("O", Modifiers.ALT), *typed("9P")]),
+        (b"\x1bO1;5q", [KeyReport("O", ALT), *typed("1;5q")]),
+        (b"\x1bO2~", [KeyReport("O", ALT), *typed("2~")]),
+        (b"\x1bO9P", [KeyReport("O", ALT), *typed("9P")]),
     ],
     "the third function key": [
         (
@@ -315,7 +328,7 @@ CASES = {
                 KeyReport(Function(24), ALT | SHIFT),
             ],
         ),
-        (b"\x1b\x1bO2P", [KeyEvent(KeyCode.ESCAPE), KeyReport(Function(1), SHIFT)]),
+        (b"\x1b\x1bO2P", [KeyReport(KeyCode.ESCAPE), KeyReport(Function(1), SHIFT)]),
         (b"\x1b\x1b[35~", [KeyReport(Function(21), ALT)]),
         (
             b"\x1b\x1b[2D\x1b\x1b[G\x1b\x1b[1;6Z",
@@ -325,8 +338,8 @@ CASES = {
                 KeyReport(KeyCode.TAB, SHIFT | ALT | CTRL),
             ],
         ),
-        (b"\x1b\x1b[97;5:3u", [KeyEvent(KeyCode.ESCAPE), KeyReport("a", CTRL, RELEASE)]),
-        (b"\x1b\x1b[24;80R", [KeyEvent(KeyCode.ESCAPE), CursorPosition(24, 80)]),
+        (b"\x1b\x1b[97;5:3u", [KeyReport(KeyCode.ESCAPE), KeyReport("a", CTRL, RELEASE)]),
+        (b"\x1b\x1b[24;80R", [KeyReport(KeyCode.ESCAPE), CursorPosition(24, 80)]),
     ],
     "pastes": [
         (
@@ -335,53 +348,171 @@ CASES = {
         ),
         (
             b"\x1b\x1b[200~\x1b]0;\x1b[201~\x07",
-            [KeyEvent(KeyCode.ESCAPE), Paste("\x1b]0;"), KeyEvent("g", Modifiers.CTRL)],
+            [KeyReport(KeyCode.ESCAPE), Paste("\x1b]0;"), KeyReport("g", CTRL)],
         ),
         (b"\x1b[200~\x1b[201~", [Paste("")]),
     ],
     "typed text": [
-        (b"\x1b[24\r", [ALT_BRACKET, *typed("24"), KeyEvent(KeyCode.ENTER)]),
-        (b"\x1b]a\x1b[I", [KeyEvent("]", Modifiers.ALT), KeyEvent("a"), FocusGained()]),
-        (b"\x1b]123456", [KeyEvent("]", Modifiers.ALT), *typed("123456")]),
-        (b"\x1bP>a\x1b_j", [KeyEvent("P", Modifiers.ALT), *typed(">a"), *ALT_LINE]),
+        (b"\x1b[24\r", [ALT_BRACKET, *typed("24"), KeyReport(KeyCode.ENTER)]),
+        (b"\x1b]a\x1b[I", [KeyReport("]", ALT), KeyReport("a"), FocusGained()]),
+        (b"\x1b]123456", [KeyReport("]", ALT), *typed("123456")]),
+        (b"\x1bP>a\x1b_j", [KeyReport("P", ALT), *typed(">a"), *ALT_LINE]),
         (
             b"\x1bPa\x07",
-            [KeyEvent("P", Modifiers.ALT), KeyEvent("a"), KeyEvent("g", Modifiers.CTRL)],
+            [KeyReport("P", ALT), KeyReport("a"), KeyReport("g", CTRL)],
         ),
         (
             b"\x1b^a\x1b\\",
-            [KeyEvent("^", Modifiers.ALT), KeyEvent("a"), KeyEvent("\\", Modifiers.ALT)],
+            [KeyReport("^", ALT), KeyReport("a"), KeyReport("\\", ALT)],
         ),
-        (b"\x1bX\xc2\x9bI\x9b", [KeyEvent("X", Modifiers.ALT), *typed("\x9bI\ufffd")]),
-        (b"q\xc3\xa9\x03", [*typed("qé"), KeyEvent("c", Modifiers.CTRL)]),
+        (b"\x1bX\xc2\x9bI\x9b", [KeyReport("X", ALT), *typed("\x9bI\ufffd")]),
+        (b"q\xc3\xa9\x03", [*typed("qé"), KeyReport("c", CTRL)]),
     ],
 }
 
-# Entries of the sequence table, with the events of both readings.
-ENTRY_CASES = [
-    (b"\x1b[97;5u", [KeyEvent("a", Modifiers.CTRL)], [KeyReport("a", CTRL)]),
-    (b"\x1b[27u", [KeyEvent("\x1b")], [KeyReport(KeyCode.ESCAPE)]),
-    (b"\x1b[0u", [KeyEvent("\0")], [KeyReport(0)]),
+# Entries of the sequence table, and the keys that no mode or protocol changes.
+CASES["entries"] = [
+    (b"\x1b[97;5u", [KeyReport("a", CTRL)]),
+    (b"\x1b[27u", [KeyReport(KeyCode.ESCAPE)]),
+    (b"\x1b[0u\x1b[8u\x1b[10u", [KeyReport(0), KeyReport(BACKSPACE), KeyReport(KeyCode.ENTER)]),
+    (b"\x1b[1;9A\x1b[15;9~", [KeyReport(UP, SUPER), KeyReport(Function(5), SUPER)]),
+    (b"\x1b[A\x1b[3;2~", [KeyReport(UP), KeyReport(KeyCode.DELETE, SHIFT)]),
+    (b"\x1b[1;5R\x1b\x1b[1;5R", [KeyReport(Function(3), CTRL), KeyReport(Function(3), ALT | CTRL)]),
+    (b"\x1b\x1b[97;5u", [KeyReport("a", ALT | CTRL)]),
+    (b"\x1b[2$", [KeyReport(KeyCode.INSERT, SHIFT)]),
+    (b"\x1bOP", [KeyReport(Function(1))]),
+]
+
+USUAL, ASKED = Reading(), Reading(questions=1)
+
+# Readings, bytes and their events; the names of the presses of these, and of the second ones. What
+# has none is "-", and "" is none at all.
+ROWS = [
+    (USUAL, b"\x1b[1;5R", [KeyReport(Function(3), CTRL)], "ctrl+f3", ""),
     (
-        b"\x1b[1;9A",
-        [KeyEvent(KeyCode.UP_ARROW, Modifiers.ALT)],
-        [KeyReport(KeyCode.UP_ARROW, KittyModifiers.SUPER)],
+        ASKED,
+        b"\x1b[1;5R\x1b[1;5R",
+        [CursorPosition(1, 5), KeyReport(Function(3), CTRL)],
+        "- ctrl+f3",
+        "",
     ),
-    (b"\x1b[A", [KeyEvent(KeyCode.UP_ARROW)], [KeyReport(KeyCode.UP_ARROW)]),
-    (b"\x1b[3;2~", [KeyEvent(KeyCode.DELETE, Modifiers.SHIFT)], [KeyReport(KeyCode.DELETE, SHIFT)]),
-    (b"\x1b[1;5R", [KeyEvent(Function(3), Modifiers.CTRL)], [KeyReport(Function(3), CTRL)]),
+    (ASKED, b"\x1b[1;300R", [CursorPosition(1, 300)], "", ""),
+    (USUAL, b"\x1b[1;300R", [CursorPosition(1, 300)], "", ""),
+    (USUAL, b"\x1b[0;0R", [Csi(b"0;0R")], "", ""),
     (
-        b"\x1b\x1b[97;5u",
-        [KeyEvent("a", Modifiers.ALT | Modifiers.CTRL)],
-        [KeyReport("a", ALT | CTRL)],
+        USUAL,
+        b"\x1b[1;9A\x1b[15;9~",
+        [KeyReport(UP, SUPER), KeyReport(Function(5), SUPER)],
+        "super+up super+f5",
+        "",
     ),
     (
-        b"\x1b\x1b[1;5R",
-        [KeyEvent(Function(3), Modifiers.ALT | Modifiers.CTRL)],
-        [KeyReport(Function(3), ALT | CTRL)],
+        USUAL,
+        b"\x1b[1;6Z\x1b\x1b[1;5Z",
+        [KeyReport(KeyCode.TAB, SHIFT | CTRL), KeyReport(KeyCode.TAB, SHIFT | CTRL | ALT)],
+        "ctrl+shift+tab ctrl+alt+shift+tab",
+        "",
     ),
-    (b"\x1b[2$", [KeyEvent(KeyCode.INSERT, Modifiers.SHIFT)], [KeyReport(KeyCode.INSERT, SHIFT)]),
-    (b"\x1bOP", [KeyEvent(Function(1))], [KeyEvent(Function(1))]),
+    (
+        USUAL,
+        b"\x1bOG\x1b\x1b[G\x1b[2D\x1bO1;5P",
+        [
+            KeyReport(KeyCode.KEY_PAD_BEGIN),
+            KeyReport(KeyCode.KEY_PAD_BEGIN, ALT),
+            KeyReport(LEFT, SHIFT),
+            KeyReport(Function(1), CTRL),
+        ],
+        "begin alt+begin shift+left ctrl+f1",
+        "",
+    ),
+    (USUAL, b"\x1b\x1b[E", [KeyReport(KeyCode.KEY_PAD_BEGIN, ALT)], "alt+begin", ""),
+    (
+        USUAL,
+        b"\x08\x0a\x7f\0",
+        [KeyReport("\b"), KeyReport("\n"), KeyReport(BACKSPACE), KeyReport("\0")],
+        "ctrl+h ctrl+j backspace ctrl+space",
+        "ctrl+backspace enter - -",
+    ),
+    (
+        Reading(erase=EraseByte.BACKSPACE),
+        b"\x08\x7f",
+        [KeyReport(BACKSPACE), KeyReport("\x7f")],
+        "backspace ctrl+backspace",
+        "",
+    ),
+    (Reading(newline=NewlineByte.ENTER), b"\x0a", [KeyReport(KeyCode.ENTER)], "enter", ""),
+    (USUAL, b"\x1b\x08", [KeyReport("\b", ALT)], "ctrl+alt+h", "ctrl+alt+backspace"),
+    (
+        USUAL,
+        b"\x1b[104;5u\x1b[8;2u",
+        [KeyReport("h", CTRL), KeyReport(BACKSPACE, SHIFT)],
+        "ctrl+h shift+backspace",
+        "",
+    ),
+    (
+        USUAL,
+        b"\x1b[49;5u\x1b[49;6u",
+        [KeyReport("1", CTRL), KeyReport("1", SHIFT | CTRL)],
+        "ctrl+1 ctrl+shift+1",
+        "",
+    ),
+    (
+        USUAL,
+        b"\x1b[49:33;6u",
+        [KeyReport("1", SHIFT | CTRL, shifted="!")],
+        "ctrl+!",
+        "ctrl+shift+1",
+    ),
+    (
+        USUAL,
+        b"\x1b[27;6;33~\x1b[33;6u",
+        [KeyReport("!", SHIFT | CTRL, shifted="!"), KeyReport("!", SHIFT | CTRL)],
+        "ctrl+! ctrl+!",
+        "",
+    ),
+    (
+        USUAL,
+        b"\x1b[223:63:45;6u",
+        [KeyReport("ß", SHIFT | CTRL, shifted="?", base="-")],
+        "ctrl+?",
+        "ctrl+_",
+    ),
+    (USUAL, b"\x1b[233:50;6u", [KeyReport("é", SHIFT | CTRL, shifted="2")], "ctrl+2", ""),
+    (
+        USUAL,
+        b"\x1b[1081;6u\x1b[1081:1049;6u\x1b[27;6;1049~",
+        [
+            KeyReport("й", SHIFT | CTRL),
+            KeyReport("й", SHIFT | CTRL, shifted="Й"),
+            KeyReport("Й", SHIFT | CTRL, shifted="Й"),
+        ],
+        "ctrl+shift+й ctrl+shift+й ctrl+shift+й",
+        "",
+    ),
+    (
+        USUAL,
+        b"\x1b[252:220;4u\x1b[252;4u\x1b\xc3\x9c",
+        [
+            KeyReport("ü", SHIFT | ALT, shifted="Ü"),
+            KeyReport("ü", SHIFT | ALT),
+            KeyReport("Ü", ALT),
+        ],
+        "alt+Ü alt+Ü alt+Ü",
+        "",
+    ),
+    (USUAL, b"\x1b[0u\x1b[0;;229u", [KeyReport(0), KeyReport(0, text="å")], "- å", ""),
+    (
+        Reading(Dialect.TERMWIZ),
+        b"\x08\x0a\x1b[1;9A\x1b[1;5R",
+        [
+            KeyReport(BACKSPACE),
+            KeyReport(KeyCode.ENTER),
+            KeyReport(UP, ALT),
+            KeyReport(Function(3), CTRL),
+        ],
+        "backspace enter alt+up ctrl+f3",
+        "",
+    ),
 ]
 
 # What stays buffered beside what an InputParser buffers, its kind, and the text that it is at a
@@ -413,32 +544,20 @@ OPEN_STRINGS = [
 ]
 
 
-def cases(protocol):
-    """All cases under a protocol: bytes and events."""
-    for group in CASES.values():
-        yield from group
-    for data, of_legacy, of_kitty in ENTRY_CASES:
-        yield data, of_kitty if protocol is Protocol.KITTY else of_legacy
-
-
-# Tests of either protocol take `parser`, the others one of these.
-
-
-@pytest.fixture(params=Protocol, ids=lambda protocol: protocol.name)
-def parser(request):
-    with ExtendedParser(request.param) as it:
-        yield it
+def cases():
+    """All cases: bytes and events."""
+    return itertools.chain(*CASES.values())
 
 
 @pytest.fixture
-def legacy():
+def parser():
     with ExtendedParser() as it:
         yield it
 
 
 @pytest.fixture
-def kitty():
-    with ExtendedParser(Protocol.KITTY) as it:
+def termwiz():
+    with ExtendedParser(Dialect.TERMWIZ) as it:
         yield it
 
 
@@ -454,7 +573,7 @@ def read(parser, pieces):
 
 def test_cases(parser):
     """Each text has its events, whole, byte by byte, and cut in two at each place."""
-    for data, events in cases(parser.protocol):
+    for data, events in cases():
         assert parser.parse(data) + parser.flush() == events, data
         assert read(parser, [data[at : at + 1] for at in range(len(data))]) == events, data
         for place in range(len(data) + 1):
@@ -464,8 +583,8 @@ def test_cases(parser):
 def test_cases_in_a_row(parser):
     """All texts one after another, in pieces of random lengths, have the events of all, also if
     they are pulled one by one."""
-    data = b"".join(data for data, _ in cases(parser.protocol))
-    wanted = [event for _, events in cases(parser.protocol) for event in events]
+    data = b"".join(data for data, _ in cases())
+    wanted = [event for _, events in cases() for event in events]
     for seed in range(50):
         pick, pieces, at = random.Random(seed), [], 0
         while at < len(data):
@@ -477,11 +596,28 @@ def test_cases_in_a_row(parser):
     assert [*parser, *parser.flush()] == wanted
 
 
-def test_protocol(legacy, kitty):
-    """LEGACY is the default, and a parser says its protocol."""
-    assert (legacy.protocol, kitty.protocol) == (Protocol.LEGACY, Protocol.KITTY)
+def names(presses):
+    """The names of presses as the rows have them."""
+    return " ".join(str(it or "-") for it in presses) if any(presses) else ""
+
+
+@pytest.mark.parametrize(("reading", "data", "events", "presses", "seconds"), ROWS)
+def test_rows(parser, reading, data, events, presses, seconds):
+    """More may come, and the bytes are cut at each place."""
+    for place in range(len(data)):
+        parser.reading = reading
+        assert parser.parse(data[:place]) + parser.parse(data[place:]) == events
+        assert_rest(parser, 0, Waiting.NOTHING)
+    assert names([KeyPress.of_event(event) for event in events]) == presses
+    reports = [event if isinstance(event, KeyReport) else None for event in events]
+    assert names([report and KeyPress.second(report) for report in reports]) == seconds
+
+
+def test_dialect(parser, termwiz):
+    """EXTENDED is the default, and a parser says its dialect."""
+    assert (parser.dialect, termwiz.dialect) == (Dialect.EXTENDED, Dialect.TERMWIZ)
     with pytest.raises(AttributeError):
-        kitty.protocol = Protocol.LEGACY
+        parser.dialect = Dialect.TERMWIZ
 
 
 def key_entries():
@@ -494,28 +630,42 @@ def key_entries():
     return entries
 
 
-def test_each_entry_of_the_table(legacy, kitty):
-    """With LEGACY each entry keeps its key. With KITTY it may be a report."""
-    kinds = {KeyEvent: 0, KeyReport: 0}
+def as_usual(event):
+    """A mouse report without what an InputParser doesn't tell; any other event as it is."""
+    if not isinstance(event, MouseReport):
+        return event
+    return MouseEvent(event.x, event.y, event.buttons, event.modifiers)
+
+
+def test_each_entry_of_the_table(parser, termwiz):
+    """With TERMWIZ it is the key of the table. With EXTENDED it is a report, too."""
     for entry in key_entries():
-        wanted = KeyEvent(entry.key, entry.modifiers)
-        assert legacy.parse(entry.bytes, False) == [wanted]
-        (event,) = kitty.parse(entry.bytes, False)
-        kinds[type(event)] += 1
-        if isinstance(event, KeyEvent):
-            assert event == wanted
-    assert min(kinds.values()) > 0
+        wanted = events_of(ExtendedParser, [KeyEvent(entry.key, entry.modifiers)])
+        assert termwiz.parse(entry.bytes, False) == wanted
+        (event,) = parser.parse(entry.bytes, False)
+        assert isinstance(event, KeyReport)
+
+
+def test_termwiz(termwiz):
+    """It reads what an InputParser reads, whatever the other fields of its reading are."""
+    with InputParser() as usual:
+        for reading in (
+            Reading(Dialect.TERMWIZ),
+            Reading(Dialect.TERMWIZ, True, 1, EraseByte.BACKSPACE, NewlineByte.ENTER),
+        ):
+            termwiz.reading = reading
+            for data in (*(data for data, _ in cases()), *(row[1] for row in ROWS)):
+                wanted = [
+                    event if isinstance(event, MouseEvent) else reported(event)
+                    for event in usual.parse(data, False)
+                ]
+                assert [*map(as_usual, termwiz.parse(data, False))] == wanted, data
 
 
 def test_events_are_values():
-    seen = {
-        repr(event): event
-        for protocol in Protocol
-        for _, events in cases(protocol)
-        for event in events
-    }
+    seen = {repr(event): event for _, events in cases() for event in events}
     assert len({*seen.values()}) == len(seen)
-    assert len({type(event) for event in seen.values()}) == 15
+    assert len({type(event) for event in seen.values()}) == 13
     for event in seen.values():
         again = pickle.loads(pickle.dumps(event))
         assert (again, hash(again)) == (event, hash(event))
@@ -523,20 +673,20 @@ def test_events_are_values():
             event.key = event.data = event.row = 1
 
 
-def test_kept_reports(legacy):
+def test_kept_reports(parser):
     """Of the reports that were made, a bounded number is kept."""
     assert (
-        len(legacy.parse(b"".join(b"\x1b[%d;5:3u" % code for code in range(0x4E00, 0x9000))))
+        len(parser.parse(b"".join(b"\x1b[%d;5:3u" % code for code in range(0x4E00, 0x9000))))
         == 0x4200
     )
     assert extended._key_report.cache_info().currsize < 5000
 
 
-def test_reprs(legacy):
-    (event,) = legacy.parse(b"\x1b[97:65;6:2;65u")
+def test_reprs(parser):
+    (event,) = parser.parse(b"\x1b[97:65;6:2;65u")
     assert repr(event) == (
         "KeyReport(key='a', modifiers=KittyModifiers.SHIFT|CTRL, kind=KeyEventKind.REPEAT, "
-        "shifted='A', base=None, text='A')"
+        "shifted='A', text='A')"
     )
     for event, wanted in [
         (FocusGained(), "FocusGained()"),
@@ -548,10 +698,12 @@ def test_reprs(legacy):
             "DISAMBIGUATE_ESCAPE_CODES|REPORT_EVENT_TYPES, unnamed=0)",
         ),
         (Dcs(b"\xff"), "Dcs(data=b'\\xff')"),
+        (KeyReport(57414), "KeyReport(key=57414)"),
+        (KeyReport("a", base="b"), "KeyReport(key='a', base='b')"),
         (
-            KeyReport(57414),
-            "KeyReport(key=57414, modifiers=KittyModifiers.NONE, kind=KeyEventKind.PRESS, "
-            "shifted=None, base=None, text='')",
+            pressed(1, 2),
+            "MouseReport(x=1, y=2, modifiers=Modifiers.NONE, buttons=MouseButtons.LEFT, "
+            "kind=MouseKind.PRESS, button=1)",
         ),
     ]:
         assert repr(event) == wanted
@@ -560,34 +712,63 @@ def test_reprs(legacy):
 # How a parser reads can be changed between any two calls.
 
 
-def test_reading(legacy, kitty):
-    """A new parser has its protocol, and the rest is off. A reset forgets the questions alone."""
-    assert legacy.reading == Reading(Protocol.LEGACY)
-    assert kitty.reading == Reading(Protocol.KITTY, x10_mouse=False, questions=0)
-    for reading in (Reading(Protocol.KITTY, True, 255), Reading(Protocol.LEGACY, False, 1)):
-        legacy.reading = reading
-        assert (legacy.reading, legacy.protocol) == (reading, reading.protocol)
-        legacy.reset()
-        assert legacy.reading == dataclasses.replace(reading, questions=0)
+def test_reading(parser, termwiz):
+    """A new parser has its dialect, and the rest is as at first. A reset forgets the questions
+    alone."""
+    assert parser.reading == Reading()
+    assert termwiz.reading == Reading(
+        Dialect.TERMWIZ,
+        x10_mouse=False,
+        questions=0,
+        erase=EraseByte.DELETE,
+        newline=NewlineByte.CTRL_J,
+    )
+    for reading in (
+        Reading(Dialect.TERMWIZ, True, 255, EraseByte.BACKSPACE, NewlineByte.ENTER),
+        Reading(Dialect.EXTENDED, False, 1),
+        Reading(erase=EraseByte.BACKSPACE),
+        Reading(newline=NewlineByte.ENTER),
+    ):
+        parser.reading = reading
+        assert (parser.reading, parser.dialect) == (reading, reading.dialect)
+        parser.reset()
+        assert parser.reading == dataclasses.replace(reading, questions=0)
 
 
-def test_wrong_readings(legacy):
-    before = Reading(Protocol.KITTY, True, 3)
-    legacy.reading = before
+def test_erase_and_newline(parser):
+    """They say what the bytes 8, 10 and 127 are, alone and after an ESC."""
+    for reading, eight, ten, last in [
+        (Reading(), "\b", "\n", BACKSPACE),
+        (Reading(erase=EraseByte.BACKSPACE), BACKSPACE, "\n", "\x7f"),
+        (Reading(newline=NewlineByte.ENTER), "\b", KeyCode.ENTER, BACKSPACE),
+    ]:
+        parser.reading = reading
+        for before, held in ((b"", KittyModifiers.NONE), (b"\x1b", ALT)):
+            data = b"".join(before + byte for byte in (b"\b", b"\n", b"\x7f"))
+            assert parser.parse(data) == [KeyReport(key, held) for key in (eight, ten, last)]
+    assert str(KeyPress.of_report(KeyReport("\x7f"))) == "ctrl+backspace"
+
+
+def test_wrong_readings(parser):
+    before = Reading(Dialect.TERMWIZ, True, 3, EraseByte.BACKSPACE, NewlineByte.ENTER)
+    parser.reading = before
     for wrong, error in [
         (None, TypeError),
-        (Protocol.KITTY, TypeError),
+        (Dialect.EXTENDED, TypeError),
         (Reading(1), TypeError),
-        (Reading(Protocol.KITTY, questions=1.5), TypeError),
-        (Reading(Protocol.KITTY, questions=-1), ValueError),
-        (Reading(Protocol.KITTY, questions=256), ValueError),
+        (Reading(erase=8), TypeError),
+        (Reading(newline=EraseByte.DELETE), TypeError),
+        (Reading(questions=1.5), TypeError),
+        (Reading(questions=-1), ValueError),
+        (Reading(questions=256), ValueError),
     ]:
         with pytest.raises(error):
-            legacy.reading = wrong
-        assert legacy.reading == before
-    raw = extended._RawReading(2, False, 0)
-    assert not hedrugal._library.hed_extended_set_reading(legacy._raw, raw)
-    assert legacy.reading == before
+            parser.reading = wrong
+        assert parser.reading == before
+    for wrong in ((2, 0, 0), (0, 2, 0), (0, 0, 2)):
+        raw = extended._RawReading(*wrong, False, 0)
+        assert not hedrugal._library.hed_extended_set_reading(parser._raw, raw)
+        assert parser.reading == before
 
 
 def test_readings_of_a_closed_parser():
@@ -595,8 +776,8 @@ def test_readings_of_a_closed_parser():
     parser.close()
     for call in (
         lambda: parser.reading,
-        lambda: parser.protocol,
-        lambda: setattr(parser, "reading", Reading(Protocol.KITTY)),
+        lambda: parser.dialect,
+        lambda: setattr(parser, "reading", Reading()),
         parser.expect_position,
         parser.forget_positions,
     ):
@@ -604,31 +785,33 @@ def test_readings_of_a_closed_parser():
             call()
 
 
-def test_what_is_buffered_is_read_anew(legacy):
+def test_what_is_buffered_is_read_anew(parser):
     """It was fed before the reading changed."""
-    legacy.feed(b"\x1b[1;9A\x1b[1;5R\x1b[M !!")
-    assert legacy.next_event() == KeyEvent(KeyCode.UP_ARROW, Modifiers.ALT)
-    legacy.reading = Reading(Protocol.KITTY, x10_mouse=True)
-    assert [*legacy] == [KeyReport(Function(3), CTRL), MouseEvent(1, 1, MouseButtons.LEFT)]
-    assert legacy.parse(b"\x1b[M") == []
-    assert_rest(legacy, 3, Waiting.SEQUENCE)
-    legacy.reading = Reading(Protocol.LEGACY)
-    assert legacy.parse(b"") == [Csi(b"M")]
+    parser.feed(b"\x1b[1;9A\x1b[1;9A\x1b[1;5R\x1b[M !!")
+    assert parser.next_event() == KeyReport(UP, SUPER)
+    parser.reading = Reading(Dialect.TERMWIZ)
+    assert parser.next_event() == KeyReport(UP, ALT)
+    parser.reading = Reading(x10_mouse=True)
+    assert [*parser] == [KeyReport(Function(3), CTRL), pressed(1, 1)]
+    assert parser.parse(b"\x1b[M") == []
+    assert_rest(parser, 3, Waiting.SEQUENCE)
+    parser.reading = Reading()
+    assert parser.parse(b"") == [Csi(b"M")]
 
 
 X10 = [
-    (b"\x1b[M0\x60\x70", [MouseEvent(64, 80, MouseButtons.LEFT, Modifiers.CTRL)]),
-    (b"\x1b[M \xff!", [MouseEvent(223, 1, MouseButtons.LEFT)]),
+    (b"\x1b[M0\x60\x70", [pressed(64, 80, Modifiers.CTRL)]),
+    (b"\x1b[M \xff!", [pressed(223, 1)]),
     (b"\x1b[M\x80!!", [Csi(b"M\x80!!")]),
-    (b"\x1b[M\xa0!!", [SideButton(8, SideButtonKind.PRESS, 1, 1)]),
+    (b"\x1b[M\xa0!!", [side(8, MouseKind.PRESS, 1, 1)]),
     (b"\x1b[M\xe5!!", [Csi(b"M\xe5!!")]),
     (
         b"\x1b\x1b[M\xdf\xff\xff",
         [
-            KeyEvent(KeyCode.ESCAPE),
-            SideButton(
+            KeyReport(KeyCode.ESCAPE),
+            side(
                 11,
-                SideButtonKind.DRAG,
+                MouseKind.DRAG,
                 223,
                 223,
                 Modifiers.SHIFT | Modifiers.ALT | Modifiers.CTRL,
@@ -638,9 +821,42 @@ X10 = [
 ]
 
 
+# Mouse reports of the column 1 and the row 2, and what they tell.
+MOUSE = {
+    b"\x1b[<1;1;2M": (MouseButtons.MIDDLE, MouseKind.PRESS, 2),
+    b"\x1b[<1;1;2m": (MouseButtons.NONE, MouseKind.RELEASE, 2),
+    b"\x1b[<34;1;2M": (MouseButtons.RIGHT, MouseKind.DRAG, 3),
+    b"\x1b[<34;1;2m": (MouseButtons.NONE, MouseKind.RELEASE, 3),
+    b"\x1b[<3;1;2M": (MouseButtons.NONE, MouseKind.MOVE, None),
+    b"\x1b[<3;1;2m": (MouseButtons.NONE, MouseKind.MOVE, None),
+    b"\x1b[<35;1;2M": (MouseButtons.NONE, MouseKind.MOVE, None),
+    b"\x1b[<35;1;2m": (MouseButtons.NONE, MouseKind.MOVE, None),
+    b"\x1b[<65;1;2M": (MouseButtons.VERT_WHEEL, MouseKind.WHEEL, 5),
+    b"\x1b[<67;1;2M": (MouseButtons.HORZ_WHEEL, MouseKind.WHEEL, 7),
+    b"\x1b[<64;1;2m": (MouseButtons.NONE, MouseKind.RELEASE, 4),
+    b"\x1b[<129;1;2M": (MouseButtons.NONE, MouseKind.PRESS, 9),
+    b"\x1b[<129;1;2m": (MouseButtons.NONE, MouseKind.RELEASE, 9),
+    b"\x1b[<161;1;2M": (MouseButtons.NONE, MouseKind.DRAG, 9),
+    b"\x1b[<161;1;2m": (MouseButtons.NONE, MouseKind.RELEASE, 9),
+    b"\x1b[35;1;2M": (MouseButtons.NONE, MouseKind.RELEASE, None),
+    b"\x1b[64;1;2M": (MouseButtons.LEFT, MouseKind.DRAG, 1),
+    b"\x1b[67;1;2M": (MouseButtons.NONE, MouseKind.MOVE, None),
+    b'\x1b[M!!"': (MouseButtons.MIDDLE, MouseKind.PRESS, 2),
+    b'\x1b[M#!"': (MouseButtons.NONE, MouseKind.RELEASE, None),
+    b'\x1b[MC!"': (MouseButtons.NONE, MouseKind.MOVE, None),
+    b'\x1b[Ma!"': (MouseButtons.VERT_WHEEL, MouseKind.WHEEL, 5),
+}
+
+
+@pytest.mark.parametrize(("data", "told"), MOUSE.items())
+def test_what_a_mouse_report_tells(parser, data, told):
+    parser.reading = Reading(x10_mouse=True)
+    assert parser.parse(data) == [MouseReport(1, 2, Modifiers.NONE, *told)]
+
+
 @pytest.mark.parametrize(("data", "events"), X10)
 def test_x10_mouse(parser, data, events):
-    parser.reading = Reading(parser.protocol, x10_mouse=True)
+    parser.reading = Reading(x10_mouse=True)
     assert parser.parse(data) + parser.flush() == events
     for at in range(len(data) + 1):
         assert read(parser, [data[:at], data[at:]]) == events
@@ -648,18 +864,18 @@ def test_x10_mouse(parser, data, events):
 
 def test_x10_beginnings(parser):
     """They stay buffered, and a flush types them."""
-    parser.reading = Reading(parser.protocol, x10_mouse=True)
+    parser.reading = Reading(x10_mouse=True)
     for rest, text in ((b"\x1b[M", "[M"), (b"\x1b[M0", "[M0"), (b"\x1b[M0!", "[M0!")):
         assert parser.parse(rest) == []
         assert_rest(parser, len(rest), Waiting.SEQUENCE)
-        assert parser.flush() == [KeyEvent(text[0], Modifiers.ALT), *typed(text[1:])]
+        assert parser.flush() == [KeyReport(text[0], ALT), *typed(text[1:])]
 
 
 def test_expected_positions(parser):
     """Each position answers one question, also one that needs none. The next is F3 again."""
     asked, position = b"\x1b[1;5R", CursorPosition(1, 5)
     (third,) = parser.parse(asked)
-    assert key_report(third) == KeyReport(Function(3), CTRL)
+    assert third == KeyReport(Function(3), CTRL)
     parser.expect_position()
     parser.expect_position()
     assert parser.reading.questions == 2
@@ -669,47 +885,49 @@ def test_expected_positions(parser):
     parser.expect_position()
     assert parser.parse(b"\x1b[24;80R" + asked) == [CursorPosition(24, 80), third]
     parser.expect_position()
-    wanted = [KeyReport(Function(3)), KeyEvent(KeyCode.ESCAPE), position, third]
+    wanted = [KeyReport(Function(3)), KeyReport(KeyCode.ESCAPE), position, third]
     assert parser.parse(b"\x1b[R\x1b" + asked * 2) == wanted
 
 
-def test_forgotten_positions(legacy):
-    for forget in (legacy.forget_positions, legacy.reset):
-        legacy.expect_position()
+def test_forgotten_positions(parser):
+    for forget in (parser.forget_positions, parser.reset):
+        parser.expect_position()
         forget()
-        assert legacy.reading.questions == 0
-        assert legacy.parse(b"\x1b[1;5R") == [KeyEvent(Function(3), Modifiers.CTRL)]
+        assert parser.reading.questions == 0
+        assert parser.parse(b"\x1b[1;5R") == [KeyReport(Function(3), CTRL)]
 
 
-def test_most_positions(kitty):
+def test_most_positions(parser):
     for _ in range(300):
-        kitty.expect_position()
-    assert kitty.reading == Reading(Protocol.KITTY, questions=255)
+        parser.expect_position()
+    assert parser.reading == Reading(questions=255)
 
 
-def test_wrong_protocols():
-    for wrong in (None, 0, "LEGACY", KeyEventKind.PRESS):
-        with pytest.raises(TypeError, match="^a Protocol is required, not"):
+def test_wrong_dialects():
+    for wrong in (None, 0, "EXTENDED", KeyEventKind.PRESS):
+        with pytest.raises(TypeError, match="^a member of Dialect is required, not"):
             ExtendedParser(wrong)
     raw = extended._RawExtended()
     assert not hedrugal._library.hed_extended_init(raw, 2)
     assert not raw.live
 
 
-def test_unknown_numbers(legacy):
+def test_unknown_numbers(parser):
     report = extended._RawReport(kind=4, key=1, detail=97)
+    mouse = extended._RawMouse(kind=6)
     for fields in (
         {"kind": 0},
         {"kind": 14},
         {"kind": 15, "flags": 3},
-        {"kind": 17, "flags": 4},
-        {"kind": 18},
-        {"kind": 4, "report": report},
+        {"kind": 4},
+        {"kind": 17},
+        {"kind": 1, "report": report},
+        {"kind": 2, "mouse": mouse},
         {"kind": 10, "text_len": 5},
     ):
-        legacy._front = extended._RawExtendedEvent(**fields)
+        parser._front = extended._RawExtendedEvent(**fields)
         with pytest.raises(RuntimeError):
-            legacy._front_event()
+            parser._front_event()
 
 
 # Input far past any small bound: by one call, and in pieces.
@@ -724,10 +942,10 @@ def check_long(parser, data, events):
 
 def test_strings(parser):
     body = (b"0123456789abcd\r\xff" * 4000)[:60000]
-    check_long(parser, b"\x1b]52;" + body + b"\x1b\\q", [Osc(b"52;" + body), KeyEvent("q")])
-    check_long(parser, b"\x1b]52;" + body + b"\x07q", [Osc(b"52;" + body), KeyEvent("q")])
-    check_long(parser, b"\x1bP>|" + body + b"\x1b\\q", [Dcs(b">|" + body), KeyEvent("q")])
-    check_long(parser, b"\x1b_Gi=" + body + b"\x1b\\q", [Apc(b"Gi=" + body), KeyEvent("q")])
+    check_long(parser, b"\x1b]52;" + body + b"\x1b\\q", [Osc(b"52;" + body), KeyReport("q")])
+    check_long(parser, b"\x1b]52;" + body + b"\x07q", [Osc(b"52;" + body), KeyReport("q")])
+    check_long(parser, b"\x1bP>|" + body + b"\x1b\\q", [Dcs(b">|" + body), KeyReport("q")])
+    check_long(parser, b"\x1b_Gi=" + body + b"\x1b\\q", [Apc(b"Gi=" + body), KeyReport("q")])
 
 
 def string_parts(opening, body):
@@ -745,7 +963,7 @@ def test_a_clipboard_of_100_kb(parser, end):
     ended = Osc(last) if end.strip(b"\x1b") else StringCut(StringKind.OSC, last)
     wanted = [*(StringPart(StringKind.OSC, part) for part in parts), ended]
     check_long(parser, b"\x1b]52;" + body + end, wanted)
-    assert parser.parse(b"q") == [KeyEvent("q")]
+    assert parser.parse(b"q") == [KeyReport("q")]
 
 
 def test_limits(parser):
@@ -761,7 +979,7 @@ def test_limits(parser):
             assert len(parts) == count // 65531
             check_long(parser, begin + b"x" * count + end, wanted)
             check_long(parser, begin + b"x" * count, [*wanted[:-1], StringCut(kind, last)])
-    title = [KeyEvent("]", Modifiers.ALT), *typed("l" + "t" * 251)]
+    title = [KeyReport("]", ALT), *typed("l" + "t" * 251)]
     check_long(parser, b"\x1b]l" + b"t" * 251 + b"\x07", [Osc(b"l" + b"t" * 251)])
     check_long(parser, b"\x1b]l" + b"t" * 251 + b"\x1b[I", [*title, FocusGained()])
     check_long(parser, b"\x1b]l" + b"t" * 252 + b"\r\x07", [Osc(b"l" + b"t" * 252 + b"\r")])
@@ -781,7 +999,7 @@ def test_a_long_paste(parser):
 def test_many_events(parser):
     data = b"a\x1b[I\x1b[97;5:3u\x1b]0;t\x07\x1b[200~p\x1b[201~\x1b[24;80R"
     events = [
-        KeyEvent("a"),
+        KeyReport("a"),
         FocusGained(),
         KeyReport("a", CTRL, RELEASE),
         Osc(b"0;t"),
@@ -813,7 +1031,7 @@ def each_rest(parser):
 def test_reset(parser):
     for rest, _ in each_rest(parser):
         assert [parser.reset(), parser.reset()] == [len(rest), 0]
-        assert parser.parse(b"q") == [KeyEvent("q")]
+        assert parser.parse(b"q") == [KeyReport("q")]
 
 
 def test_flush(parser):
@@ -821,9 +1039,9 @@ def test_flush(parser):
     next character."""
     with InputParser() as usual:
         for rest, text in each_rest(parser):
-            wanted = usual.parse(rest, False)
+            wanted = events_of(ExtendedParser, usual.parse(rest, False))
             if not rest.startswith(b"\x1b\x1b"):
-                assert wanted == [KeyEvent(text[0], Modifiers.ALT), *typed(text[1:])]
+                assert wanted == [KeyReport(text[0], ALT), *typed(text[1:])]
             assert parser.flush() == wanted, rest
 
 
@@ -842,7 +1060,7 @@ def test_open_strings(parser):
         assert_rest(parser, len(rest), Waiting.STRING)
         assert parser.flush_escape() is None and parser.end_paste() is None
         assert (parser.timeout(7), parser.flush()) == (5 + len(rest) / 1000, [cut])
-        escape = [KeyEvent(KeyCode.ESCAPE)]
+        escape = [KeyReport(KeyCode.ESCAPE)]
         assert parser.parse(b"\x1b" + rest) == escape
         assert parser.timeout(8) == 5 + len(rest) / 1000
         assert parser.expire(12.999 + len(rest) / 1000) == []
@@ -863,23 +1081,23 @@ def test_a_dead_line(parser):
     reads = [(0, b"\x1b]11;rgb"), *((30 * count, b"\r") for count in range(1, 201))]
     (time, events), *typed = events_in_time(parser, reads)
     assert (time, events) == (5180, [StringCut(StringKind.OSC, b"11;rgb" + b"\r" * 172)])
-    assert [events for _, events in typed] == [[KeyEvent(KeyCode.ENTER)]] * 28
+    assert [events for _, events in typed] == [[KeyReport(KeyCode.ENTER)]] * 28
 
 
 def test_held_after_alt_bracket(parser):
     reads = [(0, b"\x1b]"), *((30 * count, b"l") for count in range(1, 61))]
     first, *others = events_in_time(parser, reads)
-    assert first == (1000, [KeyEvent("]", Modifiers.ALT), *typed("l" * 33)])
+    assert first == (1000, [KeyReport("]", ALT), *typed("l" * 33)])
     assert others == [(30 * count, typed("l")) for count in range(34, 61)]
 
 
 def test_escape(parser):
     assert parser.parse(b"\x1b]11;?\x07\x1b") == [Osc(b"11;?")]
     assert_rest(parser, 1, Waiting.ESCAPE)
-    assert parser.flush_escape() == KeyEvent(KeyCode.ESCAPE)
+    assert parser.flush_escape() == KeyReport(KeyCode.ESCAPE)
     assert parser.parse(b"\x1b\x1b") == []
     assert_rest(parser, 2, Waiting.ESCAPE)
-    assert parser.flush_escape() == KeyEvent(KeyCode.ESCAPE, Modifiers.ALT)
+    assert parser.flush_escape() == KeyReport(KeyCode.ESCAPE, ALT)
     assert_rest(parser, 0, Waiting.NOTHING)
 
 
@@ -894,10 +1112,10 @@ def test_end_paste(parser):
 def test_a_character(parser):
     assert parser.parse(b"\xe2\x82") == []
     assert_rest(parser, 2, Waiting.CHARACTER)
-    assert parser.parse(b"\xac") == [KeyEvent("€")]
+    assert parser.parse(b"\xac") == [KeyReport("€")]
 
 
-# `key_report` is what the library reports of an event.
+# Every key is a report of the library.
 
 
 def check_report(parser, data):
@@ -906,41 +1124,21 @@ def check_report(parser, data):
     wanted = extended._key_report(
         *extended._report_fields_of(parser._front, extended._REPORT_AT), ""
     )
-    report = key_report(event)
-    assert report == wanted and parser.next_event(False) is None
-    return report
+    assert event == wanted and parser.next_event(False) is None
+    return event
 
 
-def test_report_of_each_entry(legacy):
+def test_report_of_each_entry(parser):
     for entry in key_entries():
-        check_report(legacy, entry.bytes)
+        check_report(parser, entry.bytes)
 
 
 def test_characters(parser):
     for text in ("q", "é", "\U0010ffff"):
         assert check_report(parser, text.encode()) == KeyReport(text)
-    assert check_report(parser, b"\x1bq") == KeyReport("q", KittyModifiers.ALT)
+    assert check_report(parser, b"\x1bq") == KeyReport("q", ALT)
     assert check_report(parser, b"\x03") == KeyReport("c", CTRL)
     assert check_report(parser, b"\x1b") == KeyReport(KeyCode.ESCAPE)
-
-
-def test_reports_are_returned_as_they_are(legacy):
-    (event,) = legacy.parse(b"\x1b[97:65:99;2:3;65u")
-    assert key_report(event) is event
-
-
-def test_all_modifiers():
-    """SHIFT, ALT and CTRL are reported, and no other modifier."""
-    assert key_report(KeyEvent(Function(1), Modifiers(4094))) == KeyReport(
-        Function(1), KittyModifiers(7)
-    )
-    assert key_report(KeyEvent("q", Modifiers.LEFT_ALT | Modifiers.SUPER)) == KeyReport("q")
-
-
-def test_other_events():
-    for _, events in cases(Protocol.KITTY):
-        for event in events:
-            assert (key_report(event) is None) == (not isinstance(event, (KeyEvent, KeyReport)))
 
 
 # Key reports to bytes, and back.
@@ -966,7 +1164,7 @@ def test_each_flag():
         (KeyReport("a", CTRL), none, b"\x01"),
         (KeyReport("a", CTRL | SHIFT), none, b"\x1b[97;6u"),
         (KeyReport("q", KittyModifiers.SUPER), none, b"\x1b[113;9u"),
-        (KeyReport("1", KittyModifiers.ALT | SHIFT, shifted="!"), none, b"\x1b!"),
+        (KeyReport("1", ALT | SHIFT, shifted="!"), none, b"\x1b!"),
         (KeyReport(UP, KittyModifiers.SUPER), none, b"\x1b[1;9A"),
         (KeyReport(Function(3), SHIFT), none, b"\x1b[13;2~"),
         (KeyReport(Function(25)), none, b"\x1b[57388u"),
@@ -998,7 +1196,7 @@ def test_each_flag():
         assert report.encode(flags) == wanted, (report, flags)
 
 
-def test_read_back(kitty):
+def test_read_back(parser):
     keys = [
         "a",
         "\U0010ffff",
@@ -1019,15 +1217,15 @@ def test_read_back(kitty):
         for kind in KeyEventKind
     ]
     for report in [SHIFT_A, KeyReport("é", CTRL, REPEAT, base="2"), *reports]:
-        assert kitty.parse(report.encode(ALL)) == [report]
+        assert parser.parse(report.encode(ALL)) == [report]
 
 
-def test_nothing_else_is_refused(kitty):
+def test_nothing_else_is_refused(parser):
     """Each key of Kitty's table is sent, whatever is held. Under flags that ask for no sequences
     some keys have no bytes, but the refusal is of the key and not of memory. A text of any length
     is sent as it is, and in a sequence of any length up to 256."""
     numbers = [
-        kitty.parse(b"\x1b[%du" % number)[0].key
+        parser.parse(b"\x1b[%du" % number)[0].key
         for number in (27, 9, 13, 127, *range(57344, 57455))
     ]
     keys = ["a", "é", UP, KeyCode.DELETE, Function(1), Function(35), 63743, *numbers]
@@ -1045,7 +1243,7 @@ def test_nothing_else_is_refused(kitty):
         assert KeyReport("x", text="x" * length).encode(KittyKeyboardFlags.NONE) == b"x" * length
     for threes, twos in itertools.product(range(61), range(4)):
         report = KeyReport("a", text="x" * threes + "A" * twos)
-        assert kitty.parse(report.encode(ALL)) == [report]
+        assert parser.parse(report.encode(ALL)) == [report]
 
 
 def test_keys_without_bytes():
@@ -1125,8 +1323,8 @@ EVENT_PRESSES = [
 # Key reports, their presses, and the texts to insert.
 REPORT_PRESSES = [
     (
-        KeyReport("a", KittyModifiers.ALT | SHIFT, REPEAT),
-        KeyPress("A", KittyModifiers.ALT),
+        KeyReport("a", ALT | SHIFT, REPEAT),
+        KeyPress("A", ALT),
         "",
     ),
     (
@@ -1159,8 +1357,8 @@ REPORT_PRESSES = [
 SECOND_PRESSES = [
     (KeyReport("\u0441", CTRL, base="c"), KeyPress("c", CTRL)),
     (
-        KeyReport("\u0431", KittyModifiers.ALT | SHIFT, shifted="\u0411", base=","),
-        KeyPress("<", KittyModifiers.ALT),
+        KeyReport("\u0431", ALT | SHIFT, shifted="\u0411", base=","),
+        KeyPress("<", ALT),
     ),
     (KeyReport("c", CTRL, base="i"), None),
     (KeyReport("1", CTRL | SHIFT, shifted="!"), KeyPress("1", CTRL | SHIFT)),
@@ -1233,4 +1431,4 @@ def test_each_kind(parser):
             assert caught.value.taken
             with pytest.raises(MemoryError):
                 [parser.next_event(), parser.next_event()]
-        assert read(parser, []) == [event, KeyEvent(KeyCode.ESCAPE)]
+        assert read(parser, []) == [event, KeyReport(KeyCode.ESCAPE)]

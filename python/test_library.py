@@ -14,6 +14,8 @@ from hedrugal import (
     ColourName,
     ColourScheme,
     DeviceAttributes,
+    Dialect,
+    EraseByte,
     KeyboardEncoding,
     KeyCode,
     KeyEventKind,
@@ -22,8 +24,8 @@ from hedrugal import (
     ModeState,
     Modifiers,
     MouseButtons,
-    Protocol,
-    SideButtonKind,
+    MouseKind,
+    NewlineByte,
     Waiting,
     extended,
     replies,
@@ -42,9 +44,11 @@ from helpers import HERE, LIBRARY, constants, read, run_python
         (KittyKeyboardFlags, "HED_KITTY_FLAG_"),
         (KeyboardEncoding, "HED_ENCODING_"),
         (Waiting, "HED_WAITING_"),
-        (Protocol, "HED_PROTOCOL_"),
+        (Dialect, "HED_DIALECT_"),
+        (EraseByte, "HED_ERASE_"),
+        (NewlineByte, "HED_NEWLINE_"),
         (KeyEventKind, "HED_KEY_EVENT_KIND_"),
-        (SideButtonKind, "HED_SIDE_BUTTON_"),
+        (MouseKind, "HED_MOUSE_KIND_"),
         (DeviceAttributes, "HED_DEVICE_ATTRIBUTES_"),
         (ModeState, "HED_MODE_STATE_"),
         (ColourName, "HED_COLOUR_NAME_"),
@@ -62,7 +66,7 @@ def test_docstrings_of_members():
     modules = (hedrugal, extended, replies, sending, written)
     enums = {it for module in modules for it in vars(module).values() if inspect.isclass(it)}
     enums = [it for it in enums if issubclass(it, enum.Enum) and it.__members__]
-    assert len(enums) == 20
+    assert len(enums) == 22
     for it in enums:
         said = {member.__doc__ for member in it.__members__.values()}
         assert len(said) == len(it.__members__) and it.__doc__ not in said
@@ -87,7 +91,7 @@ def test_keys():
     } == keys_of_header()
 
 
-@pytest.mark.parametrize("module, least", [(hedrugal, 31), (extended, 20)])
+@pytest.mark.parametrize("module, least", [(hedrugal, 29), (extended, 20)])
 def test_other_numbers(module, least):
     """So have the modules' constants for the numbers that no enum has."""
     found = {
@@ -147,27 +151,28 @@ def test_version():
 
 def test_layouts_of_the_extended_parser():
     parser, report, event = extended._RawExtended, extended._RawReport, extended._RawExtendedEvent
-    assert [ctypes.sizeof(it) for it in (parser, report, event)] == [24, 16, 64]
+    assert [ctypes.sizeof(it) for it in (parser, report, event)] == [24, 16, 56]
     assert [parser.expiring.offset, parser.state.offset, parser.timing.offset] == [4, 8, 16]
     assert [report.key.offset, report.base.offset] == [2, 12]
     offsets = [
         event.row.offset,
         event.width.offset,
         event.report.offset,
-        event.input.offset,
+        event.mouse.offset,
         event.text_len.offset,
     ]
-    assert offsets == [2, 12, 16, 32, 56]
+    assert offsets == [2, 12, 16, 32, 48]
+    mouse = extended._RawMouse
+    assert [ctypes.sizeof(mouse), mouse.buttons.offset, mouse.modifiers.offset] == [10, 2, 4]
     reading = extended._RawReading
-    offsets = [ctypes.sizeof(reading), reading.x10_mouse.offset, reading.questions.offset]
-    assert offsets == [8, 4, 5]
-    raw = event(report=report(1, 2, 3, 4, 5, 6), input=hedrugal._RawEvent(1, 2, 3, 4, 5, 6, 7, 8))
+    offsets = [ctypes.sizeof(reading), reading.erase.offset, reading.newline.offset]
+    assert offsets + [reading.x10_mouse.offset, reading.questions.offset] == [16, 4, 8, 12, 13]
+    raw = event(report=report(1, 2, 3, 4, 5, 6))
     assert extended._report_fields_of(raw, extended._REPORT_AT) == (1, 2, 3, 4, 5, 6)
-    assert hedrugal._fields_of(raw, extended._INPUT_AT) == (1, 2, 3, 4, 5, 6, 7, 8)
 
 
-def test_layout_of_mouse_reports():
-    raw = sending._RawMouseReport
+def test_layout_of_mouse_reports_that_are_sent():
+    raw = sending._RawSentMouse
     assert (ctypes.sizeof(raw), raw.modifiers.offset, raw.button.offset) == (8, 4, 6)
 
 

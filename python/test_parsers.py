@@ -11,19 +11,21 @@ import pytest
 
 import hedrugal
 from hedrugal import (
+    ExtendedParser,
     Function,
     InputParser,
     KeyCode,
     KeyCodeEncodeModes,
-    KeyEvent,
     Modifiers,
     MouseButtons,
     MouseEvent,
+    MouseKind,
+    MouseReport,
     Paste,
     Policy,
     Waiting,
 )
-from helpers import EVENTS, STREAM, assert_rest, events_in_time
+from helpers import STREAM, assert_rest, events_in_time
 
 # What stays buffered, and its kind.
 RESTS = [
@@ -47,8 +49,8 @@ RESTS = [
 ]
 
 
-def test_keys(parser):
-    for data, key, modifiers in [
+def test_keys(parser, key):
+    for data, of, modifiers in [
         (b"\x1b[1;3A", KeyCode.UP_ARROW, Modifiers.ALT),
         (b"\x1b[15;6~", Function(5), Modifiers.SHIFT | Modifiers.CTRL),
         (b"\x03", "c", Modifiers.CTRL),
@@ -58,23 +60,34 @@ def test_keys(parser):
         (b"\xff", "\ufffd", Modifiers.NONE),
         (b"\x1b[201~", KeyCode.INTERNAL_PASTE_END, Modifiers.NONE),
     ]:
-        assert parser.parse(data) == [KeyEvent(key, modifiers)]
+        assert parser.parse(data) == [key(of, modifiers)]
     assert_rest(parser, 0, Waiting.NOTHING)
 
 
-def test_mouse_reports(parser):
-    left = MouseEvent(65535, 9, MouseButtons.LEFT, Modifiers.CTRL)
-    wheel = MouseEvent(42, 12, MouseButtons.HORZ_WHEEL | MouseButtons.WHEEL_POSITIVE)
-    assert parser.parse(b"\x1b[<16;65535;9M\x1b[<66;42;12M") == [left, wheel]
-    assert parser.parse(b"\x1b[<0;1;2m") == [MouseEvent(1, 2, MouseButtons.NONE, Modifiers.NONE)]
+def test_mouse_reports(make, parser):
+    left = MouseButtons.LEFT
+    wheel = MouseButtons.HORZ_WHEEL | MouseButtons.WHEEL_POSITIVE
+    none = Modifiers.NONE
+    events = [
+        MouseEvent(65535, 9, left, Modifiers.CTRL),
+        MouseEvent(42, 12, wheel),
+        MouseEvent(1, 2, MouseButtons.NONE, none),
+    ]
+    if make is ExtendedParser:
+        events = [
+            MouseReport(65535, 9, Modifiers.CTRL, left, MouseKind.PRESS, 1),
+            MouseReport(42, 12, none, wheel, MouseKind.WHEEL, 6),
+            MouseReport(1, 2, none, MouseButtons.NONE, MouseKind.RELEASE, 1),
+        ]
+    assert parser.parse(b"\x1b[<16;65535;9M\x1b[<66;42;12M\x1b[<0;1;2m") == events
 
 
-def test_pastes(parser):
+def test_pastes(parser, key):
     assert parser.parse(b"\x1b[200~ab") == []
     assert_rest(parser, 8, Waiting.PASTE)
     assert parser.flush() == []
     assert_rest(parser, 8, Waiting.PASTE)
-    assert parser.parse(b"c\xc3\xa9\xff\0\x1b[201~q") == [Paste("abcé\ufffd\0"), KeyEvent("q")]
+    assert parser.parse(b"c\xc3\xa9\xff\0\x1b[201~q") == [Paste("abcé\ufffd\0"), key("q")]
     assert parser.parse(b"\x1b[200~\x1b[201~") == [Paste("")]
     # The library keeps no text that was copied.
     assert parser.parse(b"\x1b[200~a\x1b[201~") == [Paste("a")]
@@ -87,17 +100,18 @@ def test_pastes_in_a_row(parser):
     assert parser.parse(data) == [Paste(text) for text in texts]
 
 
-def test_events_are_values(parser):
+def test_events_are_values(parser, key):
     first, second = parser.parse(b"qq")
     assert (first, hash(first)) == (second, hash(second))
     for event in [first, MouseEvent(1, 2), Paste("a"), Function(1), KeyCodeEncodeModes()]:
         assert pickle.loads(pickle.dumps(event)) == event
         with pytest.raises(AttributeError):
             event.key = event.x = event.text = event.number = event.encoding = 1
-    assert first != KeyEvent("q", Modifiers.ALT)
+    assert first != key("q", Modifiers.ALT)
 
 
-def test_reprs(parser):
+def test_reprs():
+    parser = InputParser()
     events = parser.parse(b"\x1b[15;6~\x1b[<0;3;4M\x1b[200~a\x1b[201~")
     assert [repr(event) for event in events] == [
         "KeyEvent(key=Function(number=5), modifiers=Modifiers.SHIFT|CTRL)",
@@ -114,42 +128,43 @@ def test_reprs(parser):
     assert repr(parser) == f"<{type(parser).__name__}, closed>"
 
 
-def test_one_by_one(parser):
+def test_one_by_one(parser, key):
     parser.feed(b"ab\x1b[")
-    assert parser.next_event() == KeyEvent("a")
+    assert parser.next_event() == key("a")
     assert parser.waiting_len == 3
-    assert parser.next_event(True) == KeyEvent("b")
+    assert parser.next_event(True) == key("b")
     assert parser.next_event() is None
-    assert parser.next_event(False) == KeyEvent("[", Modifiers.ALT)
+    assert parser.next_event(False) == key("[", Modifiers.ALT)
     assert parser.next_event(maybe_more=False) is None
 
 
-def test_iteration(parser):
+def test_iteration(parser, key):
     parser.feed(b"ab\x1b")
     events = iter(parser)
-    assert next(events) == KeyEvent("a")
+    assert next(events) == key("a")
     parser.feed(b"[A")
-    assert list(events) == [KeyEvent("b"), KeyEvent(KeyCode.UP_ARROW)]
+    assert list(events) == [key("b"), key(KeyCode.UP_ARROW)]
     assert list(parser) == []
 
 
-def test_cuts(parser):
+def test_cuts(parser, events_of_stream):
     """However a stream is cut, in two or into pieces of any length, its events are the same."""
-    assert parser.parse(STREAM, False) == EVENTS
+    assert parser.parse(STREAM, False) == events_of_stream
     for place in range(len(STREAM) + 1):
         assert (
-            parser.parse(STREAM[:place]) + parser.parse(STREAM[place:]) + parser.flush() == EVENTS
+            parser.parse(STREAM[:place]) + parser.parse(STREAM[place:]) + parser.flush()
+            == events_of_stream
         )
     for piece in range(1, len(STREAM)):
         events = []
         for at in range(0, len(STREAM), piece):
             parser.feed(STREAM[at : at + piece])
             events += parser
-        assert events + parser.flush() == EVENTS
+        assert events + parser.flush() == events_of_stream
     assert_rest(parser, 0, Waiting.NOTHING)
 
 
-def test_kinds_of_bytes(parser):
+def test_kinds_of_bytes(parser, events_of_stream):
     """Bytes are taken from each type that has them, and such a value may be changed at once."""
     gaps = bytes(2 * len(STREAM))
     array = bytearray(gaps)
@@ -163,7 +178,7 @@ def test_kinds_of_bytes(parser):
         memoryview(array)[::2],
         memoryview(bytearray(STREAM)).cast("b"),
     ]:
-        assert parser.parse(data, False) == EVENTS
+        assert parser.parse(data, False) == events_of_stream
     words = bytearray(b"\x1b[1;3Aab")
     assert parser.parse(memoryview(words).cast("I")) == parser.parse(words)
     parser.feed(words)
@@ -173,8 +188,8 @@ def test_kinds_of_bytes(parser):
         assert parser.parse(empty) == []
 
 
-def test_many_keys(parser):
-    pair = [KeyEvent(KeyCode.UP_ARROW), KeyEvent("q")]
+def test_many_keys(parser, key):
+    pair = [key(KeyCode.UP_ARROW), key("q")]
     assert parser.parse(b"\x1b[Aq" * 35000) == pair * 35000
     assert_rest(parser, 0, Waiting.NOTHING)
 
@@ -205,20 +220,20 @@ def feed_rest(parser, rest, kind):
     assert_rest(parser, len(rest), kind)
 
 
-def test_kinds_and_reset(parser):
+def test_kinds_and_reset(parser, key):
     for rest, kind in RESTS:
         feed_rest(parser, rest, kind)
         assert [parser.reset(), parser.reset()] == [len(rest), 0]
-        assert parser.parse(b"q") == [KeyEvent("q")]
+        assert parser.parse(b"q") == [key("q")]
         for at in range(len(rest)):
             assert parser.parse(rest[at : at + 1]) == []
         assert_rest(parser, len(rest), kind)
         parser.reset()
 
 
-def test_reset_forgets_events(parser):
+def test_reset_forgets_events(parser, key):
     parser.feed(b"ab\x1b[A\x1b[200~text\x1b[201~")
-    assert parser.next_event() == KeyEvent("a")
+    assert parser.next_event() == key("a")
     assert parser.reset() == 20
     assert parser.flush() == []
 
@@ -233,35 +248,35 @@ def test_flush(parser):
         parser.reset()
 
 
-def test_flush_escape(parser):
+def test_flush_escape(parser, key):
     """ESC is Escape after a pause, ESC ESC is it with Alt, and nothing else is flushed."""
     for rest, kind in RESTS:
         feed_rest(parser, rest, kind)
         wanted = {
-            b"\x1b": KeyEvent(KeyCode.ESCAPE),
-            b"\x1b\x1b": KeyEvent(KeyCode.ESCAPE, Modifiers.ALT),
+            b"\x1b": key(KeyCode.ESCAPE),
+            b"\x1b\x1b": key(KeyCode.ESCAPE, Modifiers.ALT),
         }.get(rest)
         assert parser.flush_escape() == wanted
         assert_rest(parser, *((0, Waiting.NOTHING) if wanted else (len(rest), kind)))
         parser.reset()
     assert parser.parse(b"\x1b[1;5") == []
     assert parser.flush_escape() is None
-    assert parser.parse(b"A") == [KeyEvent(KeyCode.UP_ARROW, Modifiers.CTRL)]
+    assert parser.parse(b"A") == [key(KeyCode.UP_ARROW, Modifiers.CTRL)]
     parser.feed(b"q\x1b")
     assert parser.flush_escape() is None
 
 
-def test_end_paste(parser):
+def test_end_paste(parser, key):
     for body, text in [
         (b"", ""),
         (b"ab\n", "ab\n"),
         (b"\xc3\xa9\xe2\x82", "é\ufffd"),
         (b"ab\x1b[201", "ab\x1b[201"),
     ]:
-        assert parser.parse(b"q\x1b[200~" + body) == [KeyEvent("q")]
+        assert parser.parse(b"q\x1b[200~" + body) == [key("q")]
         assert parser.end_paste() == Paste(text)
         assert_rest(parser, 0, Waiting.NOTHING)
-    assert parser.parse(b"c\x1b[201~") == [KeyEvent("c"), KeyEvent(KeyCode.INTERNAL_PASTE_END)]
+    assert parser.parse(b"c\x1b[201~") == [key("c"), key(KeyCode.INTERNAL_PASTE_END)]
 
 
 def test_end_paste_ends_open_pastes_alone(parser):
@@ -292,13 +307,13 @@ OPEN = [
 
 
 @pytest.mark.parametrize("text, limit, part, held", OPEN)
-def test_take_paste_and_skip_paste(parser, text, limit, part, held):
+def test_take_paste_and_skip_paste(parser, text, limit, part, held, key):
     assert parser.parse(b"\x1b[200~" + text) == []
     assert parser.take_paste(limit) == part
     left = held if part else text
     assert_rest(parser, 6 + len(left), Waiting.PASTE)
     assert parser.skip_paste() == len(left) - len(held)
-    assert parser.parse(b"\x1b[201~q") == [Paste(held.decode("utf-8", "replace")), KeyEvent("q")]
+    assert parser.parse(b"\x1b[201~q") == [Paste(held.decode("utf-8", "replace")), key("q")]
 
 
 def test_they_take_open_pastes_alone(parser):
@@ -317,7 +332,7 @@ def test_they_take_open_pastes_alone(parser):
         parser.take_paste(1.5)
 
 
-def test_parts_of_a_long_paste(parser):
+def test_parts_of_a_long_paste(parser, key):
     """None of it is a key, and the parts are its text."""
     body, parts = "é\x1b[201 rm -rf ~\rq" * 50000, []
     data = b"\x1b[200~" + body.encode()
@@ -326,7 +341,7 @@ def test_parts_of_a_long_paste(parser):
         parts.append(parser.take_paste(100000) or "")
         assert parser.waiting_len <= 100006
     assert sum(map(bool, parts)) > 5
-    assert parser.parse(b"\x1b[201~x") == [Paste(body[len("".join(parts)) :]), KeyEvent("x")]
+    assert parser.parse(b"\x1b[201~x") == [Paste(body[len("".join(parts)) :]), key("x")]
     assert body.startswith("".join(parts))
 
 
@@ -375,7 +390,7 @@ def test_limits(parser, policy):
         assert_rest(parser, 0, Waiting.NOTHING)
 
 
-def test_time_is_read(parser):
+def test_time_is_read(parser, key):
     """Without an argument it is that of time.monotonic()."""
     assert parser.timeout() is None
     before = time.monotonic()
@@ -384,23 +399,23 @@ def test_time_is_read(parser):
     while not (events := parser.expire()):
         assert 0 <= parser.timeout() <= 0.05
         time.sleep(0.001)
-    assert events == [KeyEvent(KeyCode.ESCAPE)] and time.monotonic() - before >= 0.049
+    assert events == [key(KeyCode.ESCAPE)] and time.monotonic() - before >= 0.049
 
 
-def test_a_clock_that_steps_back(parser):
+def test_a_clock_that_steps_back(parser, key):
     """The time that has passed counts, and no other."""
     assert [parser.timeout(1.0), *parser.parse(b"\x1b[1")] == [None]
     for now, left in [(6, 1), (6.4, 0.6), (2, 0.6), (2.1, 0.5), (0, 0.5), (0.499, 0.001)]:
         assert parser.timeout(now) == left
         assert parser.expire(now) == []
-    assert parser.expire(0.5) == [KeyEvent("[", Modifiers.ALT), KeyEvent("1")]
+    assert parser.expire(0.5) == [key("[", Modifiers.ALT), key("1")]
 
 
-def test_held_keys(parser):
+def test_held_keys(parser, key):
     """Bytes that bring no event leave a sequence its time."""
     reads = [(0, b"\x1b[<"), *((300 * count, b"0") for count in range(1, 6))]
-    flushed = [KeyEvent("[", Modifiers.ALT), *map(KeyEvent, "<000")]
-    zero = [KeyEvent("0")]
+    flushed = [key("[", Modifiers.ALT), *map(key, "<000")]
+    zero = [key("0")]
     assert [*events_in_time(parser, reads)] == [(1000, flushed), (1200, zero), (1500, zero)]
 
 
@@ -411,7 +426,7 @@ def test_a_start_with_pauses(parser):
         assert [*events_in_time(parser, reads)] == [(90000, [Paste("q")])]
 
 
-def test_a_long_paste_that_stalls(parser):
+def test_a_long_paste_that_stalls(parser, key):
     """It is ended with its text. Pauses that are shorter than its limit count for nothing."""
     body = "é\x1b[201 rm -rf ~\rq" * 70000
     data = b"\x1b[200~" + body.encode()
@@ -420,7 +435,7 @@ def test_a_long_paste_that_stalls(parser):
     reads = [(at, data[at : at + 65536]) for at in range(0, len(data), 65536)]
     reads = [(9999 * number, bytes) for number, (_, bytes) in enumerate(reads)]
     assert [*events_in_time(parser, reads)] == [(reads[-1][0] + 10000, [Paste(body)])]
-    assert parser.parse(b"q") == [KeyEvent("q")]
+    assert parser.parse(b"q") == [key("q")]
 
 
 def test_times_are_rounded(parser):
@@ -488,9 +503,9 @@ USES = [
 ]
 
 
-def test_use_after_close(make):
+def test_use_after_close(make, key):
     parser = make()
-    assert parser.parse(b"q\x1b[200~ab") == [KeyEvent("q")]
+    assert parser.parse(b"q\x1b[200~ab") == [key("q")]
     events = iter(parser)
     assert not parser.closed
     for _ in range(2):
@@ -503,10 +518,10 @@ def test_use_after_close(make):
         next(events)
 
 
-def test_with(make):
+def test_with(make, key):
     with pytest.raises(KeyError):
         with make() as parser:
-            assert parser.parse(b"q") == [KeyEvent("q")]
+            assert parser.parse(b"q") == [key("q")]
             raise KeyError
     assert parser.closed
 
@@ -520,10 +535,10 @@ def test_end_of_life(make):
     assert not raw.live
 
 
-def test_parsers_are_apart(make):
+def test_parsers_are_apart(make, key):
     one, other = make(), make()
     one.feed(b"\x1b[200~a")
-    assert other.parse(b"q") == [KeyEvent("q")]
+    assert other.parse(b"q") == [key("q")]
     other.close()
     assert one.parse(b"\x1b[201~") == [Paste("a")]
     one.close()

@@ -20,13 +20,12 @@ from hedrugal import (
     MouseEvent,
     Osc,
     Paste,
-    Protocol,
     StringCut,
     StringKind,
     StringPart,
     encode,
 )
-from helpers import events_in_time, read
+from helpers import events_in_time, events_of, read
 
 # The keys by the names that they have there: UpArrow is KeyCode.UP_ARROW.
 KEYS = {key.name.title().replace("_", ""): key for key in KeyCode}
@@ -65,11 +64,11 @@ def event_of(line):
     return {"osc": Osc, "dcs": Dcs, "apc": Apc}[kind](text)
 
 
-def answer_of(text):
-    """The events and the bytes that stay buffered."""
+def answer_of(text, make):
+    """The events of a parser of this type, and the bytes that stay buffered."""
     events, _, rest = text.partition("; ")
     lines = [] if text == "nothing" else [line for line in events.strip().split(",") if line]
-    return [event_of(line) for line in lines], bytes.fromhex(rest)
+    return events_of(make, [event_of(line) for line in lines]), bytes.fromhex(rest)
 
 
 def check_file(file, check_line, least=300):
@@ -85,6 +84,9 @@ def check_file(file, check_line, least=300):
 class Feeder:
     def __init__(self, parser):
         self.parser = parser
+
+    def answer_of(self, text):
+        return answer_of(text, type(self.parser))
 
     def check(self, pieces, more, wanted):
         """Feeds pieces, the last with this flag, and compares all that they give."""
@@ -121,7 +123,9 @@ class Feeder:
             fed += data
             events = self.parser.parse(data[:place])
             events += self.parser.parse(data[place:], step[0] == "+")
-            assert (events, fed[len(fed) - self.parser.waiting_len :]) == answer_of(answer), fed
+            assert (events, fed[len(fed) - self.parser.waiting_len :]) == self.answer_of(
+                answer
+            ), fed
         return len(steps)
 
     def check_cuts(self, line):
@@ -138,7 +142,7 @@ class Feeder:
     def check_rows(self, line):
         """`ROW,ROW,.. = NEXT = ALONE = AFTER ESC = BEFORE NEXT`."""
         rows, after, *answers = line.split(" = ")
-        answers = [None if answer == "-" else answer_of(answer) for answer in answers]
+        answers = [None if answer == "-" else self.answer_of(answer) for answer in answers]
         assert len(answers) == 3
         count = 0
         for row in map(bytes.fromhex, rows.split(",")):
@@ -157,7 +161,7 @@ class Feeder:
             [(int(time), read(it)) for time, it in (word.split(":", 1) for word in words)]
             for words, read in (
                 (asked.split(" "), bytes.fromhex),
-                (answers.split(" | "), lambda events: answer_of(events)[0]),
+                (answers.split(" | "), lambda events: self.answer_of(events)[0]),
             )
         )
         for step in (None, 0.001):
@@ -168,7 +172,7 @@ class Feeder:
     def check_line(self, line):
         asked, answers = line.split(" = ", 1)
         if asked.startswith("*"):
-            return self.check_text(bytes.fromhex(asked[1:]), answer_of(answers))
+            return self.check_text(bytes.fromhex(asked[1:]), self.answer_of(answers))
         if asked.startswith(("+", "-")):
             return self.check_steps(asked.split(" "), answers.split(" | "))
         if ":" in asked:
@@ -180,9 +184,8 @@ def test_times(parser):
     check_file("times.txt", Feeder(parser).check_line, least=10)
 
 
-@pytest.mark.parametrize("protocol", Protocol)
-def test_strings(protocol):
-    with ExtendedParser(protocol) as parser:
+def test_strings():
+    with ExtendedParser() as parser:
         check_file("strings.txt", Feeder(parser).check_cuts, least=20)
 
 

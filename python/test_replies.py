@@ -30,7 +30,6 @@ from hedrugal import (
     ModeState,
     Osc,
     Paste,
-    Protocol,
     StringCut,
     StringKind,
     StringPart,
@@ -67,13 +66,12 @@ def line(it):
     return f"clipboard {it.selection or '-'} {it.data.hex()}"
 
 
-@pytest.mark.parametrize("protocol", Protocol)
-def test_recorded(protocol):
+def test_recorded():
     """What terminals sent, and worked replies."""
     recorded = read("rust/tests/recorded/replies.txt").splitlines()
     lines = [it for it in recorded if not it.startswith("#")]
     assert len(lines) > 250
-    with ExtendedParser(protocol) as parser:
+    with ExtendedParser() as parser:
         for it in lines:
             sent, wanted = it.split(" =", 1)
             [event] = parser.parse(bytes.fromhex(sent), False)

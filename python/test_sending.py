@@ -12,12 +12,12 @@ from hedrugal import (
     MouseButton,
     MouseButtons,
     MouseEncoding,
-    MouseEvent,
+    MouseKind,
     MouseReport,
     MouseTracking,
     Paste,
-    Protocol,
     Reading,
+    SentMouse,
     encode_paste,
 )
 
@@ -38,39 +38,39 @@ PASTES = [
 # Reports, what a program asked for, what is sent, and the event that it is read as.
 REPORTS = [
     (
-        MouseReport(1, 1, MouseButton.BUTTON1_RELEASE, Modifiers.CTRL),
+        SentMouse(1, 1, MouseButton.BUTTON1_RELEASE, Modifiers.CTRL),
         MouseTracking.NORMAL,
         MouseEncoding.DEFAULT,
         b"\x1b[M3!!",
-        [MouseEvent(1, 1, MouseButtons.NONE, Modifiers.CTRL)],
+        [MouseReport(1, 1, Modifiers.CTRL, MouseButtons.NONE, MouseKind.RELEASE)],
     ),
     (
-        MouseReport(3, 4, MouseButton.NONE, Modifiers.ALT),
+        SentMouse(3, 4, MouseButton.NONE, Modifiers.ALT),
         MouseTracking.ANY,
         MouseEncoding.URXVT,
         b"\x1b[75;3;4M",
-        [MouseEvent(3, 4, MouseButtons.NONE, Modifiers.ALT)],
+        [MouseReport(3, 4, Modifiers.ALT, MouseButtons.NONE, MouseKind.MOVE)],
     ),
     (
-        MouseReport(80, 24, MouseButton.BUTTON2_DRAG, Modifiers.SHIFT),
+        SentMouse(80, 24, MouseButton.BUTTON2_DRAG, Modifiers.SHIFT),
         MouseTracking.BUTTON,
         MouseEncoding.SGR,
         b"\x1b[<37;80;24M",
-        [MouseEvent(80, 24, MouseButtons.MIDDLE, Modifiers.SHIFT)],
+        [MouseReport(80, 24, Modifiers.SHIFT, MouseButtons.MIDDLE, MouseKind.DRAG, 2)],
     ),
     (
-        MouseReport(80, 24, MouseButton.BUTTON2_DRAG),
+        SentMouse(80, 24, MouseButton.BUTTON2_DRAG),
         MouseTracking.NORMAL,
         MouseEncoding.SGR,
         b"",
         [],
     ),
     (
-        MouseReport(223, 95, MouseButton.BUTTON1_PRESS),
+        SentMouse(223, 95, MouseButton.BUTTON1_PRESS),
         MouseTracking.X10,
         MouseEncoding.DEFAULT,
         b"\x1b[M \xff\x7f",
-        [MouseEvent(223, 95, MouseButtons.LEFT, Modifiers.NONE)],
+        [MouseReport(223, 95, Modifiers.NONE, MouseButtons.LEFT, MouseKind.PRESS, 1)],
     ),
 ]
 
@@ -89,21 +89,21 @@ def test_pastes_are_made_safe_and_read_back(text, safe):
 def test_mouse_reports_are_read_back(report, tracking, encoding, sent, events):
     assert report.encode(tracking, encoding) == sent
     with ExtendedParser() as parser:
-        parser.reading = Reading(Protocol.LEGACY, x10_mouse=True)
+        parser.reading = Reading(x10_mouse=True)
         assert (parser.parse(sent), parser.waiting_len) == (events, 0)
 
 
 def test_what_is_no_report():
-    far = MouseReport(1, 224, MouseButton.BUTTON1_PRESS)
+    far = SentMouse(1, 224, MouseButton.BUTTON1_PRESS)
     with pytest.raises(EncodeError, match="too far"):
         far.encode(MouseTracking.ANY, MouseEncoding.DEFAULT)
     for report in (
-        MouseReport(65536, 1, MouseButton.NONE),
-        MouseReport(1, -1, MouseButton.NONE),
+        SentMouse(65536, 1, MouseButton.NONE),
+        SentMouse(1, -1, MouseButton.NONE),
     ):
         with pytest.raises(EncodeError):
             report.encode(MouseTracking.ANY, MouseEncoding.SGR)
-    for report in (MouseReport(1, 1, 0), MouseReport(1, 1, MouseButton.NONE, 2)):
+    for report in (SentMouse(1, 1, 0), SentMouse(1, 1, MouseButton.NONE, 2)):
         with pytest.raises(TypeError):
             report.encode(MouseTracking.ANY, MouseEncoding.SGR)
     with pytest.raises(TypeError):
@@ -116,4 +116,4 @@ def test_memory_is_refused():
             encode_paste(b"a", True)
     with mock.patch.object(hedrugal._library, "hed_encode_mouse", lambda *_: 2):
         with pytest.raises(MemoryError):
-            MouseReport(1, 1, MouseButton.NONE).encode(MouseTracking.ANY, MouseEncoding.SGR)
+            SentMouse(1, 1, MouseButton.NONE).encode(MouseTracking.ANY, MouseEncoding.SGR)

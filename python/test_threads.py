@@ -9,8 +9,8 @@ import threading
 import pytest
 
 import hedrugal
-from hedrugal import Exact, InputParser, KeyEvent, KeyMap, Waiting
-from helpers import EVENTS, SECONDS, STREAM, assert_prints
+from hedrugal import Exact, InputParser, KeyMap, Waiting
+from helpers import SECONDS, STREAM, assert_prints
 
 THREADS = 4
 
@@ -42,13 +42,13 @@ def run_all(work):
     return results
 
 
-def test_parse(parser, often):
+def test_parse(parser, often, events_of_stream):
     """A call has the parser for itself: each gets the events of its own bytes."""
 
     def work():
         return [parser.parse(STREAM, False) for _ in range(100)]
 
-    assert run_all(work) == [[EVENTS] * 100] * THREADS
+    assert run_all(work) == [[events_of_stream] * 100] * THREADS
     assert parser.waiting is Waiting.NOTHING
 
 
@@ -80,12 +80,12 @@ def test_entries(often):
         assert next(entries, None) is None
 
 
-def test_an_iterator_stays_at_its_end(parser):
+def test_an_iterator_stays_at_its_end(parser, key):
     events = iter(parser)
     assert next(events, None) is None
     parser.feed(b"q")
     assert [*events] == []
-    assert [*parser] == [KeyEvent("q")]
+    assert [*parser] == [key("q")]
 
 
 def test_map(often):
@@ -102,7 +102,7 @@ def test_map(often):
         assert len(keys) == len(keys._entries) == 500
 
 
-def test_close_in_any_thread(make, often):
+def test_close_in_any_thread(make, often, events_of_stream):
     """A call ends as if it came before the close or after it."""
     for _ in range(20):
         parser, keys, begun = make(), KeyMap(), threading.Barrier(THREADS)
@@ -111,7 +111,7 @@ def test_close_in_any_thread(make, often):
             begun.wait(SECONDS)
             with contextlib.suppress(ValueError):
                 while True:
-                    assert parser.parse(STREAM, False) == EVENTS
+                    assert parser.parse(STREAM, False) == events_of_stream
                     keys.insert(STREAM, 1)
                     assert keys.lookup(STREAM) == Exact(len(STREAM), 1)
                     if threading.current_thread() is closer:
@@ -141,7 +141,7 @@ def in_the_middle(parser, does):
     parser._front_event = front_event
 
 
-def test_close_waits(parser):
+def test_close_waits(parser, events_of_stream):
     inside, goes_on, closed = (threading.Event() for _ in range(3))
     in_the_middle(parser, lambda: (inside.set(), goes_on.wait(SECONDS)))
     events = []
@@ -154,10 +154,10 @@ def test_close_waits(parser):
     goes_on.set()
     for it in (one, other):
         it.join(SECONDS)
-    assert (events, parser.closed) == (EVENTS, True)
+    assert (events, parser.closed) == (events_of_stream, True)
 
 
-def test_signals(parser):
+def test_signals(parser, key, events_of_stream):
     """A handler may ask and feed. What would wait for its own thread is refused."""
     refused = [
         lambda: parser.parse(b""),
@@ -186,9 +186,12 @@ def test_signals(parser):
     before = signal.signal(signal.SIGUSR1, handle)
     try:
         in_the_middle(parser, lambda: signal.raise_signal(signal.SIGUSR1))
-        assert parser.parse(STREAM, False) == [*EVENTS[:-1], KeyEvent("z", hedrugal.Modifiers.ALT)]
+        assert parser.parse(STREAM, False) == [
+            *events_of_stream[:-1],
+            key("z", hedrugal.Modifiers.ALT),
+        ]
         assert seen["refused"] == len(refused) and len(seen) == 2
-        assert parser.parse(STREAM, False) == EVENTS
+        assert parser.parse(STREAM, False) == events_of_stream
     finally:
         signal.signal(signal.SIGUSR1, before)
 

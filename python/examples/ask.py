@@ -18,9 +18,8 @@ from hedrugal import (
     CursorPosition,
     ExtendedEvent,
     KeyboardFlags,
-    KeyEvent,
     KeyReport,
-    MouseEvent,
+    MouseReport,
     Osc,
     Paste,
 )
@@ -52,7 +51,7 @@ def described(event: ExtendedEvent) -> Optional[str]:
 def typed(terminal: Terminal) -> Iterator[TerminalEvent]:
     """Returns what was typed or pasted meanwhile."""
     while event := terminal.read(0):
-        if isinstance(event, (KeyEvent, KeyReport, MouseEvent, Paste)):
+        if isinstance(event, (KeyReport, MouseReport, Paste)):
             yield event
 
 

@@ -29,7 +29,6 @@ from hedrugal import (
     Paste,
     Timer,
     Unbound,
-    key_report,
     typed_text,
 )
 from hedrugal.terminal import Terminal, TerminalEvent
@@ -124,9 +123,8 @@ class Edit:
     def handle(self, event: TerminalEvent) -> None:
         if isinstance(event, Paste):
             self.insert_text(event.text)
-        report = key_report(event)
-        if report:
-            self.handle_key(report)
+        elif isinstance(event, KeyReport):
+            self.handle_key(event)
 
     def handle_key(self, report: KeyReport) -> None:
         press = KeyPress.of_report(report)

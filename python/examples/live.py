@@ -10,14 +10,15 @@ whenever a signal ends or stops the program."""
 import os
 import signal
 import sys
-from typing import Optional
+from typing import Optional, Union
 
 from hedrugal import (
     Function,
     KeyCode,
-    KeyEvent,
+    KeyReport,
+    KittyModifiers,
     Modifiers,
-    MouseEvent,
+    MouseReport,
     MouseTracking,
     Paste,
     Resize,
@@ -27,9 +28,9 @@ from hedrugal.terminal import PastePart, Terminal, TerminalEvent
 
 def described(event: TerminalEvent) -> Optional[str]:
     """Returns the line of an event, None if it has none."""
-    if isinstance(event, KeyEvent):
+    if isinstance(event, KeyReport):
         return f"{key_name(event)}{held(event.modifiers)}"
-    if isinstance(event, MouseEvent):
+    if isinstance(event, MouseReport):
         place = f"mouse at {event.x}, {event.y}, buttons {event.buttons.value}"
         return f"{place}{held(event.modifiers)}"
     if isinstance(event, Paste):
@@ -40,17 +41,19 @@ def described(event: TerminalEvent) -> Optional[str]:
     return None
 
 
-def key_name(event: KeyEvent) -> str:
+def key_name(event: KeyReport) -> str:
     if isinstance(event.key, KeyCode):
         return event.key.name.title().replace("_", "")
     if isinstance(event.key, Function):
         return f"Function {event.key.number}"
+    if isinstance(event.key, int):
+        return f"Functional {event.key}"
     return f"Char U+{ord(event.key):04X}"
 
 
-def held(modifiers: Modifiers) -> str:
-    names = (Modifiers.SHIFT, Modifiers.ALT, Modifiers.CTRL)
-    return "".join(f" {str(it.name).lower()}" for it in names if it & modifiers)
+def held(modifiers: Union[Modifiers, KittyModifiers]) -> str:
+    names = (str(it.name) for it in type(modifiers) if it.value & modifiers.value)
+    return "".join(f" {it.lower()}" for it in names if it in ("SHIFT", "ALT", "CTRL"))
 
 
 def main() -> int:
@@ -68,7 +71,7 @@ def main() -> int:
             line = described(event)
             if line:
                 print(line, flush=True)
-            if event == KeyEvent("q"):
+            if event == KeyReport("q"):
                 break
     return 0
 

@@ -75,8 +75,10 @@ __all__ = [
     "Dcs",
     "DeviceAttributes",
     "DeviceAttributesReply",
+    "Dialect",
     "EncodeError",
     "Entry",
+    "EraseByte",
     "Event",
     "Exact",
     "ExtendedEvent",
@@ -108,21 +110,21 @@ __all__ = [
     "MouseButtons",
     "MouseEncoding",
     "MouseEvent",
+    "MouseKind",
     "MouseReport",
     "MouseTracking",
     "NeedData",
+    "NewlineByte",
     "Nothing",
     "Osc",
     "ParseError",
     "Paste",
     "Policy",
-    "Protocol",
     "Reading",
     "Reply",
     "ReportedKey",
     "Resize",
-    "SideButton",
-    "SideButtonKind",
+    "SentMouse",
     "StringCut",
     "StringKind",
     "StringPart",
@@ -137,7 +139,6 @@ __all__ = [
     "encode_device_attributes",
     "encode_event",
     "encode_paste",
-    "key_report",
     "reply",
     "typed_text",
 ]
@@ -682,7 +683,6 @@ _KIND_OTHER = 0
 _KIND_KEY = 1
 _KIND_MOUSE = 2
 _KIND_PASTE = 3
-_KIND_REPORT = 4
 _KIND_FOCUS_GAINED = 5
 _KIND_FOCUS_LOST = 6
 _KIND_CURSOR_POSITION = 7
@@ -695,7 +695,6 @@ _KIND_APC = 13
 _KIND_PASTE_PART = 14
 _KIND_STRING_PART = 15
 _KIND_STRING_CUT = 16
-_KIND_SIDE_BUTTON = 17
 # numbers.txt: end
 # numbers.txt: key private
 _KEY_CHAR = 1
@@ -969,9 +968,9 @@ def _key_event(number: int, detail: int, modifiers: int) -> KeyEvent:
     return KeyEvent(_key(number, detail), _modifiers(modifiers))
 
 
-def _key_or_mouse(raw: Any, offset: int) -> Union[KeyEvent, MouseEvent, None]:
-    """The key or mouse event that has its struct at this place, if it is one."""
-    kind, buttons, modifiers, key, x, y, detail, _ = _fields_of(raw, offset)
+def _key_or_mouse(raw: _RawEvent) -> Union[KeyEvent, MouseEvent, None]:
+    """The key or mouse event of a struct, if it is one."""
+    kind, buttons, modifiers, key, x, y, detail, _ = _fields_of(raw)
     if kind == _KIND_KEY:
         return _key_event(key, detail, modifiers)
     if kind == _KIND_MOUSE:
@@ -1166,7 +1165,7 @@ class _EventParser(_Closable, Generic[_AnyEvent]):
         buffered."""
         return self.parse(b"", False)
 
-    def flush_escape(self) -> Optional[KeyEvent]:
+    def flush_escape(self) -> Optional[_AnyEvent]:
         """Returns the Escape key if ESC alone is buffered, with ALT if ESC ESC is, and consumes
         these bytes. Returns None otherwise.
 
@@ -1181,7 +1180,7 @@ class _EventParser(_Closable, Generic[_AnyEvent]):
             if not _is_event(self._calls.flush_escape(self._raw, self._front)):
                 return None
             self._has_front = True
-            return cast(KeyEvent, self._take(True))
+            return self._take(True)
 
     @property
     def waiting(self) -> Waiting:
@@ -1463,10 +1462,9 @@ class _EventParser(_Closable, Generic[_AnyEvent]):
         self._calls.drop_text(self._raw)
         return True
 
-    def _paste(self, event: _RawEvent) -> Paste:
-        if event.kind != _KIND_PASTE:
-            _fault()
-        return Paste(str(self._part, "utf-8") + self._text(event.paste_len).decode("utf-8"))
+    def _paste(self, length: int) -> Paste:
+        """The paste at the front, whose text has so many bytes more."""
+        return Paste(str(self._part, "utf-8") + self._text(length).decode("utf-8"))
 
     def _text(self, length: int) -> bytearray:
         """The text of the event at the front, which the library keeps until `_leave_front`."""
@@ -1529,7 +1527,10 @@ class InputParser(_EventParser[Event]):
         super().__init__(_RawParser(), _RawEvent(), init, _library.hed_parser_free)
 
     def _front_event(self) -> Event:
-        return _key_or_mouse(self._front, 0) or self._paste(self._front)
+        event = _key_or_mouse(self._front)
+        if event is None and self._front.kind != _KIND_PASTE:
+            _fault()
+        return event or self._paste(self._front.paste_len)
 
     def entry(self, place: int) -> Optional[Entry]:
         r"""Returns the entry of the sequence table at a place, in the order of the entries' bytes.
@@ -1931,6 +1932,8 @@ from .extended import (  # noqa: E402
     Csi,
     CursorPosition,
     Dcs,
+    Dialect,
+    EraseByte,
     ExtendedEvent,
     ExtendedParser,
     FocusGained,
@@ -1943,18 +1946,17 @@ from .extended import (  # noqa: E402
     KeyReport,
     KittyModifiers,
     Matcher,
+    MouseKind,
+    MouseReport,
+    NewlineByte,
     Osc,
-    Protocol,
     Reading,
     ReportedKey,
     Resize,
-    SideButton,
-    SideButtonKind,
     StringCut,
     StringKind,
     StringPart,
     Unbound,
-    key_report,
     typed_text,
 )
 from .replies import (  # noqa: E402
@@ -1976,8 +1978,8 @@ from .replies import (  # noqa: E402
 from .sending import (  # noqa: E402
     MouseButton,
     MouseEncoding,
-    MouseReport,
     MouseTracking,
+    SentMouse,
     encode_paste,
 )
 from .written import (  # noqa: E402

@@ -1,10 +1,10 @@
-r"""What terminals send beyond the sequence table, as events: replies to questions, focus reports,
-other mouse reports, control sequences and strings, and Kitty's keyboard protocol.
+r"""All that terminals send, as events: keys and the mouse in any mode, pasted texts,
+replies to questions, focus reports, control sequences and strings.
 
     >>> with ExtendedParser() as parser:
     ...     for event in parser.parse(b"q\x1b[24;80R\x1b]11;rgb:0/0/0\x07"):
     ...         print(event)
-    KeyEvent(key='q', modifiers=Modifiers.NONE)
+    KeyReport(key='q')
     CursorPosition(row=24, column=80)
     Osc(data=b'11;rgb:0/0/0')
 
@@ -16,7 +16,7 @@ import ctypes
 import functools
 import operator
 import struct
-from dataclasses import dataclass
+from dataclasses import dataclass, fields
 from typing import (
     Any,
     Callable,
@@ -29,6 +29,7 @@ from typing import (
     MutableMapping,
     Optional,
     Tuple,
+    Type,
     Union,
     cast,
 )
@@ -53,20 +54,20 @@ from . import (
     _KIND_MOUSE,
     _KIND_OSC,
     _KIND_PASTE,
-    _KIND_REPORT,
     _KIND_RESIZE,
-    _KIND_SIDE_BUTTON,
     _KIND_STRING_CUT,
     _KIND_STRING_PART,
     _NEXT_EVENT,
     EncodeError,
-    Event,
     Key,
     KeyEvent,
     KittyKeyboardFlags,
     Modifiers,
+    MouseButtons,
+    Paste,
     Value,
     _borrowed,
+    _buttons,
     _Closable,
     _closed,
     _declare,
@@ -75,8 +76,8 @@ from . import (
     _Flags,
     _is_event,
     _key,
-    _key_or_mouse,
     _library,
+    _modifiers,
     _Named,
     _number,
     _number_and_detail,
@@ -137,44 +138,55 @@ _OUTCOME_NO_BINDINGS = 4
 # numbers.txt: end
 
 
-class Protocol(_Named):
-    """The keyboard protocol that the program turned on. It tells how an ExtendedParser reads the
-    entries of the sequence table."""
+class Dialect(_Named):
+    """By which grammar an ExtendedParser reads."""
 
-    # numbers.txt: protocol member
-    LEGACY = _number(
-        0,
-        "For programs that leave Kitty's keyboard protocol off: each entry keeps its key.",
-    )
-    KITTY = _number(
+    # numbers.txt: dialect member
+    EXTENDED = _number(0, "What terminals send in any mode. For every program.")
+    TERMWIZ = _number(
         1,
-        "For programs that turn it on: an entry that reports a key or the cursor's position is "
-        "read as that report.",
+        "What termwiz reads, and nothing else: the other fields of a reading say nothing then.",
+    )
+    # numbers.txt: end
+
+
+class EraseByte(_Named):
+    """Which byte the Backspace key sends, of 8 and 127. The other one is typed with Ctrl. A program
+    takes it from its terminal's settings, the character VERASE of termios."""
+
+    # numbers.txt: erase member
+    DELETE = _number(0, "127, as most terminals send it. Byte 8 is Ctrl-H.")
+    BACKSPACE = _number(1, "8. Byte 127 is Ctrl-Backspace.")
+    # numbers.txt: end
+
+
+class NewlineByte(_Named):
+    """What byte 10 is. A program takes it from its terminal's settings: whether they turn CR into
+    byte 10, the flag ICRNL of termios. In raw mode they don't."""
+
+    # numbers.txt: newline member
+    CTRL_J = _number(0, "Ctrl-J. The Enter key sends the byte 13.")
+    ENTER = _number(
+        1,
+        "The Enter key: the terminal's settings turn CR into it (ICRNL), or the input is no "
+        "terminal.",
     )
     # numbers.txt: end
 
 
 @dataclass(frozen=True)
 class Reading:
-    """How an ExtendedParser reads: by which protocol, whether X10 mouse reports are among what it
-    reads, and how many questions for the cursor's position are open. See
-    `ExtendedParser.reading`."""
+    """How an ExtendedParser reads: by which grammar, whether X10 mouse reports are among what it
+    reads, how many questions for the cursor's position are open, and what the terminal's settings
+    say. See `ExtendedParser.reading`."""
 
-    protocol: Protocol
+    dialect: Dialect = Dialect.EXTENDED
     # ESC [M and three bytes are a report. Without it ESC [M is a Csi. A program that asks for the
     # mode 1006 leaves it off.
     x10_mouse: bool = False
     questions: int = 0  # From 0 to 255.
-
-
-class SideButtonKind(_Named):
-    """What happened to a side button of the mouse."""
-
-    # numbers.txt: side_button member
-    PRESS = _number(1, "It was pressed.")
-    RELEASE = _number(2, "It was released. Only SGR reports (mode 1006) tell which button was.")
-    DRAG = _number(3, "The mouse was moved while it was down.")
-    # numbers.txt: end
+    erase: EraseByte = EraseByte.DELETE
+    newline: NewlineByte = NewlineByte.CTRL_J
 
 
 class KeyEventKind(_Named):
@@ -211,7 +223,7 @@ ReportedKey = Union[Key, int]
 
 @dataclass(frozen=True)
 class KeyReport:
-    """A key was pressed, held down or released.
+    """A key was pressed, held down or released. It is the event of every key, typed or reported.
 
     shifted is the character that the key types with Shift, base the one that the key at this place
     types on the standard layout (PC-101). Each is None if the terminal didn't report it. text is
@@ -223,6 +235,15 @@ class KeyReport:
     shifted: Optional[str] = None
     base: Optional[str] = None
     text: str = ""
+
+    def __repr__(self) -> str:
+        """Says the key, and of the rest what differs from a press with nothing else told."""
+        told = [f"key={self.key!r}"]
+        for it in fields(self)[1:]:
+            value = getattr(self, it.name)
+            if value != it.default:
+                told.append(f"{it.name}={value!r}")
+        return f"KeyReport({', '.join(told)})"
 
     def encode(self, flags: KittyKeyboardFlags) -> bytes:
         r"""Returns the bytes, in UTF-8, that a terminal sends for the key, if the program asked for
@@ -271,7 +292,7 @@ class KeyPress:
     r"""A key that was pressed, and the modifiers held with it: one name for the key, whatever mode
     the terminal is in and whichever protocol it speaks. A program looks up by it what a key does.
 
-        >>> with ExtendedParser(Protocol.KITTY) as parser:
+        >>> with ExtendedParser() as parser:
         ...     events = parser.parse(b"\x1b[65;5u\x1b[97;70u\x1bOA")
         >>> for event in events:
         ...     press = KeyPress.of_event(event)
@@ -283,9 +304,11 @@ class KeyPress:
     It is printed by its name, which `Chord.read` reads.
 
     Letters, digits and signs are the characters that they type: Shift with a is A. Where CTRL,
-    SUPER, HYPER or META is held too, a letter that has a capital keeps SHIFT. So do digits and
-    signs, where the terminal doesn't tell what they type with Shift. The keypad and the arrows in
-    application mode are the keys of the main block, and the locks are never held.
+    SUPER, HYPER or META is held too, a letter that has a capital keeps SHIFT. So does a digit, or
+    any other character, of which the terminal doesn't tell what it types with Shift. A sign such as
+    ! never has it. A control character is its key, or a character with CTRL: U+0008 is ctrl+h, and
+    U+000A ctrl+j. U+007F is ctrl+backspace. The keypad and the arrows in application mode are the
+    keys of the main block, and the locks are never held.
 
     A program that turns Kitty's keyboard protocol on should ask for DISAMBIGUATE_ESCAPE_CODES and
     REPORT_ALTERNATE_KEYS, and with REPORT_ALL_KEYS_AS_ESCAPE_CODES for REPORT_ASSOCIATED_TEXT too.
@@ -296,9 +319,9 @@ class KeyPress:
 
     @staticmethod
     def of_event(event: object) -> Optional[KeyPress]:
-        """Returns the press of a KeyEvent or a KeyReport, and None for any other event. A modifier
-        or a lock by itself has none. Of the modifiers of a KeyEvent SHIFT, ALT, CTRL and SUPER
-        count: not LEADER, nor which of two keys is held."""
+        """Returns the press of a KeyReport, or of an InputParser's KeyEvent, and None for any other
+        event. A modifier or a lock by itself has none. Of the modifiers of a KeyEvent SHIFT, ALT,
+        CTRL and SUPER count: not LEADER, nor which of two keys is held."""
         if isinstance(event, KeyReport):
             return KeyPress.of_report(event)
         if not isinstance(event, KeyEvent):
@@ -749,16 +772,36 @@ def typed_text(report: KeyReport) -> str:
     return report.text if types and not has_control else ""
 
 
-@dataclass(frozen=True)
-class SideButton:
-    """One of the mouse's buttons 8 to 11 was pressed, released or dragged: 8 leads back and 9 leads
-    on. The place is as in a MouseEvent."""
+class MouseKind(_Named):
+    """What happened to the mouse."""
 
-    number: int
-    kind: SideButtonKind
+    # numbers.txt: mouse_kind member
+    PRESS = _number(1, "A button was pressed.")
+    RELEASE = _number(2, "A button was released. Only SGR reports (mode 1006) tell which.")
+    DRAG = _number(3, "The mouse was moved while a button was down.")
+    MOVE = _number(4, "The mouse was moved, and no button is down.")
+    WHEEL = _number(5, "A wheel was turned.")
+    # numbers.txt: end
+
+
+@dataclass(frozen=True)
+class MouseReport:
+    """The mouse was moved, one of its buttons was pressed or released, or a wheel was turned.
+
+    x is the column and y the row, as the terminal sent them: the cell at the top left is 1, 1.
+    Of the modifiers SHIFT, ALT and CTRL are reported. `buttons` is the button that is down, or the
+    wheel that was turned. It is empty after a release, for a move, and for a side button.
+
+    `button` is the number of the button that the report names, or None. 1 to 3 are the left, the
+    middle and the right button, 4 to 7 the wheel up, down, left and right, and 8 to 11 the side
+    buttons, of which 8 leads back and 9 leads on."""
+
     x: int
     y: int
-    modifiers: Modifiers = Modifiers.NONE
+    modifiers: Modifiers
+    buttons: MouseButtons
+    kind: MouseKind
+    button: Optional[int] = None
 
 
 @dataclass(frozen=True)
@@ -861,8 +904,9 @@ class StringCut:
 
 
 ExtendedEvent = Union[
-    Event,
     KeyReport,
+    MouseReport,
+    Paste,
     FocusGained,
     FocusLost,
     CursorPosition,
@@ -874,7 +918,6 @@ ExtendedEvent = Union[
     Apc,
     StringPart,
     StringCut,
-    SideButton,
 ]
 
 
@@ -887,7 +930,9 @@ class _RawExtended(ctypes.Structure):
 
 class _RawReading(ctypes.Structure):
     _fields_ = [
-        ("protocol", ctypes.c_uint32),
+        ("dialect", ctypes.c_uint32),
+        ("erase", ctypes.c_uint32),
+        ("newline", ctypes.c_uint32),
         ("x10_mouse", ctypes.c_bool),
         ("questions", ctypes.c_uint8),
     ]
@@ -901,6 +946,17 @@ class _RawReport(ctypes.Structure):
         ("detail", ctypes.c_uint32),
         ("shifted", ctypes.c_uint32),
         ("base", ctypes.c_uint32),
+    ]
+
+
+class _RawMouse(ctypes.Structure):
+    _fields_ = [
+        ("kind", ctypes.c_uint8),
+        ("button", ctypes.c_uint8),
+        ("buttons", ctypes.c_uint8),
+        ("modifiers", ctypes.c_uint16),
+        ("x", ctypes.c_uint16),
+        ("y", ctypes.c_uint16),
     ]
 
 
@@ -935,13 +991,13 @@ class _RawExtendedEvent(ctypes.Structure):
         ("height", ctypes.c_uint16),
         ("width", ctypes.c_uint16),
         ("report", _RawReport),
-        ("input", _RawEvent),
+        ("mouse", _RawMouse),
         ("text_len", ctypes.c_size_t),
     ]
 
 
-# Where these structs lie in a _RawExtendedEvent, and the fields of the first, all at once.
-_REPORT_AT, _INPUT_AT = _RawExtendedEvent.report.offset, _RawExtendedEvent.input.offset
+# Where a report lies in a _RawExtendedEvent, and its fields, all at once.
+_REPORT_AT = _RawExtendedEvent.report.offset
 _report_fields_of = struct.Struct("@BBHIII").unpack_from
 
 # What stands for a code point that the terminal did not report, and for no text of a press.
@@ -1054,9 +1110,11 @@ _of_string: Dict[int, Callable[[StringKind, bytes], ExtendedEvent]] = {
     _KIND_STRING_PART: StringPart,
     _KIND_STRING_CUT: StringCut,
 }
-_protocols = {protocol.value: protocol for protocol in Protocol}
+_dialects = {dialect.value: dialect for dialect in Dialect}
+_erases = {byte.value: byte for byte in EraseByte}
+_newlines = {byte.value: byte for byte in NewlineByte}
 _kinds = {kind.value: kind for kind in KeyEventKind}
-_side_button_kinds = {kind.value: kind for kind in SideButtonKind}
+_mouse_kinds = {kind.value: kind for kind in MouseKind}
 _string_kinds = {kind.value: kind for kind in StringKind}
 _name_error_kinds = {kind.value: kind for kind in KeyNameErrorKind}
 # What is wrong, in words.
@@ -1104,6 +1162,18 @@ def _raw_report(report: KeyReport) -> _RawReport:
     return _RawReport(
         kind.value, modifiers.value, number, detail, _code(report.shifted), _code(report.base)
     )
+
+
+def _raw_mouse(report: MouseReport) -> _RawMouse:
+    """The numbers of a mouse report."""
+    if not isinstance(report.modifiers, Modifiers) or not isinstance(report.buttons, MouseButtons):
+        raise TypeError("a MouseReport has Modifiers and MouseButtons")
+    if not isinstance(report.kind, MouseKind):
+        raise TypeError("a MouseReport has a MouseKind")
+    x, y = (_whole(place, 0, 65535) for place in (report.x, report.y))
+    # The number 0 says that there is none, and names no button.
+    button = 0 if report.button is None else _whole(report.button, 1, 255)
+    return _RawMouse(report.kind.value, button, report.buttons.value, report.modifiers.value, x, y)
 
 
 def _written(call: Callable[[_RawPress], bool]) -> Optional[KeyPress]:
@@ -1186,46 +1256,54 @@ def _key_report(
     )
 
 
-def _side_button(kind: int, event: _RawEvent) -> SideButton:
-    of = _side_button_kinds.get(kind) or _fault()
-    return SideButton(event.detail, of, event.x, event.y, Modifiers(event.modifiers))
+def _mouse_report(raw: _RawMouse) -> MouseReport:
+    return MouseReport(
+        raw.x,
+        raw.y,
+        _modifiers(raw.modifiers),
+        _buttons(raw.buttons),
+        _mouse_kinds.get(raw.kind) or _fault(),
+        raw.button or None,
+    )
 
 
 def _keyboard_flags(bits: int) -> KeyboardFlags:
     return KeyboardFlags(KittyKeyboardFlags(bits & _NAMED_FLAGS), bits & ~_NAMED_FLAGS)
 
 
-def _checked(protocol: Protocol) -> Protocol:
-    if not isinstance(protocol, Protocol):
-        raise TypeError(f"a Protocol is required, not {type(protocol).__name__}")
-    return protocol
+def _number_of(kind: Type[_Named], it: _Named) -> int:
+    """The number of a member of an enum, whose type is checked."""
+    if not isinstance(it, kind):
+        raise TypeError(f"a member of {kind.__name__} is required, not {type(it).__name__}")
+    return cast(int, it.value)
 
 
 def _raw_reading(reading: Reading) -> _RawReading:
     if not isinstance(reading, Reading):
         raise TypeError(f"a Reading is required, not {type(reading).__name__}")
-    protocol, questions = _checked(reading.protocol), operator.index(reading.questions)
+    dialect = _number_of(Dialect, reading.dialect)
+    erase, newline = _number_of(EraseByte, reading.erase), _number_of(NewlineByte, reading.newline)
+    questions = operator.index(reading.questions)
     if not 0 <= questions <= 255:
         raise ValueError("questions are a number from 0 to 255")
-    return _RawReading(protocol.value, bool(reading.x10_mouse), questions)
+    return _RawReading(dialect, erase, newline, bool(reading.x10_mouse), questions)
 
 
 class ExtendedParser(_EventParser[ExtendedEvent]):
-    r"""Reads what an InputParser reads, and what terminals send beyond the sequence table. It is
-    used in the same way.
+    r"""Reads all that terminals send: keys and the mouse in any mode, pasted texts,
+    replies, and reports. It is used as an InputParser is.
 
-    A program that asks its terminal questions, or turns Kitty's keyboard protocol on, makes it in
-    place of an InputParser. In the second case it passes Protocol.KITTY, since that protocol sends
-    some entries of the table in another sense:
+    Every key is a KeyReport, whether it was typed or reported by Kitty's keyboard protocol. So a
+    program needn't know what its terminal speaks, and may turn protocols on and off at any time:
 
-        >>> for protocol in Protocol:
-        ...     with ExtendedParser(protocol) as parser:
-        ...         [event] = parser.parse(b"\x1b[1;9A")
-        ...     print(type(event).__name__, event.key, event.modifiers)
-        KeyEvent KeyCode.UP_ARROW Modifiers.ALT
-        KeyReport KeyCode.UP_ARROW KittyModifiers.SUPER
+        >>> with ExtendedParser() as parser:
+        ...     for event in parser.parse(b"\x03\x1b[1;9A\x1b[99;5:3u"):
+        ...         print(event)
+        KeyReport(key='c', modifiers=KittyModifiers.CTRL)
+        KeyReport(key=KeyCode.UP_ARROW, modifiers=KittyModifiers.SUPER)
+        KeyReport(key='c', modifiers=KittyModifiers.CTRL, kind=KeyEventKind.RELEASE)
 
-    A key is a KeyEvent or a KeyReport: `key_report` makes one of both.
+    With Dialect.TERMWIZ it reads what an InputParser reads, and a key is a KeyReport all the same.
 
     The bytes of an event are the same however they are cut into calls. A string without its end
     stays buffered as Waiting.STRING. Without an open paste at most 65535 bytes are buffered: a
@@ -1252,8 +1330,8 @@ class ExtendedParser(_EventParser[ExtendedEvent]):
         shrink_to=_library.hed_extended_shrink_to,
     )
 
-    def __init__(self, protocol: Protocol = Protocol.LEGACY) -> None:
-        number = _checked(protocol).value
+    def __init__(self, dialect: Dialect = Dialect.EXTENDED) -> None:
+        number = _number_of(Dialect, dialect)
 
         def init(raw: _RawExtended) -> bool:
             return bool(
@@ -1267,23 +1345,30 @@ class ExtendedParser(_EventParser[ExtendedEvent]):
         self._plain_event = _events.__getitem__
 
     @property
-    def protocol(self) -> Protocol:
-        """The keyboard protocol by which it reads: that of its `reading`."""
-        return self.reading.protocol
+    def dialect(self) -> Dialect:
+        """The grammar by which it reads: that of its `reading`."""
+        return self.reading.dialect
 
     @property
     def reading(self) -> Reading:
         r"""How it reads, a Reading. Assign another to change it; what is buffered is then read by
-        the new one. So a program may read as by LEGACY at first, ask ESC [?u, and read as by KITTY
-        once the terminal replied:
+        the new one. A program takes `erase` and `newline` from its terminal's settings, as
+        hedrugal.terminal does. For an input that is no terminal byte 10 is Enter:
 
-            >>> with ExtendedParser() as parser:
-            ...     [event] = parser.parse(b"\x1b[?1u")
-            ...     if isinstance(event, KeyboardFlags):
-            ...         parser.reading = Reading(Protocol.KITTY)
-            ...     [event] = parser.parse(b"\x1b[1;9A")
-            ...     event.modifiers, parser.protocol
-            (KittyModifiers.SUPER, Protocol.KITTY)
+            >>> import os, termios
+            >>> def reading_of(descriptor):
+            ...     if not os.isatty(descriptor):
+            ...         return Reading(newline=NewlineByte.ENTER)
+            ...     iflag, *_, characters = termios.tcgetattr(descriptor)
+            ...     is_backspace = characters[termios.VERASE] == b"\b"
+            ...     return Reading(
+            ...         erase=EraseByte.BACKSPACE if is_backspace else EraseByte.DELETE,
+            ...         newline=NewlineByte.ENTER if iflag & termios.ICRNL else NewlineByte.CTRL_J,
+            ...     )
+            >>> with ExtendedParser() as parser, open(os.devnull) as file:
+            ...     parser.reading = reading_of(file.fileno())
+            ...     [str(KeyPress.of_event(event)) for event in parser.parse(b"\b\x7f\n")]
+            ['ctrl+h', 'backspace', 'enter']
 
         To assign raises TypeError for what is no Reading, and ValueError if questions is none of 0
         to 255. The reading is that from before then."""
@@ -1292,8 +1377,13 @@ class ExtendedParser(_EventParser[ExtendedEvent]):
             self._check_open()
             if not _library.hed_extended_reading(self._raw, raw):
                 _fault()
-        protocol = _protocols.get(raw.protocol) or _fault()
-        return Reading(protocol, raw.x10_mouse, raw.questions)
+        return Reading(
+            _dialects.get(raw.dialect) or _fault(),
+            raw.x10_mouse,
+            raw.questions,
+            _erases.get(raw.erase) or _fault(),
+            _newlines.get(raw.newline) or _fault(),
+        )
 
     @reading.setter
     def reading(self, reading: Reading) -> None:
@@ -1312,7 +1402,7 @@ class ExtendedParser(_EventParser[ExtendedEvent]):
             ...     for event in parser.parse(b"\x1b[1;5R\x1b[1;5R"):
             ...         print(event)
             CursorPosition(row=1, column=5)
-            KeyEvent(key=Function(number=3), modifiers=Modifiers.CTRL)
+            KeyReport(key=Function(number=3), modifiers=KittyModifiers.CTRL)
 
         While one is open, ESC [1;5R and the like are a CursorPosition, and not F3 with modifiers.
         Each such event answers one question, and `reset` forgets all."""
@@ -1380,8 +1470,8 @@ class ExtendedParser(_EventParser[ExtendedEvent]):
         front = self._front
         kind = front.kind
         if kind == _KIND_PASTE:
-            return self._paste(front.input)
-        if kind == _KIND_REPORT and front.text_len:
+            return self._paste(front.text_len)
+        if kind == _KIND_KEY and front.text_len:
             text = self._text(front.text_len).decode("utf-8")
             return _key_report(*_report_fields_of(front, _REPORT_AT), text)
         if kind in _of_data:
@@ -1394,14 +1484,12 @@ class ExtendedParser(_EventParser[ExtendedEvent]):
 
 def _event_without_text(raw: _RawExtendedEvent) -> ExtendedEvent:
     kind = raw.kind
-    if kind in (_KIND_KEY, _KIND_MOUSE):
-        return _key_or_mouse(raw, _INPUT_AT) or _fault()
-    if kind == _KIND_REPORT:
+    if kind == _KIND_KEY:
         return _key_report(*_report_fields_of(raw, _REPORT_AT), "")
+    if kind == _KIND_MOUSE:
+        return _mouse_report(raw.mouse)
     if kind == _KIND_CURSOR_POSITION:
         return CursorPosition(raw.row, raw.column)
-    if kind == _KIND_SIDE_BUTTON:
-        return _side_button(raw.flags, raw.input)
     if kind == _KIND_RESIZE:
         return Resize(raw.rows, raw.columns, raw.height, raw.width)
     if kind == _KIND_KEYBOARD_FLAGS:
@@ -1425,7 +1513,7 @@ class _Events(Dict[bytes, ExtendedEvent]):
         if raw.kind in _WITH_TEXT or raw.text_len:
             raise _BringsText
         event = _event_without_text(raw)
-        if raw.kind in (_KIND_KEY, _KIND_REPORT):
+        if raw.kind == _KIND_KEY:
             if len(self) >= _MOST_KEYS:
                 self.clear()
             self[record] = event
@@ -1443,34 +1531,3 @@ _RECORD = ctypes.sizeof(_RawExtendedEvent)
 def _records(count: int) -> Callable[[Any, int], Tuple[bytes, ...]]:
     """What unpacks so many structs of an array, from a place in bytes on."""
     return struct.Struct(f"{_RECORD}s" * count).unpack_from
-
-
-# The modifiers of a key event, and what they are in a report.
-_REPORTED = [
-    (Modifiers.SHIFT, KittyModifiers.SHIFT),
-    (Modifiers.ALT, KittyModifiers.ALT),
-    (Modifiers.CTRL, KittyModifiers.CTRL),
-]
-
-
-def key_report(event: object) -> Optional[KeyReport]:
-    r"""Returns the report of a key, so that a program needs one case for keys: a KeyReport as it
-    is, and for a KeyEvent a press of its key with its SHIFT, ALT and CTRL. Returns None for any
-    other event.
-
-        >>> with ExtendedParser() as parser:
-        ...     events = parser.parse(b"\x03\x1b[99;5:3u")
-        >>> for event in events:
-        ...     report = key_report(event)
-        ...     print(report.key, report.modifiers, report.kind)
-        c KittyModifiers.CTRL KeyEventKind.PRESS
-        c KittyModifiers.CTRL KeyEventKind.RELEASE"""
-    if isinstance(event, KeyReport):
-        return event
-    if not isinstance(event, KeyEvent):
-        return None
-    modifiers = KittyModifiers.NONE
-    for flag, reported in _REPORTED:
-        if flag & event.modifiers:
-            modifiers |= reported
-    return KeyReport(event.key, modifiers)

@@ -22,7 +22,6 @@ from asyncio import TimerHandle, get_running_loop
 from typing import (
     Any,
     Callable,
-    Dict,
     Iterable,
     Iterator,
     List,
@@ -46,15 +45,12 @@ from . import (
     ExtendedParser,
     Function,
     KeyCode,
-    KeyEvent,
     KeyPress as Press,
     KeyReport,
     KittyModifiers,
-    MouseEvent,
+    MouseReport,
     Paste,
-    Protocol,
     Reading,
-    SideButton,
     typed_text,
 )
 
@@ -86,14 +82,14 @@ _SHIFTED = 12
 _IGNORED = (Keys.Ignore,)
 # Text is parsed in runs of characters, and of control characters.
 _RUNS = re.compile(r"[^\x00-\x1f\x7f-\x9f]+|[\x00-\x1f\x7f-\x9f]+")
-_LINE_FEEDS: Dict[AnyKey, AnyKey] = {Keys.ControlM: Keys.ControlJ}
-# prompt_toolkit asks for the cursor's position at any time, so each report of one is a reply.
-_READING = Reading(Protocol.LEGACY, x10_mouse=True, questions=255)
+# prompt_toolkit asks for the cursor's position at any time, so each report of one is a reply. Its
+# programs bind c-j apart, and c-h is Backspace to them, whichever byte that key sends.
+_READING = Reading(x10_mouse=True, questions=255)
 
 
 @functools.lru_cache(maxsize=4096)
-def _keys_of_event(event: Union[KeyEvent, KeyReport]) -> Tuple[AnyKey, ...]:
-    press = Press.of_event(event)
+def _keys_of_report(report: KeyReport) -> Tuple[AnyKey, ...]:
+    press = Press.of_report(report)
     return _keys_of(press) if press else ()
 
 
@@ -134,13 +130,13 @@ def _data(key: AnyKey, sent: str) -> str:
     return sent if isinstance(key, Keys) else key
 
 
-def _is_other_key(event: ExtendedEvent, sent: str) -> bool:
-    """Whether a control sequence is a key of prompt_toolkit and none to the library, as those that
-    mintty sends for Ctrl with digits. Of these ESC [1;5u is a control character to the library."""
-    is_none = isinstance(event, Csi) or (
-        isinstance(event, KeyEvent) and isinstance(event.key, str) and event.key < " "
-    )
-    return is_none and sent in ANSI_SEQUENCES
+def _is_other_key(event: ExtendedEvent) -> bool:
+    """Whether an event may be another key to prompt_toolkit: a control sequence that is no key to
+    the library, as those that mintty sends for Ctrl with digits. Of these ESC [1;5u is a control
+    character to the library."""
+    if isinstance(event, KeyReport):
+        return isinstance(event.key, str) and event.key < " "
+    return isinstance(event, Csi)
 
 
 class Parser(Vt100Parser):
@@ -225,7 +221,7 @@ class Parser(Vt100Parser):
             text = "".join([*self._pasted, event.text])
             self._pasted.clear()
             return [KeyPress(Keys.BracketedPaste, text)]
-        if isinstance(event, (MouseEvent, SideButton)):
+        if isinstance(event, MouseReport):
             return [KeyPress(Keys.Vt100MouseEvent, sent)]
         if isinstance(event, CursorPosition):
             return [KeyPress(Keys.CPRResponse, f"\x1b[{event.row};{event.column}R")]
@@ -237,14 +233,11 @@ class Parser(Vt100Parser):
         return [KeyPress(key, "" if at else _data(key, sent)) for at, key in enumerate(keys)]
 
     def _keys(self, event: ExtendedEvent, sent: str) -> Tuple[AnyKey, ...]:
-        if _is_other_key(event, sent):
+        keys = _keys_of_report(event) if isinstance(event, KeyReport) else ()
+        if sent in ANSI_SEQUENCES and (keys == _IGNORED or _is_other_key(event)):
             found = ANSI_SEQUENCES[sent]
             return found if isinstance(found, tuple) else (found,)
-        if not isinstance(event, (KeyEvent, KeyReport)):
-            return ()
-        keys = _keys_of_event(event)
-        # LF is Enter to the library. prompt_toolkit's programs bind it apart.
-        return tuple(map(_LINE_FEEDS.get, keys, keys)) if sent.endswith("\n") else keys
+        return keys
 
 
 class Input(Vt100Input):

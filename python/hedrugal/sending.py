@@ -3,7 +3,7 @@ r"""What a terminal sends that is no key: pasted texts and mouse reports.
     >>> from hedrugal import Modifiers
     >>> encode_paste(b"two\nlines", bracketed=True)
     b'\x1b[200~two\rlines\x1b[201~'
-    >>> report = MouseReport(80, 24, MouseButton.BUTTON2_DRAG, Modifiers.SHIFT)
+    >>> report = SentMouse(80, 24, MouseButton.BUTTON2_DRAG, Modifiers.SHIFT)
     >>> report.encode(MouseTracking.BUTTON, MouseEncoding.SGR)
     b'\x1b[<37;80;24M'
     >>> report.encode(MouseTracking.NORMAL, MouseEncoding.SGR)
@@ -38,7 +38,7 @@ from . import (
 
 
 class MouseButton(_Named):
-    """What happened to which button of the mouse, in a MouseReport."""
+    """What happened to which button of the mouse, in a SentMouse."""
 
     # numbers.txt: mouse member
     NONE = _number(0, "The mouse was moved while no button was down.")
@@ -110,8 +110,8 @@ def encode_paste(data: Bytes, bracketed: bool) -> bytes:
 
 
 @dataclass(frozen=True)
-class MouseReport:
-    """A mouse report that a terminal sends. x is the column and y the row: the first is 1."""
+class SentMouse:
+    """A mouse report for a terminal to send. x is the column and y the row: the first is 1."""
 
     x: int
     y: int
@@ -119,7 +119,7 @@ class MouseReport:
     modifiers: Modifiers = Modifiers.NONE
 
     def encode(self, tracking: MouseTracking, encoding: MouseEncoding) -> bytes:
-        """Returns the bytes that a terminal sends for the report: the other way from a MouseEvent.
+        """Returns the bytes that a terminal sends for the report: the other way from a MouseReport.
         There are none for a report that the program doesn't get. Of the modifiers SHIFT, ALT and
         CTRL are sent.
 
@@ -127,7 +127,7 @@ class MouseReport:
         above 223 with MouseEncoding.DEFAULT. Raises MemoryError if memory is refused."""
         if not isinstance(tracking, MouseTracking) or not isinstance(encoding, MouseEncoding):
             raise TypeError("a MouseTracking and a MouseEncoding are required")
-        report = _raw_mouse_report(self)
+        report = _raw_sent_mouse(self)
 
         def call(out: Any, size: int, length: ctypes.c_size_t) -> int:
             return int(
@@ -144,7 +144,7 @@ class MouseReport:
         _fault()
 
 
-class _RawMouseReport(ctypes.Structure):
+class _RawSentMouse(ctypes.Structure):
     _fields_ = [
         ("x", ctypes.c_uint16),
         ("y", ctypes.c_uint16),
@@ -153,11 +153,11 @@ class _RawMouseReport(ctypes.Structure):
     ]
 
 
-def _raw_mouse_report(report: MouseReport) -> _RawMouseReport:
+def _raw_sent_mouse(report: SentMouse) -> _RawSentMouse:
     if not isinstance(report.button, MouseButton) or not isinstance(report.modifiers, Modifiers):
-        raise TypeError("a MouseReport has a MouseButton and Modifiers")
+        raise TypeError("a SentMouse has a MouseButton and Modifiers")
     x, y = (_whole(place, 0, 65535) for place in (report.x, report.y))
-    return _RawMouseReport(x, y, report.modifiers.value, report.button.value)
+    return _RawSentMouse(x, y, report.modifiers.value, report.button.value)
 
 
 _CALLS: Dict[str, Tuple[Any, List[Any]]] = {
@@ -168,7 +168,7 @@ _CALLS: Dict[str, Tuple[Any, List[Any]]] = {
     "hed_encode_mouse": (
         ctypes.c_uint32,
         [
-            ctypes.POINTER(_RawMouseReport),
+            ctypes.POINTER(_RawSentMouse),
             ctypes.c_uint32,
             ctypes.c_uint32,
             _BYTES,

@@ -50,14 +50,15 @@ from . import (
     Dcs,
     DeviceAttributes,
     DeviceAttributesReply,
+    EraseByte,
     ExtendedEvent,
     ExtendedParser,
     KeyboardFlags,
     KittyKeyboardFlags,
     MouseTracking,
+    NewlineByte,
     Osc,
     Paste,
-    Protocol,
     Resize,
     StringCut,
     StringPart,
@@ -113,14 +114,12 @@ _entered: Optional[Terminal] = None
 class _Question:
     """The question that is asked last, whose reply the terminal owes."""
 
-    def __init__(self, seconds: float = 0.0, positions: int = 0, is_told: bool = True) -> None:
+    def __init__(self, seconds: float, positions: int) -> None:
         self.asked = time.monotonic()
         # Until when `ask` waits, and until when the reply is owed.
         self.end, self.until = self.asked + seconds, self.asked + max(_OWED, seconds)
         # How many questions for the cursor's position went with it.
         self.positions = positions
-        # Whether the reply is an event.
-        self.is_told = is_told
 
 
 class Terminal:
@@ -130,8 +129,8 @@ class Terminal:
     mouse: which mouse reports there are, a MouseTracking; None is none. They are asked for in SGR's
         form (mode 1006).
     focus: whether FocusGained and FocusLost are reported (mode 1004).
-    kitty: the flags of Kitty's keyboard protocol. They are pushed, and the terminal is asked for
-        them. Once it replied, by a KeyboardFlags, keys are read by that protocol.
+    kitty: the flags of Kitty's keyboard protocol, which are pushed. A terminal that doesn't know
+        the protocol goes on as before, and keys are read in both cases.
     modify_other_keys: the level of xterm's modifyOtherKeys, 0 if it is off.
     enter, leave: what is written before all this is switched on, and after it is switched off.
     paste_limit: how many bytes of a paste are held. More of it comes as PastePart events.
@@ -140,6 +139,10 @@ class Terminal:
 
     Raw mode passes each byte on: nothing is echoed, Enter is CR, and Ctrl-C and Ctrl-Z are keys. A
     line that is written still ends with a line feed. What was typed before is kept.
+
+    As it is entered the parser's `reading` gets what the settings say. Backspace sends byte 8 if
+    VERASE is 8, and else 127. Byte 10 is Ctrl-J, and so is an Enter that was typed before: `enter`
+    is its second press. The rest of the reading is the program's.
 
     An event is an ExtendedEvent, a PastePart, or Resumed after the program was stopped. A new size
     is a Resize. Bytes wait for as long as `parser.policy` says. The events end with the input, also
@@ -190,9 +193,6 @@ class Terminal:
         if kitty:
             self._on += b"\x1b[>%du" % kitty.value
             self._off = b"\x1b[<u" + self._off
-        # Whether the flags are asked for, and whether keys are to be read by Kitty's protocol once
-        # they are reported.
-        self._asks_flags = self._awaits_flags = bool(kitty)
         self._has_mouse = bool(mouse)
         self._paste_limit = paste_limit
         self._descriptors = input, output
@@ -230,7 +230,6 @@ class Terminal:
             stack.callback(self._restore)
             self._handle_signals()
             self._enter()
-            self._ask_flags()
             self._stack = stack.pop_all()
         return self
 
@@ -427,7 +426,7 @@ class Terminal:
         self.parser.feed(self._unread)
         self._unread = b""
         before = len(self._events)
-        if self._owed or self._awaits_flags or self._front:
+        if self._owed or self._front:
             # One by one, since an event may change how the next is read.
             while event := self._front or self.parser.next_event():
                 self._front = event
@@ -476,16 +475,12 @@ class Terminal:
 
     def _forget(self) -> None:
         """Forgets what is buffered, since another program had the terminal. A paste or a string
-        stays open, or the rest of it would be typed. Nothing is asked then, since the reply would
-        be a part of it."""
+        stays open, or the rest of it would be typed."""
         self._expect_positions()
         if self.parser.waiting in _OPEN:
             self._stalls = time.monotonic() + _STALL
             return
         self._reset()
-        # If the terminal is gone, the next read tells.
-        with contextlib.suppress(OSError):
-            self._ask_flags()
 
     def _reset(self) -> None:
         self.parser.reset()
@@ -496,9 +491,6 @@ class Terminal:
 
     def _add(self, event: ExtendedEvent) -> None:
         """Adds an event, which may be a reply."""
-        if self._awaits_flags and isinstance(event, KeyboardFlags):
-            self._awaits_flags = False
-            self.parser.reading = dataclasses.replace(self.parser.reading, protocol=Protocol.KITTY)
         # The same to its end, whatever a signal's handler does.
         owed = self._owed
         if not owed:
@@ -507,18 +499,11 @@ class Terminal:
         question, is_last = owed[0], _is_attributes(event)
         if question is self._asked and isinstance(event, _REPLIES):
             self._replies[len(self._events)] = event
-        if question.is_told or not is_last:
-            self._events.append(event)
+        self._events.append(event)
         if is_last:
             owed.popleft()
             self._slowest = max(self._slowest or 0.0, time.monotonic() - question.asked)
             self._expect_positions()
-
-    def _ask_flags(self) -> None:
-        """Asks for the flags of Kitty's protocol, if they are wanted."""
-        if self._asks_flags:
-            self._owed.append(_Question(is_told=False))
-            self.write(b"\x1b[?u" + _ATTRIBUTES)
 
     def _expect_positions(self) -> None:
         """Expects a position of the cursor for each question that is open."""
@@ -566,6 +551,10 @@ class Terminal:
             _found(chosen, standard, stack) for standard, chosen in enumerate(self._descriptors)
         )
         self._saved = self._ours = _call(termios.tcgetattr, self._input)
+        # Raw mode leaves CR as it is (ICRNL), so byte 10 is Ctrl-J.
+        self.parser.reading = dataclasses.replace(
+            self.parser.reading, erase=_erase_byte(self._saved), newline=NewlineByte.CTRL_J
+        )
         self._wake, self._wakes = os.pipe2(os.O_NONBLOCK | os.O_CLOEXEC)
         stack.callback(os.close, self._wake)
         stack.callback(os.close, self._wakes)
@@ -786,6 +775,12 @@ def _call(call: Callable[..., Any], *words: Any) -> Any:
 def _set(terminal: int, settings: List[Any]) -> None:
     # At once: to wait for what is still to be written would block if nobody reads it.
     _call(termios.tcsetattr, terminal, termios.TCSANOW, settings)
+
+
+def _erase_byte(settings: List[Any]) -> EraseByte:
+    """Which byte the Backspace key sends."""
+    is_backspace = settings[-1][termios.VERASE] == b"\b"
+    return EraseByte.BACKSPACE if is_backspace else EraseByte.DELETE
 
 
 def _raw(settings: List[Any]) -> List[Any]:

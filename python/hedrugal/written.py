@@ -1,8 +1,8 @@
 r"""Events to the bytes that a parser reads as them, and what a terminal replies.
 
-    >>> from hedrugal import KeyCode, KeyEvent, Modifiers
+    >>> from hedrugal import KeyCode, KittyModifiers
     >>> parser = ExtendedParser()
-    >>> encode_event(KeyEvent(KeyCode.UP_ARROW, Modifiers.CTRL), parser)
+    >>> encode_event(KeyReport(KeyCode.UP_ARROW, KittyModifiers.CTRL), parser)
     b'\x1b[1;5A'
     >>> encode_event(Csi(b"?62;22c"), parser)
     b'\x1b[?62;22c'
@@ -13,7 +13,7 @@ A program imports these names from the package hedrugal."""
 from __future__ import annotations
 
 import ctypes
-from typing import Any, Callable, Dict, List, Sequence, Tuple, Union
+from typing import Any, Callable, Dict, List, Sequence, Tuple
 
 from . import (
     _BYTES,
@@ -34,22 +34,15 @@ from . import (
     _KIND_MOUSE,
     _KIND_OSC,
     _KIND_PASTE,
-    _KIND_REPORT,
     _KIND_RESIZE,
-    _KIND_SIDE_BUTTON,
     _KIND_STRING_CUT,
     _KIND_STRING_PART,
     EncodeError,
-    KeyEvent,
-    Modifiers,
-    MouseButtons,
-    MouseEvent,
     Paste,
     _borrowed,
     _declare,
     _fault,
     _library,
-    _number_and_detail,
     _refused,
     _sent,
     _whole,
@@ -67,13 +60,13 @@ from .extended import (
     FocusLost,
     KeyboardFlags,
     KeyReport,
+    MouseReport,
     Osc,
     Resize,
-    SideButton,
-    SideButtonKind,
     StringCut,
     StringKind,
     StringPart,
+    _raw_mouse,
     _raw_report,
     _RawExtendedEvent,
 )
@@ -86,10 +79,11 @@ def encode_event(event: ExtendedEvent, parser: ExtendedParser) -> bytes:
     are read, by its reading and its sequence table. What it has buffered doesn't matter, and stays.
 
     With no more to come the bytes are that event alone, and nothing stays buffered. That is so with
-    more to come too, but for a KeyEvent, whose text may begin a sequence. A KeyEvent is written as
-    what a terminal sends for it, as its character, or as a row of the sequence table. A KeyReport
-    is written in the form of Kitty's protocol, with what happened to the key always told. Keys as a
-    terminal sends them are those of encode and of KeyReport.encode.
+    more to come too, but for the Escape key and for Alt with [, O, P, ], _ or Escape, whose bytes
+    begin a sequence. A KeyReport is written as what a terminal sends for the key, as its character,
+    as a row of the sequence table, or else in the form of Kitty's protocol. A MouseReport is
+    written in the form of the mode 1006. Keys as a terminal sends them are those of encode and of
+    KeyReport.encode.
 
     Raises EncodeError, which is a ValueError, if no bytes are read as the event: a StringPart, a
     StringCut, a paste that has ESC [201~ in it, and an event that no parser makes, such as a
@@ -204,19 +198,12 @@ _PLAIN_KINDS = {
 def _raw_event(event: ExtendedEvent) -> _RawExtendedEvent:
     """The numbers of an event. Its bytes are passed beside it."""
     raw = _RawExtendedEvent()
-    if isinstance(event, KeyEvent):
+    if isinstance(event, KeyReport):
         raw.kind = _KIND_KEY
-        raw.input.key, raw.input.detail = _number_and_detail(event.key)
-        raw.input.modifiers = _bits(event.modifiers)
-    elif isinstance(event, MouseEvent):
-        raw.kind = _KIND_MOUSE
-        if not isinstance(event.buttons, MouseButtons):
-            raise TypeError("a MouseEvent has MouseButtons")
-        raw.input.buttons = event.buttons.value
-        _set_place(raw, event)
-    elif isinstance(event, KeyReport):
-        raw.kind = _KIND_REPORT
         raw.report = _raw_report(event)
+    elif isinstance(event, MouseReport):
+        raw.kind = _KIND_MOUSE
+        raw.mouse = _raw_mouse(event)
     elif isinstance(event, CursorPosition):
         raw.kind = _KIND_CURSOR_POSITION
         raw.row, raw.column = (_whole(n, 0, 65535) for n in (event.row, event.column))
@@ -227,12 +214,6 @@ def _raw_event(event: ExtendedEvent) -> _RawExtendedEvent:
     elif isinstance(event, KeyboardFlags):
         raw.kind = _KIND_KEYBOARD_FLAGS
         raw.flags = _whole(event.flags.value | event.unnamed, 0, 255)
-    elif isinstance(event, SideButton):
-        raw.kind = _KIND_SIDE_BUTTON
-        if not isinstance(event.kind, SideButtonKind):
-            raise TypeError("a SideButton has a SideButtonKind")
-        raw.flags, raw.input.detail = event.kind.value, _whole(event.number, 0, 255)
-        _set_place(raw, event)
     elif isinstance(event, (StringPart, StringCut)):
         raw.kind = _KIND_STRING_PART if isinstance(event, StringPart) else _KIND_STRING_CUT
         if not isinstance(event.kind, StringKind):
@@ -243,17 +224,6 @@ def _raw_event(event: ExtendedEvent) -> _RawExtendedEvent:
     else:
         raise TypeError(f"an event is required, not {type(event).__name__}")
     return raw
-
-
-def _bits(modifiers: Modifiers) -> int:
-    if not isinstance(modifiers, Modifiers):
-        raise TypeError(f"Modifiers are required, not {type(modifiers).__name__}")
-    return int(modifiers.value)
-
-
-def _set_place(raw: _RawExtendedEvent, event: Union[MouseEvent, SideButton]) -> None:
-    raw.input.x, raw.input.y = (_whole(place, 0, 65535) for place in (event.x, event.y))
-    raw.input.modifiers = _bits(event.modifiers)
 
 
 _CALLS: Dict[str, Tuple[Any, List[Any]]] = {

@@ -13,8 +13,10 @@ from hedrugal import (
     Csi,
     CursorPosition,
     Dcs,
+    Dialect,
     EncodeError,
     Entry,
+    Event,
     ExtendedEvent,
     ExtendedParser,
     FocusGained,
@@ -27,6 +29,7 @@ from hedrugal import (
     KeyCode,
     KeyCodeEncodeModes,
     KeyEvent,
+    KeyEventKind,
     KeyNameError,
     KeyPress,
     KeyReport,
@@ -34,12 +37,13 @@ from hedrugal import (
     KittyModifiers,
     Modifiers,
     MouseEvent,
+    MouseButtons,
+    MouseKind,
+    MouseReport,
     Osc,
     Paste,
-    Protocol,
     ReportedKey,
     Resize,
-    SideButton,
     StringCut,
     StringKind,
     StringPart,
@@ -69,20 +73,18 @@ ENDS = ("more", "flush", "paste")
 
 AnyParser = Union[InputParser, ExtendedParser]
 
-# How the bytes are read, and what makes the parser: by the sequence table alone, with replies and
-# reports, for Kitty's keyboard protocol.
+# An event of either parser.
+AnyEvent = Union[Event, ExtendedEvent]
+
+# How the bytes are read, and what makes the parser: by the sequence table alone, as termwiz reads
+# them, or all that terminals send.
 READINGS: Dict[str, Callable[[], AnyParser]] = {
     "table": InputParser,
-    "extended": lambda: ExtendedParser(Protocol.LEGACY),
-    "kitty": lambda: ExtendedParser(Protocol.KITTY),
+    "extended": ExtendedParser,
 }
 
-# The protocol by which an event is written in each reading.
-PROTOCOLS = {
-    "table": Protocol.LEGACY,
-    "extended": Protocol.LEGACY,
-    "kitty": Protocol.KITTY,
-}
+# How an event is written in each reading.
+DIALECTS = {"table": Dialect.TERMWIZ, "extended": Dialect.EXTENDED}
 
 # What bytes may begin that begin no entry of the sequence table, by the event that they become; and
 # what may end them. The end of a string may come after the rest of its opening.
@@ -138,11 +140,21 @@ def text_line(name: str, text: bytes) -> str:
 
 
 def report_line(report: KeyReport) -> str:
-    parts = ["report", key_name(report.key), set_name(report.modifiers), report.kind.name.lower()]
+    """The line of a key. What a press of the key alone doesn't tell is named behind it."""
+    kind = report.kind.name.lower()
+    parts = [key_line(report.key, report.modifiers)]
+    parts += [kind] if report.kind is not KeyEventKind.PRESS else []
     parts += [f"shifted {key_name(report.shifted)}"] if report.shifted is not None else []
     parts += [f"base {key_name(report.base)}"] if report.base is not None else []
     parts += [text_line("text", report.text.encode())] if report.text else []
     return " ".join(parts)
+
+
+def mouse_line(report: MouseReport) -> str:
+    """The line of a mouse report: that of the mouse event, and what else it tells."""
+    place = f"mouse {report.x} {report.y} {set_name(report.buttons)} {set_name(report.modifiers)}"
+    button = "" if report.button is None else f" {report.button}"
+    return f"{place} {report.kind.name.lower()}{button}"
 
 
 # The lines of the events that the sequence table doesn't know.
@@ -159,13 +171,11 @@ EXTENDED_LINES: Dict[type, Callable[[Any], str]] = {
     Apc: lambda it: text_line("apc", it.data),
     StringPart: lambda it: text_line(f"{it.kind.name.lower()} part", it.data),
     StringCut: lambda it: text_line(f"{it.kind.name.lower()} cut", it.data),
-    SideButton: lambda it: (
-        f"button {it.number} {it.kind.name.lower()} {it.x} {it.y} {set_name(it.modifiers)}"
-    ),
+    MouseReport: mouse_line,
 }
 
 
-def line(event: ExtendedEvent) -> str:
+def line(event: AnyEvent) -> str:
     """The line that keyshow prints for an event, or else the one that hedrugal-keys shows. A long
     text is cut."""
     if isinstance(event, KeyEvent):
@@ -177,7 +187,7 @@ def line(event: ExtendedEvent) -> str:
     return EXTENDED_LINES[type(event)](event)
 
 
-def glyphs(event: ExtendedEvent) -> str:
+def glyphs(event: AnyEvent) -> str:
     """The character of a key, or the beginning of the text that an event brings, as far as they can
     be printed."""
     if isinstance(event, KeyReport) and event.text:
@@ -193,7 +203,7 @@ def glyphs(event: ExtendedEvent) -> str:
     )
 
 
-def press_name(event: ExtendedEvent) -> str:
+def press_name(event: AnyEvent) -> str:
     """The name of an event's press, and that of its second press. Empty if it has none."""
     press = KeyPress.of_event(event)
     second = KeyPress.second(event) if isinstance(event, KeyReport) else None
@@ -205,18 +215,48 @@ def printed(text: str) -> str:
     return shown + ("…" if len(text) > SHOWN else "")
 
 
-def written(event: ExtendedEvent, reading: str) -> Json:
+def written(event: AnyEvent, reading: str) -> Json:
     """What an event is written as, to be read as it in this reading: the first of its bytes and
     their number, or why there are none."""
     try:
-        with ExtendedParser(PROTOCOLS[reading]) as parser:
-            data = encode_event(event, parser)
+        with ExtendedParser(DIALECTS[reading]) as parser:
+            data = encode_event(as_extended(event), parser)
     except EncodeError as error:
         return {"why": str(error)}
     return {"bytes": data[:SHOWN].hex(), "length": len(data)}
 
 
-def item(length: int, event: ExtendedEvent, reading: str) -> List[Any]:
+# The modifiers of a key event, and what they are in a report.
+REPORTED = {Modifiers[it]: KittyModifiers[it] for it in ("SHIFT", "ALT", "CTRL", "SUPER")}
+# What a mouse report tells besides where some buttons are down.
+PRESSED = {MouseButtons.LEFT: 1, MouseButtons.MIDDLE: 2, MouseButtons.RIGHT: 3}
+WHEELS = (
+    MouseButtons.VERT_WHEEL | MouseButtons.WHEEL_POSITIVE,
+    MouseButtons.VERT_WHEEL,
+    MouseButtons.HORZ_WHEEL | MouseButtons.WHEEL_POSITIVE,
+    MouseButtons.HORZ_WHEEL,
+)
+
+
+def as_extended(event: AnyEvent) -> ExtendedEvent:
+    """An event of the table as an ExtendedParser has it. What an event of the mouse doesn't tell is
+    taken from a report that has this event."""
+    if isinstance(event, KeyEvent):
+        held = KittyModifiers.NONE
+        for modifier, reported in REPORTED.items():
+            held |= reported if modifier & event.modifiers else KittyModifiers.NONE
+        return KeyReport(event.key, held)
+    if not isinstance(event, MouseEvent):
+        return event
+    place = event.x, event.y, event.modifiers, event.buttons
+    if event.buttons in PRESSED:
+        return MouseReport(*place, MouseKind.PRESS, PRESSED[event.buttons])
+    if event.buttons in WHEELS:
+        return MouseReport(*place, MouseKind.WHEEL, 4 + WHEELS.index(event.buttons))
+    return MouseReport(*place, MouseKind.MOVE)
+
+
+def item(length: int, event: AnyEvent, reading: str) -> List[Any]:
     """How many bytes an event consumed, and what is shown of it."""
     return [length, line(event), glyphs(event), press_name(event), written(event, reading)]
 
@@ -242,7 +282,7 @@ class Reader:
         """How many of the buffered bytes belong to no event."""
         return self.parser.waiting_len - (opening(self.part) if self.part else 0)
 
-    def items(self, more: bool) -> Iterator[Tuple[int, ExtendedEvent]]:
+    def items(self, more: bool) -> Iterator[Tuple[int, AnyEvent]]:
         """The events that are next, each with the number of bytes that it consumed."""
         before = self.left()
         while True:
@@ -269,7 +309,7 @@ class Reader:
         return count
 
 
-def finish(parser: AnyParser, end: str) -> List[ExtendedEvent]:
+def finish(parser: AnyParser, end: str) -> List[AnyEvent]:
     """The events that come of the end of the input."""
     if end == "more":
         return []
@@ -286,7 +326,7 @@ def lines(data: bytes, reading: str) -> List[str]:
 
 def became(
     rest: bytes, ends: Iterable[bytes], kind: Tuple[type, ...], reading: str
-) -> Optional[Tuple[bytes, ExtendedEvent]]:
+) -> Optional[Tuple[bytes, AnyEvent]]:
     """The rest and one of these ends, if the library reads an event of this kind from the rest on,
     and the event. None if it does so with none of the ends. Before the event there may be an Escape
     key, and nothing else."""
@@ -413,12 +453,12 @@ def key_texts(key: ReportedKey, held: KittyModifiers) -> Json:
     the library reads in them."""
     report = report_of(key, held)
     wanted = KeyPress.of_report(report)
-    with InputParser() as table, ExtendedParser(Protocol.KITTY) as kitty:
+    with ExtendedParser() as parser:
         return {
             "line": key_line(key, held),
             "press": str(wanted) if wanted else "",
-            "sent": [read_back(encoded(key, held, modes), table, wanted) for modes in MODES],
-            "kitty": [read_back(encoded_kitty(report, it), kitty, wanted) for it in FLAGS],
+            "sent": [read_back(encoded(key, held, modes), parser, wanted) for modes in MODES],
+            "kitty": [read_back(encoded_kitty(report, it), parser, wanted) for it in FLAGS],
         }
 
 
@@ -559,7 +599,9 @@ class Meanings:
         named, what else it begins, a mouse report."""
         found = completions(rest)
         begun = became(rest, ENDINGS, tuple(BEGUN), reading)
-        mouse = became(rest, (REPORT[at:] for at in range(len(REPORT))), (MouseEvent,), reading)
+        mouse = became(
+            rest, (REPORT[at:] for at in range(len(REPORT))), (MouseEvent, MouseReport), reading
+        )
         return {
             "count": len(found.entries),
             "with_alt": found.with_alt,
@@ -596,7 +638,7 @@ class Meanings:
             wanted = [*parser.parse(head), *finish(parser, end)]
             parser.reset()
             steps: List[List[Any]] = []
-            events: List[ExtendedEvent] = []
+            events: List[AnyEvent] = []
             for at in range(len(head)):
                 came = parser.parse(head[at : at + 1])
                 events += came

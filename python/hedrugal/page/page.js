@@ -440,11 +440,8 @@ function flush(end, focus) {
 
 // What each reading is for, and the parser of a report.
 const READINGS = {
-  table: { means: 'An InputParser reads so. Replies and reports are typed text to it.' },
-  extended: { means: 'An ExtendedParser reads so, for a program that asks its terminal questions.', parser: 'ExtendedParser, Protocol::Legacy' },
-  kitty: {
-    means: 'An ExtendedParser with Protocol::Kitty reads so, for a program that turns the protocol on.', parser: 'ExtendedParser, Protocol::Kitty',
-  },
+  table: { means: 'An InputParser reads so, as termwiz does. Replies and reports are typed text to it.' },
+  extended: { means: 'An ExtendedParser reads so: keys in any mode, replies and reports.', parser: 'ExtendedParser, Dialect::Extended' },
 };
 
 // Says what the reading is for. The links of the page keep it.
@@ -640,7 +637,7 @@ function modeRows(key) {
   return rows.map((mode) => {
     const isNow = mode.every((value, at) => !matters[at] || value === now[at]);
     const words = mode.map((value, at) => (matters[at] ? MODE_NAMES[at][value] : '')).filter(Boolean).join(', ') || 'all 24 modes';
-    return sentRow(words + (isNow && rows.length > 1 ? ' (chosen above)' : ''), key.sent[modeIndex(mode)], isNow);
+    return sentRow(words + (isNow && rows.length > 1 ? ' (chosen above)' : ''), key.sent[modeIndex(mode)], isNow, 'extended');
   });
 }
 
@@ -653,7 +650,7 @@ function flagRows(key) {
     rows.set(text?.[0], row);
   });
   const names = (flags) => (flags.length === state.table.flags.length ? 'Kitty’s protocol' : `Kitty’s flags ${flags.join(' or ')}`);
-  return [...rows.values()].map(({ text, flags }) => sentRow(names(flags), text, false, 'kitty'));
+  return [...rows.values()].map(({ text, flags }) => sentRow(names(flags), text, false, 'extended'));
 }
 
 function sentWords(key) {
