@@ -48,7 +48,7 @@ static void put_field(const char *before, const char *name, const char *value) {
 static bool put_brought(const group *its, const reader *reader) {
   size_t length = its->event.text_len;
   uint8_t kind = its->event.kind;
-  bool is_text = kind == HED_KIND_PASTE || kind == HED_KIND_PASTE_PART || kind == HED_KIND_REPORT;
+  bool is_text = kind == HED_KIND_PASTE || kind == HED_KIND_PASTE_PART || kind == HED_KIND_KEY;
   uint8_t *brought = malloc(length + 1);
   if (!brought) return false;
   reader_text(reader, brought, length);
@@ -60,35 +60,27 @@ static bool put_brought(const group *its, const reader *reader) {
   return true;
 }
 
-static void put_key(uint16_t key, uint32_t detail, const flag *flags, unsigned modifiers) {
-  text name = { .length = 0 };
-  add_key(&name, key, detail);
-  fprintf(output, ",\"key\":\"%s\"", name.bytes);
-  put_flags("modifiers", flags, modifiers);
-}
-
 static void put_code(const char *name, uint32_t code) {
   if (code != HED_NO_CODE) fprintf(output, ",\"%s\":%u", name, (unsigned)code);
 }
 
-static void put_report(const hed_key_report *report) {
-  put_key(report->key, report->detail, kitty_modifier_flags, report->modifiers);
-  fprintf(output, ",\"action\":\"%s\"", key_event_kind_name(report->kind));
+/* Every key of the usual parser was pressed, so that isn't told. */
+static void put_key(const hed_key_report *report, bool has_action) {
+  text name = { .length = 0 };
+  add_key(&name, report->key, report->detail);
+  fprintf(output, ",\"key\":\"%s\"", name.bytes);
+  put_flags("modifiers", kitty_modifier_flags, report->modifiers);
+  if (has_action) fprintf(output, ",\"action\":\"%s\"", key_event_kind_name(report->kind));
   put_code("shifted", report->shifted);
   put_code("base", report->base);
 }
 
-static void put_mouse(const hed_event *event) {
-  fprintf(output, ",\"x\":%u,\"y\":%u", event->x, event->y);
-  put_flags("buttons", button_flags, event->buttons);
-  put_flags("modifiers", modifier_flags, event->modifiers);
-}
-
-static void put_side_button(const hed_extended_event *event) {
-  const hed_event *input = &event->input;
-  fprintf(output, ",\"number\":%u,\"action\":\"%s\",\"x\":%u,\"y\":%u", (unsigned)input->detail, side_button_name(event->flags), input->x,
-          input->y);
-  put_flags("modifiers", modifier_flags, input->modifiers);
+static void put_mouse(const hed_mouse_report *report) {
+  fprintf(output, ",\"x\":%u,\"y\":%u", report->x, report->y);
+  put_flags("buttons", button_flags, report->buttons);
+  put_flags("modifiers", modifier_flags, report->modifiers);
+  if (report->kind != 0) fprintf(output, ",\"action\":\"%s\"", mouse_kind_name(report->kind));
+  if (report->button != 0) fprintf(output, ",\"button\":%u", report->button);
 }
 
 static void put_size(const hed_extended_event *event) {
@@ -96,26 +88,24 @@ static void put_size(const hed_extended_event *event) {
 }
 
 /* The fields of an event, but for the bytes that it brought. */
-static void put_fields(const hed_extended_event *event) {
+static void put_fields(const hed_extended_event *event, const reader *reader) {
   const char *whole = whole_name(event);
   if (whole) fprintf(output, ",\"of\":\"%s\"", whole);
   switch (event->kind) {
-    case HED_KIND_KEY: put_key(event->input.key, event->input.detail, modifier_flags, event->input.modifiers); break;
-    case HED_KIND_MOUSE: put_mouse(&event->input); break;
-    case HED_KIND_REPORT: put_report(&event->report); break;
+    case HED_KIND_KEY: put_key(&event->report, reader->is_extended); break;
+    case HED_KIND_MOUSE: put_mouse(&event->mouse); break;
     case HED_KIND_FOCUS_GAINED: fprintf(output, ",\"gained\":true"); break;
     case HED_KIND_FOCUS_LOST: fprintf(output, ",\"gained\":false"); break;
     case HED_KIND_CURSOR_POSITION: fprintf(output, ",\"row\":%u,\"column\":%u", event->row, event->column); break;
     case HED_KIND_RESIZE: put_size(event); break;
     case HED_KIND_KEYBOARD_FLAGS: fprintf(output, ",\"flags\":%u", event->flags); break;
-    case HED_KIND_SIDE_BUTTON: put_side_button(event); break;
     default: break;
   }
 }
 
-/* Whether an event of this kind brings bytes, if only none. */
-static bool brings_bytes(uint8_t kind) {
-  return kind == HED_KIND_PASTE || kind == HED_KIND_REPORT || (kind >= HED_KIND_CSI && kind != HED_KIND_SIDE_BUTTON);
+/* Whether the bytes of an event are told, if only none. */
+static bool brings_bytes(const hed_extended_event *event) {
+  return event->kind == HED_KIND_PASTE || event->kind >= HED_KIND_CSI || event->text_len > 0;
 }
 
 static void put_presses(const group *its) {
@@ -158,8 +148,8 @@ static void put_pending(const bindings *bound) {
 
 bool json_event(const line *of, const group *its, const reader *reader, const bindings *bound) {
   begin_object(of, its->start, its->length, kind_name(its->event.kind));
-  put_fields(&its->event);
-  bool has_memory = !brings_bytes(its->event.kind) || put_brought(its, reader);
+  put_fields(&its->event, reader);
+  bool has_memory = !brings_bytes(&its->event) || put_brought(its, reader);
   put_presses(its);
   put_outcomes(of, its->first_outcome);
   if (its->press_count > 0) put_pending(bound);

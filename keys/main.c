@@ -52,11 +52,6 @@ static bool flush_output(keys *it) {
   return output_flush() || fail(it, "the output can't be written", errno);
 }
 
-/* A key of any kind. The report of a key of the sequence table says that it was pressed. */
-static bool is_key(const hed_extended_event *event) {
-  return event->kind == HED_KIND_KEY || event->kind == HED_KIND_REPORT;
-}
-
 /* Whether a key is a modifier key or was not pressed, so that it may come between two presses of ^D. */
 static bool is_no_press(const hed_key_report *report) {
   bool is_modifier = report->key >= HED_KEY_SHIFT && report->key <= HED_KEY_RIGHT_ALT && report->key != HED_KEY_ESCAPE;
@@ -66,8 +61,8 @@ static bool is_no_press(const hed_key_report *report) {
 static void note_end(keys *it, const hed_extended_event *event) {
   const hed_key_report *report = &event->report;
   unsigned held = report->modifiers & ~(unsigned)(HED_KITTY_MOD_CAPS_LOCK | HED_KITTY_MOD_NUM_LOCK);
-  if (is_key(event) && is_no_press(report)) return;
-  bool is_end = is_key(event) && report->key == HED_KEY_CHAR && report->detail == 'd' && held == HED_KITTY_MOD_CTRL;
+  if (event->kind == HED_KIND_KEY && is_no_press(report)) return;
+  bool is_end = event->kind == HED_KIND_KEY && report->key == HED_KEY_CHAR && report->detail == 'd' && held == HED_KITTY_MOD_CTRL;
   if (is_end && it->was_end && it->is_live) it->is_over = true;
   it->was_end = is_end;
 }
@@ -96,7 +91,7 @@ static bool is_text(const group *of) {
   const hed_extended_event *event = &of->event;
   hed_key_press press;
   if (of->press_count > 0 || event->text_len == 0) return false;
-  if (event->kind == HED_KIND_REPORT) return hed_key_of_report(&event->report, (const uint8_t *)"a", 1, &press);
+  if (event->kind == HED_KIND_KEY) return hed_key_of_report(&event->report, (const uint8_t *)"a", 1, &press);
   return event->kind == HED_KIND_PASTE || event->kind == HED_KIND_PASTE_PART;
 }
 
@@ -295,6 +290,7 @@ static bool start_live(keys *it) {
   if (output < 0) return fail(it, "the terminal can't be written", errno);
   join_modes(it);
   if (!hed_terminal_open(&it->terminal, 0, output, it->enter.bytes, it->leave.bytes)) return fail(it, it->terminal.failure, errno);
+  if (it->reader.is_extended) hed_terminal_tell_settings(&it->terminal, &it->reader.extended);
   dprintf(output, "hedrugal-keys: press keys; ^D twice ends it.\n");
   return true;
 }
@@ -317,7 +313,7 @@ static bool read_bindings(keys *it) {
 
 static bool start(keys *it) {
   if (!read_bindings(it) || !open_input(it)) return false;
-  if (!reader_init(&it->reader, it->options.reading)) return fail(it, no_memory, 0);
+  if (!reader_init(&it->reader, it->options.is_extended, it->is_live)) return fail(it, no_memory, 0);
   return !it->is_live || start_live(it);
 }
 

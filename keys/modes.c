@@ -7,5 +7,5 @@ const mode all_modes[MODE_COUNT] = {
   { .word = "--mouse", .on = "\033[?1003h\033[?1006h", .off = "\033[?1006l\033[?1003l" },
   { .word = "--bracketed-paste", .on = "\033[?2004h", .off = "\033[?2004l" },
   { .word = "--focus", .on = "\033[?1004h", .off = "\033[?1004l" },
-  { .word = "--kitty-keyboard", .on = "\033[>31u", .off = "\033[<u", .wants_kitty = true },
+  { .word = "--kitty-keyboard", .on = "\033[>31u", .off = "\033[<u", .wants_extended = true },
 };

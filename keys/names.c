@@ -46,23 +46,14 @@ const flag kitty_modifier_flags[] = {
 
 const char *kind_name(uint8_t kind) {
   static const char *const names[] = {
-    [HED_KIND_KEY] = "key",
-    [HED_KIND_MOUSE] = "mouse",
-    [HED_KIND_PASTE] = "paste",
-    [HED_KIND_REPORT] = "report",
-    [HED_KIND_FOCUS_GAINED] = "focus",
-    [HED_KIND_FOCUS_LOST] = "focus",
-    [HED_KIND_CURSOR_POSITION] = "cursor",
-    [HED_KIND_RESIZE] = "resize",
-    [HED_KIND_KEYBOARD_FLAGS] = "flags",
-    [HED_KIND_CSI] = "csi",
-    [HED_KIND_OSC] = "osc",
-    [HED_KIND_DCS] = "dcs",
-    [HED_KIND_APC] = "apc",
-    [HED_KIND_PASTE_PART] = "part",
-    [HED_KIND_STRING_PART] = "part",
+    [HED_KIND_KEY] = "key",          [HED_KIND_MOUSE] = "mouse",
+    [HED_KIND_PASTE] = "paste",      [HED_KIND_FOCUS_GAINED] = "focus",
+    [HED_KIND_FOCUS_LOST] = "focus", [HED_KIND_CURSOR_POSITION] = "cursor",
+    [HED_KIND_RESIZE] = "resize",    [HED_KIND_KEYBOARD_FLAGS] = "flags",
+    [HED_KIND_CSI] = "csi",          [HED_KIND_OSC] = "osc",
+    [HED_KIND_DCS] = "dcs",          [HED_KIND_APC] = "apc",
+    [HED_KIND_PASTE_PART] = "part",  [HED_KIND_STRING_PART] = "part",
     [HED_KIND_STRING_CUT] = "cut",
-    [HED_KIND_SIDE_BUTTON] = "button",
   };
   return names[kind];
 }
@@ -78,9 +69,12 @@ const char *key_event_kind_name(uint8_t kind) {
   return kind == HED_KEY_EVENT_KIND_RELEASE ? "release" : "press";
 }
 
-const char *side_button_name(uint8_t flags) {
-  if (flags == HED_SIDE_BUTTON_DRAG) return "drag";
-  return flags == HED_SIDE_BUTTON_RELEASE ? "release" : "press";
+const char *mouse_kind_name(uint8_t kind) {
+  static const char *const names[] = {
+    [HED_MOUSE_KIND_PRESS] = "press", [HED_MOUSE_KIND_RELEASE] = "release", [HED_MOUSE_KIND_DRAG] = "drag",
+    [HED_MOUSE_KIND_MOVE] = "move",   [HED_MOUSE_KIND_WHEEL] = "wheel",
+  };
+  return names[kind];
 }
 
 void add_byte(text *out, uint8_t byte, bool is_hex) {

@@ -14,8 +14,7 @@ typedef struct flag {
 /* All modifiers, all buttons and all modifiers of a key report. The last has no name. */
 extern const flag modifier_flags[], button_flags[], kitty_modifier_flags[];
 
-/* The kind of an event in one word: key, mouse, paste, report, focus, cursor, resize, flags, csi, osc, dcs, apc, part, cut or
- * button. */
+/* The kind of an event in one word: key, mouse, paste, focus, cursor, resize, flags, csi, osc, dcs, apc, part or cut. */
 const char *kind_name(uint8_t kind);
 
 /* What a part or a cut is of: paste, osc, dcs or apc. NULL for an event of any other kind. */
@@ -24,8 +23,8 @@ const char *whole_name(const hed_extended_event *event);
 /* What happened to a key: press, repeat or release. */
 const char *key_event_kind_name(uint8_t kind);
 
-/* What happened to a side button: press, release or drag. */
-const char *side_button_name(uint8_t flags);
+/* What happened to the mouse: press, release, drag, move or wheel. NULL for 0, the kind of a report that the usual parser read. */
+const char *mouse_kind_name(uint8_t kind);
 
 /* Appends a byte: printable ASCII as itself, ESC, SP for a space, ^A to ^_ and ^? for control characters, others in hexadecimal. With
  * is_hex each byte is in hexadecimal. */

@@ -13,9 +13,8 @@ const char options_help[] =
     "  --mouse                     it reports the mouse\n"
     "  --bracketed-paste           it marks where a paste starts and ends\n"
     "  --focus                     it reports when its window gains or loses the focus\n"
-    "  --kitty-keyboard            it reports keys by Kitty's protocol, with repeats and releases; implies --extended=kitty\n"
-    "  --extended, --extended=kitty\n"
-    "                              also reads what terminals send beyond the sequence table; =kitty as Kitty's protocol means it\n"
+    "  --kitty-keyboard            it reports keys by Kitty's protocol, with repeats and releases; implies --extended\n"
+    "  --extended                  also reads what terminals send beyond the sequence table, as key reports and replies\n"
     "  --bindings=FILE             shows what the keys do by the bindings of a file, and which keys may follow;\n"
     "                              a line of it is a command and the keys of a chord: save ctrl+x ctrl+s\n"
     "  --hex                       bytes in hexadecimal\n"
@@ -31,7 +30,7 @@ static bool read_mode(options *it, const char *word) {
   for (size_t i = 0; i < MODE_COUNT; i++) {
     if (strcmp(word, all_modes[i].word) != 0) continue;
     it->modes[i] = true;
-    if (all_modes[i].wants_kitty) it->reading = READ_EXTENDED_KITTY;
+    if (all_modes[i].wants_extended) it->is_extended = true;
     return true;
   }
   text_add(&it->refused, "what is '%s'? --help lists the words", word);
@@ -54,20 +53,12 @@ static bool read_bindings(options *it, const char *word) {
   return it->refused.length == 0;
 }
 
-/* Which parser reads the input. Reading for Kitty's protocol goes before. */
-static bool read_reading(options *it, const char *word) {
-  if (strcmp(word, "--extended=kitty") == 0) it->reading = READ_EXTENDED_KITTY;
-  else if (strcmp(word, "--extended") != 0) return false;
-  else if (it->reading == READ_USUALLY) it->reading = READ_EXTENDED;
-  return true;
-}
-
 static bool read_word(options *it, const char *word) {
   static const char bindings[] = "--bindings=";
   if (*word != '-' || strcmp(word, "-") == 0) return read_file(it, word);
   if (strncmp(word, bindings, strlen(bindings)) == 0) return read_bindings(it, word + strlen(bindings));
-  if (read_reading(it, word)) return true;
   bool *is_asked = NULL;
+  if (strcmp(word, "--extended") == 0) is_asked = &it->is_extended;
   if (strcmp(word, "--hex") == 0) is_asked = &it->is_hex;
   if (strcmp(word, "--json") == 0) is_asked = &it->is_json;
   if (strcmp(word, "-h") == 0 || strcmp(word, "--help") == 0) is_asked = &it->wants_help;

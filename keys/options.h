@@ -3,13 +3,12 @@
 #define KEYS_OPTIONS_H
 
 #include "modes.h"
-#include "reader.h"
 #include "text.h"
 
 typedef struct options {
   bool is_hex, is_json;
   bool wants_help, wants_version;
-  reading reading;
+  bool is_extended; /* whether the extended parser reads the input */
   bool modes[MODE_COUNT];
   bool has_file;
   const char *file; /* NULL if none is named, or the standard input is */

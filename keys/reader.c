@@ -11,11 +11,17 @@ static size_t paste_start_length(const hed_parser *parser) {
   return 0;
 }
 
-bool reader_init(reader *it, reading how) {
-  it->is_extended = how != READ_USUALLY;
+/* A file or a pipe may have lines, which end with the byte 10. */
+static bool init_extended(reader *it, bool is_live) {
+  hed_reading reading = { .dialect = HED_DIALECT_EXTENDED, .newline = is_live ? HED_NEWLINE_CTRL_J : HED_NEWLINE_ENTER };
+  return hed_extended_init_sharing_parser(&it->extended, reading.dialect, &it->usual) && hed_extended_set_reading(&it->extended, &reading);
+}
+
+bool reader_init(reader *it, bool is_extended, bool is_live) {
+  it->is_extended = is_extended;
   if (!hed_parser_init(&it->usual)) return false;
   it->paste_start = paste_start_length(&it->usual);
-  return !it->is_extended || hed_extended_init(&it->extended, how == READ_EXTENDED_KITTY ? HED_PROTOCOL_KITTY : HED_PROTOCOL_LEGACY);
+  return !is_extended || init_extended(it, is_live);
 }
 
 bool reader_feed(reader *it, const uint8_t *bytes, size_t length) {
@@ -23,7 +29,7 @@ bool reader_feed(reader *it, const uint8_t *bytes, size_t length) {
   return it->is_extended ? hed_extended_feed(&it->extended, bytes, length) : hed_parser_feed(&it->usual, bytes, length);
 }
 
-/* The modifiers of a key of the sequence table as those of a report. */
+/* The modifiers of a key of the usual parser as those of a report. It has no others. */
 static uint8_t held_of(uint16_t modifiers) {
   unsigned held = HED_KITTY_MOD_NONE;
   if (modifiers & HED_TERMWIZ_MOD_SHIFT) held |= HED_KITTY_MOD_SHIFT;
@@ -32,39 +38,42 @@ static uint8_t held_of(uint16_t modifiers) {
   return (uint8_t)held;
 }
 
-/* Writes an event of the usual parser as one of the extended parser, whose first kinds are the same. */
-static void extend(hed_extended_event *event, const hed_event *input) {
-  memset(event, 0, sizeof *event);
-  event->kind = input->kind;
-  event->input = *input;
-  event->text_len = input->paste_len;
-  if (input->kind != HED_KIND_KEY) return;
-  event->report = (hed_key_report){ .kind = HED_KEY_EVENT_KIND_PRESS,
-                                    .modifiers = held_of(input->modifiers),
-                                    .key = input->key,
-                                    .detail = input->detail,
-                                    .shifted = HED_NO_CODE,
-                                    .base = HED_NO_CODE };
+static hed_key_report report_of(const hed_event *input) {
+  return (hed_key_report){ .kind = HED_KEY_EVENT_KIND_PRESS,
+                           .modifiers = held_of(input->modifiers),
+                           .key = input->key,
+                           .detail = input->detail,
+                           .shifted = HED_NO_CODE,
+                           .base = HED_NO_CODE };
 }
 
-/* Passes on what a call of the usual parser returned, with its event. */
-static uint32_t pass_on(uint32_t returned, const hed_event *input, hed_extended_event *event) {
-  if (returned == HED_NEXT_EVENT) extend(event, input);
+/* What happened to the mouse isn't known. */
+static hed_mouse_report mouse_of(const hed_event *input) {
+  return (hed_mouse_report){ .buttons = input->buttons, .modifiers = input->modifiers, .x = input->x, .y = input->y };
+}
+
+/* Passes on what a call of the usual parser returned, with its event as one of the extended parser: their kinds are the same. */
+static uint32_t pass_on(const reader *it, uint32_t returned, hed_extended_event *event) {
+  const hed_event *input = &it->input;
+  if (returned != HED_NEXT_EVENT) return returned;
+  memset(event, 0, sizeof *event);
+  event->kind = input->kind;
+  event->text_len = input->paste_len;
+  if (input->kind == HED_KIND_KEY) event->report = report_of(input);
+  if (input->kind == HED_KIND_MOUSE) event->mouse = mouse_of(input);
   return returned;
 }
 
 uint32_t reader_next(reader *it, bool more, hed_extended_event *event) {
-  hed_event input;
   uint32_t next =
-      it->is_extended ? hed_extended_next(&it->extended, more, event) : pass_on(hed_parser_next(&it->usual, more, &input), &input, event);
+      it->is_extended ? hed_extended_next(&it->extended, more, event) : pass_on(it, hed_parser_next(&it->usual, more, &it->input), event);
   if (next == HED_NEXT_EVENT && event->kind != HED_KIND_STRING_PART) it->is_cut = false;
   return next;
 }
 
 uint32_t reader_take_paste(reader *it, size_t limit, hed_extended_event *event) {
-  hed_event input;
   if (it->is_extended) return hed_extended_take_paste(&it->extended, limit, event);
-  return pass_on(hed_parser_take_paste(&it->usual, limit, &input), &input, event);
+  return pass_on(it, hed_parser_take_paste(&it->usual, limit, &it->input), event);
 }
 
 /* How long what may have lost its end still waits for it. */
@@ -81,18 +90,16 @@ int32_t reader_timeout(reader *it, uint64_t now) {
 
 /* Ends it where it is. */
 static uint32_t end_cut(reader *it, hed_extended_event *event) {
-  hed_event input;
   if (reader_waiting_kind(it) == HED_WAITING_STRING) return reader_next(it, false, event);
   it->is_cut = false;
   if (it->is_extended) return hed_extended_end_paste(&it->extended, event);
-  return pass_on(hed_parser_end_paste(&it->usual, &input), &input, event);
+  return pass_on(it, hed_parser_end_paste(&it->usual, &it->input), event);
 }
 
 uint32_t reader_expire(reader *it, uint64_t now, hed_extended_event *event) {
-  hed_event input;
   if (it->is_cut && cut_timeout(it, now) == 0) return end_cut(it, event);
   if (it->is_extended) return hed_extended_expire(&it->extended, now, event);
-  return pass_on(hed_parser_expire(&it->usual, now, &input), &input, event);
+  return pass_on(it, hed_parser_expire(&it->usual, now, &it->input), event);
 }
 
 size_t reader_text(const reader *it, uint8_t *out, size_t length) {
@@ -113,8 +120,8 @@ static bool press_of_report(const reader *it, const hed_extended_event *event, h
 }
 
 size_t reader_presses(const reader *it, const hed_extended_event *event, hed_key_press presses[2]) {
-  if (event->kind == HED_KIND_KEY) return hed_key_of_event(&event->input, presses);
-  if (event->kind != HED_KIND_REPORT || !press_of_report(it, event, presses)) return 0;
+  if (!it->is_extended) return hed_key_of_event(&it->input, presses);
+  if (event->kind != HED_KIND_KEY || !press_of_report(it, event, presses)) return 0;
   return 1 + hed_key_second(&event->report, presses + 1);
 }
 

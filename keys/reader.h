@@ -4,24 +4,19 @@
 
 #include "hedrugal.h"
 
-typedef enum reading {
-  READ_USUALLY,
-  READ_EXTENDED, /* by the extended parser, each entry of the sequence table with its key */
-  READ_EXTENDED_KITTY /* by the extended parser, for Kitty's keyboard protocol */
-} reading;
-
 typedef struct reader {
   bool is_extended;
   hed_extended extended;
-  hed_parser usual; /* reads the input, or tells the extended one the entries of the sequence table */
+  hed_parser usual; /* reads the input, or tells the entries of the sequence table */
+  hed_event input; /* the last event of the usual parser, if that reads the input */
   size_t paste_start; /* the length of the sequence that starts a paste */
   bool is_cut; /* whether a paste or a string is open that may have lost its end, since another program had the terminal */
   bool is_fed; /* whether that was, or bytes came, since the time was told last */
   uint64_t fed; /* when the time was told after that */
 } reader;
 
-/* Returns false if memory is refused. Either way the caller owes a reader_free. */
-bool reader_init(reader *it, reading how);
+/* is_live says whether the input is a terminal. Returns false if memory is refused. Either way the caller owes a reader_free. */
+bool reader_init(reader *it, bool is_extended, bool is_live);
 
 bool reader_feed(reader *it, const uint8_t *bytes, size_t length);
 

@@ -173,34 +173,26 @@ static void add_code(text *out, const char *name, uint32_t code) {
   if (code != HED_NO_CODE) text_add(out, " %s U+%04X", name, (unsigned)code);
 }
 
+/* That a key was pressed isn't told. */
 static void add_report(text *out, const group *of) {
   const hed_key_report *report = &of->event.report;
-  text_add(out, "report ");
+  text_add(out, "key ");
   add_key(out, report->key, report->detail);
   text_add(out, " ");
   add_flags(out, kitty_modifier_flags, report->modifiers);
-  text_add(out, " %s", key_event_kind_name(report->kind));
+  if (report->kind != HED_KEY_EVENT_KIND_PRESS) text_add(out, " %s", key_event_kind_name(report->kind));
   add_code(out, "shifted", report->shifted);
   add_code(out, "base", report->base);
   if (of->event.text_len > 0) add_text(out, " text", of);
 }
 
-static void add_side_button(text *out, const hed_extended_event *event) {
-  const hed_event *input = &event->input;
-  text_add(out, "button %u %s %u %u ", (unsigned)input->detail, side_button_name(event->flags), input->x, input->y);
-  add_flags(out, modifier_flags, input->modifiers);
-}
-
-static void add_input(text *out, const hed_event *event) {
-  if (event->kind == HED_KIND_MOUSE) {
-    text_add(out, "mouse %u %u ", event->x, event->y);
-    add_flags(out, button_flags, event->buttons);
-  } else {
-    text_add(out, "key ");
-    add_key(out, event->key, event->detail);
-  }
+static void add_mouse(text *out, const hed_mouse_report *report) {
+  text_add(out, "mouse %u %u ", report->x, report->y);
+  add_flags(out, button_flags, report->buttons);
   text_add(out, " ");
-  add_flags(out, modifier_flags, event->modifiers);
+  add_flags(out, modifier_flags, report->modifiers);
+  if (report->kind != 0) text_add(out, " %s", mouse_kind_name(report->kind));
+  if (report->button != 0) text_add(out, " %u", report->button);
 }
 
 static void add_event(text *out, const group *of) {
@@ -208,15 +200,13 @@ static void add_event(text *out, const group *of) {
   const char *whole = whole_name(event);
   if (whole) text_add(out, "%s ", whole);
   switch (event->kind) {
-    case HED_KIND_REPORT: add_report(out, of); break;
+    case HED_KIND_KEY: add_report(out, of); break;
+    case HED_KIND_MOUSE: add_mouse(out, &event->mouse); break;
     case HED_KIND_FOCUS_GAINED: text_add(out, "focus gained"); break;
     case HED_KIND_FOCUS_LOST: text_add(out, "focus lost"); break;
     case HED_KIND_CURSOR_POSITION: text_add(out, "cursor %u %u", event->row, event->column); break;
     case HED_KIND_RESIZE: text_add(out, "resize %u %u %u %u", event->rows, event->columns, event->height, event->width); break;
     case HED_KIND_KEYBOARD_FLAGS: text_add(out, "keyboard flags %u", event->flags); break;
-    case HED_KIND_SIDE_BUTTON: add_side_button(out, event); break;
-    case HED_KIND_KEY:
-    case HED_KIND_MOUSE: add_input(out, &event->input); break;
     default: add_text(out, kind_name(event->kind), of);
   }
 }

@@ -1,11 +1,13 @@
 """A plain model of the extended parser, for what a key sends: the sequence table of
-docs/GRAMMAR.md, and the keys and reports of docs/EXTENDED.md. Strings and pastes are left out.
+docs/GRAMMAR.md, and the keys and reports of docs/EXTENDED.md. Strings and pastes are left out, and
+so is the dialect of termwiz.
 
 `read` feeds bytes as a program does whose user makes a pause after a key: more may come, and then
 a lone ESC, and ESC and one byte, are flushed."""
 import functools
 import re
 import unicodedata
+from typing import NamedTuple
 
 from presses import ALT, CTRL, SHIFT, press
 
@@ -21,7 +23,9 @@ RXVT_HIGH = {str(35 + it): f"f{21 + it}" for it in range(4)}
 TILDE = EDIT | NUMBERED | HIGH | RXVT_HIGH
 URXVT = {it: EDIT[it] for it in "235678"} | NUMBERED | RXVT_HIGH
 URXVT_ENDS = {"^": CTRL, "@": CTRL | SHIFT, "$": SHIFT}
-RXVT_OR_KEYPAD = re.compile(rb"\x1bO[MXEGj-y]|\x1b\[(\d+[$^@]|3[5-8]~|[0-9;:]*Z|[2-8][A-FHP-S]|G)")
+RXVT_OR_KEYPAD = re.compile(
+    rb"\x1bO[MXEGj-y]|\x1b\[(\d+[$^@]|3[5-8]~|[0-9;:]*Z|[2-8][A-FHP-S]|[EG])"
+)
 SHIFTED = re.compile(rb"\x1b\[(%s)\$" % "|".join(URXVT).encode())
 KEYPAD = {"M": 57414, "X": 57415, "E": "keypadbegin", "G": "keypadbegin"}
 KEYPAD |= dict(zip("jklmno", "multiply add separator subtract decimal divide".split()))
@@ -29,6 +33,24 @@ KEYPAD |= dict(zip("pqrstuvwxy", (f"numpad{it}" for it in range(10))))
 SUFFIXES = {"": 0} | {f";{it}": it - 1 for it in range(1, 9)}
 META_SUFFIXES = SUFFIXES | {f";{it}": (it - 1) & 5 | ALT for it in range(9, 17)}
 OF_CODE = {8: "backspace", 127: "backspace", 27: "escape", 9: "tab", 10: "enter", 13: "enter"}
+
+
+class Reading(NamedTuple):
+    """How many questions for the cursor are open, which byte the Backspace key sends, and whether
+    byte 10 is the Enter key."""
+
+    questions: int = 0
+    erase: int = 127
+    is_enter: bool = False
+
+
+def key_of_byte(byte, reading):
+    """The key of a byte that the reading decides, or None."""
+    if byte in (8, 127):
+        return "backspace" if byte == reading.erase else chr(byte)
+    if byte == 10:
+        return "enter" if reading.is_enter else "\n"
+    return None
 
 
 @functools.cache
@@ -112,8 +134,29 @@ def report(key, mods, kind="", **more):
     return ("release" if is_release else "key", key, int(mods or 1) - 1, more)
 
 
-def key_report(t):
-    """The event of ESC [ and t as a key or a cursor's position, or None. Nobody asks for one."""
+def third_key(t, is_asked):
+    """F3 with modifiers, or None. While a question is open, it is none that tells a row and a
+    column."""
+    m = re.fullmatch(r"(1?)(?:;(\d{0,7})(:\d)?)?R", t)
+    if not m or is_asked and m[1] and m[2] and not m[3]:
+        return None
+    if not 1 <= int(m[2] or 1) <= 256:
+        return None
+    return report("f3", m[2], m[3] or "")
+
+
+def position(t):
+    """The reply to a question for the cursor, or None."""
+    m = re.fullmatch(r"(\??)(\d{1,5});(\d{1,5})(?:;(\d{1,5}))?R", t)
+    if not m or m[4] and not m[1]:
+        return None
+    row, column = int(m[2]), int(m[3])
+    is_told = 1 <= row <= 65535 and 1 <= column <= 65535 and int(m[4] or 0) <= 65535
+    return ("reply", t) if is_told else None
+
+
+def key_report(t, is_asked=False):
+    """The event of ESC [ and t as a key or a cursor's position, or None."""
     number, mods = r"(\d{1,7})", r"(?:;(\d{0,7})(:\d)?)?"
     letters = CURSOR | FUNCTION | {"E": "keypadbegin"}
     try:
@@ -132,11 +175,8 @@ def key_report(t):
             key = OF_CODE.get(int(m[2])) or (scalar(m[2]) if int(m[2]) else 0)
             is_shifted = (int(m[1]) - 1) & SHIFT and unicodedata.category(scalar(m[2])) != "Cc"
             return report(key, m[1], shifted=key if is_shifted else None)
-        if (m := re.fullmatch(rf"1?{mods}R", t)) and 1 <= int(m[1] or 1) <= 256:
-            return report("f3", m[1], m[2] or "")
-        if m := re.fullmatch(r"\??(\d{1,5});(\d{1,5})R|\?(\d{1,5});(\d{1,5});(\d{1,5})R", t):
-            if all(int(it) <= 65535 for it in m.groups() if it):
-                return ("reply", t)
+        if t.endswith("R") and (found := third_key(t, is_asked) or position(t)):
+            return found
         if (m := re.fullmatch(rf"1?{mods}([A-Z])", t)) and m[3] in letters:
             return report(letters[m[3]], m[1], m[2] or "")
         if m := re.fullmatch(r"1?;(\d{0,7})(:\d)?Z", t):
@@ -153,7 +193,7 @@ def key_report(t):
     return None
 
 
-def extra(text, is_kitty):
+def extra(text, reading):
     """The extra sequence that begins a text, as its length and its event, or None."""
     if m := re.match(rb"\x1b\[\[([A-E])", text):
         return 4, ("key", f"f{m[1][0] - 64}", 0, {})
@@ -166,8 +206,8 @@ def extra(text, is_kitty):
     if not m or len(m[0]) > 256:
         return None
     t = m[0][2:].decode()
-    event = key_report(t)
-    if m[0] in rows() and not (is_kitty and event):
+    event = key_report(t, reading.questions > 0)
+    if m[0] in rows() and not event:
         return None
     if t == "I" or t == "O":
         event = ("focus", t)
@@ -199,13 +239,13 @@ def character(text):
     return 1, "\ufffd"
 
 
-def item(text, is_kitty):
+def item(text, reading):
     """The first item of a text of which nothing is open: its length and its event."""
-    if found := extra(text, is_kitty):
+    if found := extra(text, reading):
         return found
     after = text[1:]
     if text[:1] == b"\x1b" and after:
-        found = extra(after, is_kitty)
+        found = extra(after, reading)
         longest = max((it for it in range(2, 12) if text[:it] in rows()), default=1)
         if longest > 1:
             key, held = rows()[text[:longest]]
@@ -215,33 +255,37 @@ def item(text, is_kitty):
         if found:
             length, (kind, key, held, more) = found
             return length + 1, (kind, key, held | ALT, more)
-        row = max((it for it in range(1, 12) if after[:it] in rows()), default=0)
-        if row:
-            key, held = rows()[after[:row]]
-            return row + 1, ("key", key, held | ALT, {})
-        length, key = character(after)
-        return length + 1, ("key", key, ALT, {})
+        length, key, held = typed(after, reading)
+        return length + 1, ("key", key, held | ALT, {})
+    length, key, held = typed(text, reading)
+    return length, ("key", key, held, {})
+
+
+def typed(text, reading):
+    """The row or the character that begins a text: its length, its key and its modifiers."""
+    if key := key_of_byte(text[0], reading):
+        return 1, key, 0
     longest = max((it for it in range(1, 12) if text[:it] in rows()), default=0)
     if longest:
-        key, held = rows()[text[:longest]]
-        return longest, ("key", key, held, {})
-    length, key = character(text)
-    return length, ("key", key, 0, {})
+        return longest, *rows()[text[:longest]]
+    return *character(text), 0
 
 
-def read(data, is_kitty):
+def read(data, reading=Reading()):
     """The events of bytes, each a kind and a press or what else it tells, and how many bytes
-    stay buffered."""
+    stay buffered. Each position of the cursor answers a question."""
     events = []
     while data:
         waits = is_open(data) or data[:1] == b"\x1b" and is_open(data[1:])
         if waits and len(data) > 2:
             break
-        length, event = item(data, is_kitty)
+        length, event = item(data, reading)
         data = data[length:]
         kind, key, *rest = event
         if kind in ("key", "release"):
             held, more = rest
             key = press(key, held, **more)
+        if kind == "reply" and reading.questions:
+            reading = reading._replace(questions=reading.questions - 1)
         events.append((kind, key))
     return events, len(data)

@@ -53,8 +53,8 @@ MAIN_KEYS = {
     **dict(zip("multiply add separator subtract decimal divide".split(), "*+,-./")),
 }
 
-# Rule 6.
-OF_CONTROL = {9: "tab", 13: "enter", 27: "escape", 127: "backspace"}
+# Rule 6: control characters that are keys by themselves.
+OF_CONTROL = {9: "tab", 13: "enter", 27: "escape"}
 
 # Rule 8: the cased letters, and the signs of Shift.
 CASED = set("abcdefghijklmnopqrstuvwxyz") | {chr(it) for it in range(0xE0, 0xFF)} - {"\xf7"}
@@ -62,6 +62,11 @@ CASED |= {chr(it) for it in range(0x3B1, 0x3CC)} - {"\u03c2"}
 CASED |= {chr(it) for it in range(0x430, 0x460)}
 CAPITALS = {it.upper(): it for it in CASED}
 SIGNS_OF_SHIFT = set('~!@#$%^&*()_+{}|:"<>?')
+
+# What Shift makes of the keys of a PC-101 keyboard, but for letters.
+SHIFT_ON_PC_101 = dict(zip("`1234567890-=[]\\;',./", '~!@#$%^&*()_+{}|:"<>?'))
+# The keys that send these characters on some terminals.
+OF_SECOND = {"\b": ("backspace", CTRL), "\n": ("enter", 0)}
 
 # The characters that are printed as they are.
 SEEN = [
@@ -80,6 +85,13 @@ PRINTED = {
 
 def is_control(character):
     return unicodedata.category(character) == "Cc"
+
+
+def of_ctrl(code):
+    """The key that sends another control character of ASCII with Ctrl."""
+    if code in (0, 127):
+        return "backspace" if code else " "
+    return chr(code + (96 if code < 27 else 64))
 
 
 def canonical(key, held, text="", shifted=None, is_release=False):
@@ -105,9 +117,7 @@ def canonical(key, held, text="", shifted=None, is_release=False):
         if ord(key) in OF_CONTROL:
             key = OF_CONTROL[ord(key)]
         else:
-            code = ord(key)
-            key = " " if code == 0 else chr(code + (96 if code < 27 else 64))
-            held |= CTRL
+            key, held = of_ctrl(ord(key)), held | CTRL
     if len(str(key)) == 1 and not isinstance(key, int):
         if held & SHIFT and key != " " and shifted is not None:
             key, held = shifted, held & ~SHIFT
@@ -118,6 +128,25 @@ def canonical(key, held, text="", shifted=None, is_release=False):
         if key in CAPITALS and held & (CTRL | SUPER | HYPER | META):
             key, held = CAPITALS[key], held | SHIFT
     return (key, held)
+
+
+def second(key, held, shifted=None, base=None):
+    """The second press of a report without a text, or None."""
+    held &= ~(CAPS_LOCK | NUM_LOCK)
+    if not isinstance(key, str) or len(key) > 1:
+        return None
+    shifted, base = (None if it and is_control(it) else it for it in (shifted, base))
+    if base is not None and key >= "\x80" and held & ~SHIFT:
+        return canonical(base, held, shifted=SHIFT_ON_PC_101.get(base))
+    if shifted not in (None, key) and held & SHIFT and held & ~SHIFT:
+        untold = canonical(key, held)
+        # Rule 9 kept SHIFT, and rule 7 dropped it.
+        if key != " " and untold == (key, held) and key not in CASED:
+            return untold
+    if key in OF_SECOND:
+        named, control = OF_SECOND[key]
+        return named, held | control
+    return None
 
 
 def printed(press):

@@ -42,42 +42,60 @@ def set_signals(handler):
 
 def run_shell(words, env, group, told):
     """Runs a job in the foreground, and tells its id and each change of its status. When the job
-    stops, the shell has the terminal; SIGUSR1 continues the job in the foreground."""
+    stops, the shell has the terminal; SIGUSR1 continues the job in the foreground. Both signals are
+    waited for, since a handler may run just before the shell waits for the job."""
+    awaited = {signal.SIGCHLD, signal.SIGUSR1}
 
     def take_terminal():
         os.tcsetpgrp(0, os.getpgrp())
         set_signals(signal.SIG_DFL)
-
-    def continue_job(*_):
-        os.tcsetpgrp(0, job.pid)
-        os.kill(job.pid, signal.SIGCONT)
+        signal.pthread_sigmask(signal.SIG_UNBLOCK, awaited)
 
     set_signals(signal.SIG_IGN)
-    signal.signal(signal.SIGUSR1, continue_job)
+    signal.pthread_sigmask(signal.SIG_BLOCK, awaited)
     job = subprocess.Popen(words, env=env, process_group=group, preexec_fn=take_terminal)
     told.send(job.pid)
     is_running = True
     while is_running:
-        _, status = os.waitpid(job.pid, os.WUNTRACED)
-        is_running = os.WIFSTOPPED(status)
-        if is_running:
-            os.tcsetpgrp(0, os.getpgrp())
-        told.send(status)
+        if signal.sigwait(awaited) == signal.SIGUSR1:
+            os.tcsetpgrp(0, job.pid)
+            os.kill(job.pid, signal.SIGCONT)
+            continue
+        changed, status = os.waitpid(job.pid, os.WUNTRACED | os.WNOHANG)
+        if changed:
+            is_running = os.WIFSTOPPED(status)
+            if is_running:
+                os.tcsetpgrp(0, os.getpgrp())
+            told.send(status)
 
 
 class Terminal(fdspawn):
     """A pseudo-terminal on which a program runs. An orphaned program stays in the group of the
     shell, as below a shell without job control. The system then never stops it by SIGTSTP, since no
-    shell could continue it. A stopped terminal takes nothing of what the program writes."""
+    shell could continue it. A stopped terminal takes nothing of what the program writes. Its
+    settings say which byte Backspace sends, and whether CR that comes is turned into LF."""
 
-    def __init__(self, words, size=(80, 24), is_orphaned=False, env=None, is_stopped=False):
+    def __init__(
+        self,
+        words,
+        size=(80, 24),
+        is_orphaned=False,
+        env=None,
+        is_stopped=False,
+        erase=b"\x7f",
+        has_icrnl=True,
+    ):
         ours, terminal = os.openpty()
         super().__init__(ours, timeout=SECONDS)
         self.logfile_read = io.BytesIO()
         self.resize(*size)
         # Nobody's default, so that only a program that kept these settings can restore them.
-        unusual = {termios.VERASE: b"\x08", termios.VINTR: b"\x07"}
+        unusual = {termios.VERASE: erase, termios.VKILL: b"\x14", termios.VINTR: b"\x07"}
         change_settings(terminal, unusual, off=termios.ECHOE)
+        if not has_icrnl:
+            settings = termios.tcgetattr(terminal)
+            settings[IFLAG] &= ~termios.ICRNL
+            termios.tcsetattr(terminal, termios.TCSANOW, settings)
         self.settings_before = self.settings()
         if is_stopped:
             termios.tcflow(terminal, termios.TCOOFF)

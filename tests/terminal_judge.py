@@ -2,41 +2,55 @@
 
 Each press is read whole and byte by byte, with more to come; then what waits is flushed, if it is a
 lone ESC or ESC and one byte, as after a pause. It is read exactly if one key comes of it, and its
-press or its second press is one of those that are right. Modes of Kitty's flags are read by Kitty's
-protocol."""
+press or its second press is one of those that are right."""
 import dataclasses
 import functools
 
-from terminal_data import is_kitty
+
+# The terminals whose Backspace sends byte 8.
+SEND_8 = ("qterminal",)
+
+
+def reader_of(terminal):
+    """The reader of a program in this terminal, whose settings say which byte Backspace sends."""
+    return "erase" if terminal in SEND_8 else "extended"
 
 
 @functools.cache
 def parsers():
     """The parsers by name: the port's, and the extended one by several readings. `asked` is that
-    of a program that asked for the cursor's position."""
-    from hedrugal import ExtendedParser, InputParser, Protocol, Reading
+    of a program that asked for the cursor's position, and `erase` that of one whose terminal sends
+    byte 8 for Backspace."""
+    from hedrugal import EraseByte, ExtendedParser, InputParser, Reading
 
     readings = {
-        "legacy": Reading(Protocol.LEGACY),
-        "kitty": Reading(Protocol.KITTY),
-        "x10": Reading(Protocol.LEGACY, x10_mouse=True),
-        "asked": Reading(Protocol.LEGACY, questions=1),
+        "extended": Reading(),
+        "x10": Reading(x10_mouse=True),
+        "asked": Reading(questions=1),
+        "erase": Reading(erase=EraseByte.BACKSPACE),
     }
     extended = {name: (ExtendedParser(), reading) for name, reading in readings.items()}
     return {"port": (InputParser(), None), **extended}
 
 
-def reader_of(mode):
-    return "kitty" if is_kitty(mode) else "legacy"
-
-
 def read_pieces(reader, pieces):
     """The events of pieces, and how many bytes stay buffered after a pause."""
-    from hedrugal import Waiting
-
     parser, reading = parsers()[reader]
     if reading:
         parser.reading = reading
+    return events_of(parser, pieces)
+
+
+def read_by(reading, pieces):
+    """The same by any reading."""
+    parser, _ = parsers()["extended"]
+    parser.reading = reading
+    return events_of(parser, pieces)
+
+
+def events_of(parser, pieces):
+    from hedrugal import Waiting
+
     events = [event for piece in pieces for event in parser.parse(piece)]
     flushed = parser.flush_escape()
     events += [flushed] if flushed is not None else []
@@ -59,12 +73,15 @@ def read(reader, data):
 def told(reader, data):
     """What is told by bytes if they are one key: `press` or `release`, and the names of its press
     and of its second one. A key that is no press by itself is `none`."""
-    from hedrugal import KeyEventKind, KeyPress, key_report
+    from hedrugal import KeyEvent, KeyEventKind, KeyPress, KeyReport
 
     events, rest = read(reader, data)
-    report = key_report(events[0]) if len(events) == 1 and not rest else None
-    if report is None:
+    event = events[0] if len(events) == 1 and not rest else None
+    if isinstance(event, KeyEvent):
+        return "press", [str(it) for it in [KeyPress.of_event(event)] if it] or ["none"]
+    if not isinstance(event, KeyReport):
         return "", []
+    report = event
     kind = "release" if report.kind is KeyEventKind.RELEASE else "press"
     report = dataclasses.replace(report, kind=KeyEventKind.PRESS)
     presses = KeyPress.of_report(report), KeyPress.second(report)

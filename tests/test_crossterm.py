@@ -41,7 +41,7 @@ KEYS = {
         csi(code, kind, "u") for code in [9, 13, 27, 97, 127, 57358, 57399, 57442] for kind in KINDS
     ],
     "CSI u with more": [csi(it) for it in ["97:65;2u", "1092::97;5:3u", "97;;97u", "97;256u"]],
-    "CSI u with a text": [csi("0;;102:105u")],
+    "CSI u with a text": [csi("0;;102:105u"), csi("0;;229u")],
     "modifyOtherKeys": [
         csi("27", more, ";", code, "~")
         for code in [9, 13, 27, 127, *CHARACTERS]
@@ -64,12 +64,11 @@ KEYS = {
 # Where this package has other events than crossterm: the reason, the bytes, and either others of
 # which crossterm has these events, or the events themselves.
 RULES = [
-    ("BS is Backspace", r"(\033?)\x08", lambda it: it[1] + "\x7f"),
-    ("LF is Enter", r"(\033?)\n", lambda it: it[1] + "\r"),
     ("ESC is Escape with Alt after ESC", r"\033\033", "\033[27;3u"),
-    ("BS is Backspace", r"\033\[8u", "\x7f"),
-    ("LF is Enter", r"\033\[10u", "\r"),
+    ("the number 8 is Backspace", r"\033\[8u", "\x7f"),
+    ("the number 10 is Enter", r"\033\[10u", "\r"),
     ("the number 0 is text without a key", r"\033\[0u", []),
+    ("the number 0 is text without a key", r"\033\[0;;229u", "å"),
     (
         "a control character is the key that sends it",
         r"\033\[([1-7]|11|12|1[4-9]|2[0-689]|3[01])u",
@@ -239,6 +238,25 @@ def test_mouse(readers, form, button, held):
     assert ours.events(sent[0]) == theirs.events(sent[1])
     is_same = form == as_sgr or button == 0
     assert (theirs.events(sent[0]) == theirs.events(sent[1])) == is_same
+
+
+# What VERASE is, and the keys of the bytes 8 and 127.
+ERASE = {
+    "127": (b"\x7f", "Char('h') CONTROL", "Backspace NONE"),
+    "8": (b"\x08", "Backspace NONE", "Backspace CONTROL"),
+}
+
+
+@pytest.mark.parametrize("has_icrnl", [True, False], ids=["ICRNL", "no ICRNL"])
+@pytest.mark.parametrize("erase, eight, last", ERASE.values(), ids=ERASE)
+def test_settings(program, erase, eight, last, has_icrnl):
+    """Which byte Backspace sends is taken from them. In raw mode LF is Ctrl-J."""
+    with Reader(program, erase=erase, has_icrnl=has_icrnl) as reader:
+        reader.expect_exact("q ends\r\n")
+        keys = [eight, last, "Char('j') CONTROL", "Enter NONE"]
+        assert reader.events(b"\x08\x7f\n\r") == [f"{key} Press NONE" for key in keys]
+        reader.play([b"q"])
+        assert reader.wait_for_end() == 0
 
 
 @pytest.mark.parametrize("number", [signal.SIGSTOP, signal.SIGTSTP], ids=lambda it: it.name)

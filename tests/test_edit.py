@@ -15,11 +15,9 @@ from terminal_data import FOLDER, load
 
 KEYS = TOP / "docs/edit.keys"
 ENTER, LEAVE = b"\033[?2004h\033[>4;2m\033[>5u", b"\033[<u\033[>4m\033[?2004l"
-QUESTIONS = b"\033[?u\033[c"
 # How long the rest of a chord may take, in seconds, and a pause that is shorter.
 CHORD_PAUSE, SHORT_PAUSE = 1.0, 0.6
 PASTE_LIMIT = 1 << 20
-FLAGS = b"\033[?5u"
 AFTER_X = ["pending: ctrl+x", "  ctrl+c  quit", "  ctrl+s  save"]
 AFTER_G = ["pending: g", "  g  top"]
 AFTER_F10 = ["pending: f10", "  q  quit", "  s  save", "  t  top"]
@@ -34,7 +32,7 @@ class Edit(Terminal):
     def lines(self):
         """The lines that the program printed, in which there is no control character."""
         text = self.output
-        for it in (ENTER, QUESTIONS, LEAVE):
+        for it in (ENTER, LEAVE):
             text = text.replace(it, b"")
         text = text.decode()
         assert not re.search(r"[^\r\n -~\u00a0-\U0010ffff]", text), text
@@ -43,7 +41,7 @@ class Edit(Terminal):
     def check_end(self, status, *lines):
         super().check_end(status)
         assert self.lines() == [*filter(None, [self.FIRST]), *lines]
-        assert self.output.startswith(ENTER + QUESTIONS) and self.output.endswith(LEAVE)
+        assert self.output.startswith(ENTER) and self.output.endswith(LEAVE)
         assert self.output.count(ENTER) == self.output.count(LEAVE) == self.entered
 
     def quit(self, *lines):
@@ -59,8 +57,8 @@ def program(request, example):
 
 @pytest.fixture
 def start(program, on_terminal):
-    def run(keys=KEYS, first=Edit.FIRST):
-        edit = Edit([*program, keys])
+    def run(keys=KEYS, first=Edit.FIRST, **how):
+        edit = Edit([*program, keys], **how)
         edit.FIRST = first
         return on_terminal(edit)
 
@@ -173,22 +171,28 @@ TYPED = {
     ),
     "Escape alone": ([b"\033", "unbound: escape\r\n", b"a"], ["unbound: escape", *A]),
     "a Cyrillic layout": (
-        [FLAGS + CYRILLIC_X + CYRILLIC_S],
+        [CYRILLIC_X + CYRILLIC_S],
         [*AFTER_X, "saved 0 characters"],
     ),
     "a Cyrillic key without a command": (
-        [FLAGS + CYRILLIC_X + CYRILLIC_A],
+        [CYRILLIC_X + CYRILLIC_A],
         [*AFTER_X, "unbound: ctrl+x", "unbound: ctrl+ф"],
     ),
-    "a report of two characters": ([FLAGS + b"\033[0;;102:105u"], ["text: fi|"]),
+    "a report of two characters": ([b"\033[0;;102:105u"], ["text: fi|"]),
     "two characters behind a key that is pending": (
-        [FLAGS + b"g\033[0;;102:105u"],
+        [b"g\033[0;;102:105u"],
         [*AFTER_G, "text: fi|"],
     ),
-    "events that are no presses": ([FLAGS + b"abg" + OTHERS + b"g"], TOP_OF_AB),
-    "a key before and after the flags": (
-        [b"\033[1;9A" + FLAGS + b"\033[1;9A"],
-        ["unbound: alt+up", "unbound: super+up"],
+    "events that are no presses": ([b"abg" + OTHERS + b"g"], TOP_OF_AB),
+    "keys of several protocols": (
+        [b"\033[1;9A\033[107;5u\033[27;5;107~\033[1;5R\b\n"],
+        [
+            "unbound: super+up",
+            *2 * ["unbound: ctrl+k"],
+            "unbound: ctrl+f3",
+            "unbound: ctrl+h",
+            "text: \\n|",
+        ],
     ),
 }
 
@@ -199,6 +203,13 @@ def test_typed(start, steps, lines):
     edit = start()
     edit.play(steps)
     edit.quit(*lines)
+
+
+def test_backspace_that_sends_8(start):
+    """Then byte 127 is Backspace with Ctrl."""
+    edit = start(erase=b"\x08")
+    edit.send(b"ab\b\x7f")
+    edit.quit(*AB, "text: a|", "unbound: ctrl+backspace")
 
 
 def test_long_paste(start):
@@ -257,7 +268,7 @@ def test_without_quit(program, write_keys):
     """No line says how it ends."""
     with Edit([*program, write_keys(b"save x")]) as edit:
         edit.FIRST = None
-        edit.play([(ENTER + QUESTIONS).decode(), b"x", "saved 0 characters\r\n"])
+        edit.play([ENTER.decode(), b"x", "saved 0 characters\r\n"])
         edit.kill(signal.SIGTERM)
         edit.check_end(-signal.SIGTERM, "saved 0 characters")
 
@@ -295,7 +306,7 @@ def test_stop(start, number):
         termios.tcsetattr(edit.child_fd, termios.TCSANOW, edit.settings_before)
     edit.continue_in_foreground()
     edit.wait_for(lambda: edit.output.count(ENTER) == 2, "modes")
-    assert edit.is_raw() and edit.output.count(LEAVE) == edit.output.count(QUESTIONS) == 1
+    assert edit.is_raw() and edit.output.count(LEAVE) == 1
     edit.entered = 2
     edit.send(b"\r" + END + b"x")
     edit.quit(*AB, "text: abc\\x0d|", "text: abc\\x0dx|")
@@ -342,14 +353,14 @@ def encoded(press):
     return report.encode(flags | KittyKeyboardFlags.REPORT_ALTERNATE_KEYS)
 
 
-# The reply to ESC [?u, and what is sent for a press.
+# What is sent for a press.
 PROTOCOLS = {
-    "xterm": (b"", recorded("xterm", "default")),
-    "xterm, modifyOtherKeys": (b"", recorded("xterm", "mok2")),
-    "tmux": (b"", recorded("tmux-xterm", "default")),
-    "kitty, flag 1": (b"\033[?1u", recorded("kitty", "kitty1")),
-    "foot, flag 1": (b"\033[?1u", recorded("foot", "kitty1")),
-    "flags 1 and 4": (FLAGS, encoded),
+    "xterm": recorded("xterm", "default"),
+    "xterm, modifyOtherKeys": recorded("xterm", "mok2"),
+    "tmux": recorded("tmux-xterm", "default"),
+    "kitty, flag 1": recorded("kitty", "kitty1"),
+    "foot, flag 1": recorded("foot", "kitty1"),
+    "flags 1 and 4": encoded,
 }
 # Presses, and the lines that they print.
 SCRIPT = [
@@ -367,8 +378,8 @@ SCRIPT = [
 
 
 @pytest.mark.timed
-@pytest.mark.parametrize("reply, sent", PROTOCOLS.values(), ids=PROTOCOLS)
-def test_protocols(start, reply, sent):
+@pytest.mark.parametrize("sent", PROTOCOLS.values(), ids=PROTOCOLS)
+def test_protocols(start, sent):
     edit = start()
-    edit.send(reply + b"".join(sent(press) for names, _ in SCRIPT for press in names.split()))
+    edit.send(b"".join(sent(press) for names, _ in SCRIPT for press in names.split()))
     edit.check_end(0, *(line for _, lines in SCRIPT for line in lines))

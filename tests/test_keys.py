@@ -43,13 +43,22 @@ class Keys(Terminal):
 
     FIRST = HELLO
 
-    def __init__(self, *words, size=(80, 24), output_to=None, is_orphaned=False, **variables):
+    def __init__(
+        self,
+        *words,
+        size=(80, 24),
+        output_to=None,
+        is_orphaned=False,
+        erase=b"\x7f",
+        has_icrnl=True,
+        **variables,
+    ):
         if output_to:
             words = ["/bin/sh", "-c", f'exec "$0" "$@" > {output_to}', *words]
         env = os.environ | {"TERM": "xterm", "NO_COLOR": "1"} | variables
         env = {name: it for name, it in env.items() if it is not None}
         self.size = size
-        super().__init__(words, size, is_orphaned, env)
+        super().__init__(words, size, is_orphaned, env, erase=erase, has_icrnl=has_icrnl)
 
     def screen(self):
         return Screen(*self.size).take(re.sub(rb"(\033\[?[0-9;?>]*|\r)\Z", b"", self.output))
@@ -162,7 +171,7 @@ STRING = [
 KEYPAD = f"the beginning of a key with modifiers: {UP_TO}"
 KEYPAD_KEY = [
     "   1  ESC O 2 -> goes on in read 2",
-    "   2  (ESC O 2) P -> report F1 SHIFT press = shift+f1",
+    "   2  (ESC O 2) P -> key F1 SHIFT = shift+f1",
 ]
 # The words, what is typed in time, with texts to wait for and pauses, and the lines. The line of a
 # read says where its bytes went. A second ESC belongs to the group of the first.
@@ -243,6 +252,30 @@ SHOWN = {
 @pytest.mark.parametrize("words, typed, lines", SHOWN.values(), ids=SHOWN)
 def test_shown(show, words, typed, lines):
     show([typed], lines.split("\n"), *words)
+
+
+# The bytes 8, 127, 10 and 13 as the extended parser reads them where Backspace sends 127 or 8, and
+# as termwiz does.
+DECIDED = b"\b\x7f\n\r"
+BACKSPACE, ENTER = "key Backspace NONE = backspace", "key Enter NONE = enter"
+CTRL_H = "key U+0008 NONE = ctrl+h or ctrl+backspace"
+BY_127 = f"   1  ^H -> {CTRL_H} | ^? -> {BACKSPACE}"
+BY_8 = f"   1  ^H -> {BACKSPACE} | ^? -> key U+007F NONE = ctrl+backspace"
+BY_TERMWIZ = f"   1  ^H -> {BACKSPACE} | ^? -> {BACKSPACE}"
+CTRL_J = f" | ^J -> key U+000A NONE = ctrl+j or enter | ^M -> {ENTER}"
+BOTH_ENTER = f" | ^J -> {ENTER} | ^M -> {ENTER}"
+SETTINGS = {
+    "127": ("--extended", b"\x7f", BY_127 + CTRL_J),
+    "8": ("--extended", b"\x08", BY_8 + CTRL_J),
+    "8, termwiz": ("", b"\x08", BY_TERMWIZ + BOTH_ENTER),
+}
+
+
+@pytest.mark.parametrize("has_icrnl", [True, False], ids=["CR becomes LF", "CR stays"])
+@pytest.mark.parametrize("words, erase, line", SETTINGS.values(), ids=SETTINGS)
+def test_settings_of_the_terminal(show, words, erase, line, has_icrnl):
+    """In raw mode CR stays, whatever the settings were before."""
+    show([DECIDED], [line], *words.split(), size=WIDE, erase=erase, has_icrnl=has_icrnl)
 
 
 def test_long_paste(start):
@@ -360,10 +393,8 @@ def test_end_by_sequences(start):
 def test_kitty_keyboard(start):
     """In Kitty's protocol ^D is a report. Releases and modifier keys between two don't count."""
     keys = start("--kitty-keyboard", size=WIDE)
-    release = "ESC [ 9 7 ; 5 : 3 u -> report U+0061 CTRL release"
-    keys.play(
-        [b"\033[97;5:3u\033[A", [f"   1  {release} | ESC [ A -> report UpArrow NONE press = up"]]
-    )
+    release = "ESC [ 9 7 ; 5 : 3 u -> key U+0061 CTRL release"
+    keys.play([b"\033[97;5:3u\033[A", [f"   1  {release} | ESC [ A -> key UpArrow NONE = up"]])
     keys.send(b"\033[100;5u\033[100;5:3u\033[57442;5u\033[100;69u")
     keys.check_end(0)
 
@@ -568,14 +599,17 @@ EDGES = "\0\x7f\x80\u07ff\u0800\uffff\U00010000\U0010ffff"
 PASTED = {"kind": "paste", "length": len(EDGES.encode()), "text": EDGES}
 ALL_EDGES = [(START + EDGES.encode() + END, PASTED)]
 # What the table doesn't know, the line of each, and what is told of it in JSON.
-A = {"kind": "report", "key": "U+0061", "modifiers": ["SHIFT"], "action": "repeat"}
+A = {"kind": "key", "key": "U+0061", "modifiers": ["SHIFT"], "action": "repeat"}
 A.update(shifted=65, base=99, length=1, text="A", press="A")
-VOLUME = {"kind": "report", "key": "functional 57428", "modifiers": [], "action": "press"}
-VOLUME.update(length=0, text="", press="kitty57428")
-BACK = {"kind": "button", "number": 8, "action": "press", "x": 3, "y": 4, "modifiers": []}
-FORWARD = {**BACK, "number": 9, "action": "release", "modifiers": ["ALT"]}
+VOLUME = {"kind": "key", "key": "functional 57428", "modifiers": [], "action": "press"}
+VOLUME.update(press="kitty57428")
+BACK = {"kind": "mouse", "x": 3, "y": 4, "buttons": [], "modifiers": []}
+BACK.update(action="press", button=8)
+FORWARD = {**BACK, "button": 9, "action": "release", "modifiers": ["ALT"]}
+NO_BUTTON = {"kind": "mouse", "x": 3, "y": 4, "buttons": [], "modifiers": []}
+LEFT = {**BACK, "buttons": ["LEFT"], "button": 1}
 SIZE = {"kind": "resize", "rows": 24, "columns": 80, "height": 480, "width": 800}
-A_LINE = "report U+0061 SHIFT repeat shifted U+0041 base U+0063 text 1:41 = A"
+A_LINE = "key U+0061 SHIFT repeat shifted U+0041 base U+0063 text 1:41 = A"
 REPORTS = [
     (b"\033[97:65:99;2:2;65u", A_LINE, A),
     (b"\033[24;80R", "cursor 24 80", {"kind": "cursor", "row": 24, "column": 80}),
@@ -588,11 +622,14 @@ REPORTS = [
     (b"\033P>|\033\\", "dcs 2:3e7c", {"kind": "dcs", "length": 2, "data": "3e7c"}),
     (b"\033_Gi=\033\\", "apc 3:47693d", {"kind": "apc", "length": 3, "data": "47693d"}),
     (b"\033]4;", "osc cut 2:343b", {"kind": "cut", "of": "osc", "length": 2, "data": "343b"}),
-    (b"\033[57428u", "report functional 57428 NONE press = kitty57428", VOLUME),
-    (b"\033[<128;3;4M", "button 8 press 3 4 NONE", BACK),
-    (b"\033[<137;3;4m", "button 9 release 3 4 ALT", FORWARD),
-    (b"\033[162;3;4M", "button 10 press 3 4 NONE", {**BACK, "number": 10}),
-    (b"\033[<163;3;4M", "button 11 drag 3 4 NONE", {**BACK, "number": 11, "action": "drag"}),
+    (b"\033[57428u", "key functional 57428 NONE = kitty57428", VOLUME),
+    (b"\033[<128;3;4M", "mouse 3 4 NONE NONE press 8", BACK),
+    (b"\033[<137;3;4m", "mouse 3 4 NONE ALT release 9", FORWARD),
+    (b"\033[162;3;4M", "mouse 3 4 NONE NONE press 10", {**BACK, "button": 10}),
+    (b"\033[<163;3;4M", "mouse 3 4 NONE NONE drag 11", {**BACK, "button": 11, "action": "drag"}),
+    (b"\033[<0;3;4M", "mouse 3 4 LEFT NONE press 1", LEFT),
+    (b"\033[35;3;4M", "mouse 3 4 NONE NONE release", {**NO_BUTTON, "action": "release"}),
+    (b"\033[<35;3;4M", "mouse 3 4 NONE NONE move", {**NO_BUTTON, "action": "move"}),
 ]
 REPORTS_AS_LINE = " | ".join(f"{spelled(typed)} -> {line}" for typed, line, _ in REPORTS)
 REPORTS_AS_JSON = as_json((typed, told) for typed, _, told in REPORTS)
@@ -604,15 +641,30 @@ UP = b"\033[1;9A"
 # characters.
 NAMED = """   1  ^@ -> key U+0000 NONE = ctrl+space | A -> key U+0041 NONE = A
 ESC ^M -> key Enter ALT = alt+enter | SP -> key U+0020 NONE = space
-ESC [ 9 7 ; 5 : 3 u -> report U+0061 CTRL release | ESC [ 5 7 4 4 1 u -> report LeftShift NONE press
-ESC [ 9 7 ; ; 9 7 : 9 8 u -> report U+0061 NONE press text 2:6162
-ESC [ 1 0 8 9 : : 9 9 ; 5 u -> report U+0441 CTRL press base U+0063 = ctrl+U+0441 or ctrl+c
+ESC [ 9 7 ; 5 : 3 u -> key U+0061 CTRL release | ESC [ 5 7 4 4 1 u -> key LeftShift NONE
+ESC [ 9 7 ; ; 9 7 : 9 8 u -> key U+0061 NONE text 2:6162
+ESC [ 1 0 8 9 : : 9 9 ; 5 u -> key U+0441 CTRL base U+0063 = ctrl+U+0441 or ctrl+c
+^H -> key U+0008 NONE = ctrl+h or ctrl+backspace | ^J -> key Enter NONE = enter
 """
 NAMED = NAMED.strip().replace("\n", " | ")
 ES = b"\033[1089::99;5u"
-NAMED_KEYS = b"\0A\033\r \033[97;5:3u\033[57441u\033[97;;97:98u" + ES
-TWO_NAMES = {"kind": "report", "key": "U+0441", "modifiers": ["CTRL"], "action": "press"}
-TWO_NAMES |= {"base": 99, "length": 0, "text": "", "press": "ctrl+\u0441", "second": "ctrl+c"}
+NAMED_KEYS = b"\0A\033\r \033[97;5:3u\033[57441u\033[97;;97:98u" + ES + b"\b\n"
+TWO_NAMES = {"kind": "key", "key": "U+0441", "modifiers": ["CTRL"], "action": "press"}
+TWO_NAMES |= {"base": 99, "press": "ctrl+\u0441", "second": "ctrl+c"}
+
+
+def extended(told):
+    """What --extended tells besides: what happened, and of which button."""
+    more = {"key": {"action": "press"}, "mouse": {"action": "wheel", "button": 4}}
+    rest = {name: told[name] for name in ("press",) if name in told}
+    return {
+        **{name: told[name] for name in told if name != "press"},
+        **more.get(told["kind"], {}),
+        **rest,
+    }
+
+
+ALL_EXTENDED = [(typed, extended(told)) for typed, told in ALL_KINDS]
 # The words, what is read, and what is printed of it.
 PRINTED = {
     "keys": ("", b"q\033[A\033", QUIT),
@@ -623,26 +675,29 @@ PRINTED = {
     "JSON of characters of each length": ("--json", joined(ALL_EDGES), as_json(ALL_EDGES)),
     "reports": ("--extended", joined(REPORTS), f"   1  {REPORTS_AS_LINE}\n"),
     "reports as JSON": ("--extended --json", joined(REPORTS), REPORTS_AS_JSON),
-    "entries": ("--extended", UP, f"   1  {spelled(UP)} -> key UpArrow ALT = alt+up\n"),
-    "Kitty": (
-        "--extended=kitty",
-        UP,
-        f"   1  {spelled(UP)} -> report UpArrow SUPER press = super+up\n",
-    ),
+    "Super": ("--extended", UP, f"   1  {spelled(UP)} -> key UpArrow SUPER = super+up\n"),
+    "termwiz's Super": ("", UP, f"   1  {spelled(UP)} -> key UpArrow ALT = alt+up\n"),
     "presses": ("--extended", NAMED_KEYS, f"   {NAMED}\n"),
+    "bytes that settings decide": ("--extended", DECIDED, f"{BY_127}{BOTH_ENTER}\n"),
+    "such bytes by termwiz": ("", DECIDED, f"{BY_TERMWIZ}{BOTH_ENTER}\n"),
     "two presses as JSON": ("--extended --json", ES, as_json([(ES, TWO_NAMES)])),
-    "all events by --extended": ("--extended --json", joined(ALL_KINDS), as_json(ALL_KINDS)),
+    "all events by --extended": ("--extended --json", joined(ALL_KINDS), as_json(ALL_EXTENDED)),
 }
 
 
-@pytest.mark.parametrize("source", ["pipe", "file"])
+@pytest.mark.parametrize("source", ["pipe", "file", "input from a file"])
 @pytest.mark.parametrize("words, typed, lines", PRINTED.values(), ids=PRINTED)
 def test_printed(tmp_path, source, words, typed, lines):
     if source == "pipe":
         assert run(*words.split(), typed=typed) == (0, lines, "")
-    else:
-        (tmp_path / "typed").write_bytes(typed)
+        return
+    (tmp_path / "typed").write_bytes(typed)
+    if source == "file":
         assert run(*words.split(), tmp_path / "typed") == (0, lines, "")
+        return
+    with open(tmp_path / "typed", "rb") as file:
+        done = subprocess.run([HEDRUGAL_KEYS, *words.split()], stdin=file, capture_output=True)
+    assert (done.returncode, done.stdout.decode(), done.stderr) == (0, lines, b"")
 
 
 def test_reads_of_4096_bytes(tmp_path):
@@ -843,6 +898,15 @@ def test_file_on_a_terminal(tmp_path):
     first = "   1  a -> key U+0061 NONE = a | b -> key U+0062 NONE = b |"
     second = "      c -> key U+0063 NONE = c | d -> key U+0064 NONE = d |"
     assert screen.text() == [first, second, "      ESC -> key Escape NONE = escape"]
+
+
+def test_file_on_a_terminal_with_settings(tmp_path):
+    """These say nothing of its bytes."""
+    (tmp_path / "typed").write_bytes(DECIDED)
+    words = [HEDRUGAL_KEYS, "--extended", tmp_path / "typed"]
+    with Keys(*words, size=WIDE, erase=b"\x08") as keys:
+        keys.check_end(0)
+    assert keys.lines() == [BY_127 + BOTH_ENTER]
 
 
 def test_random_bytes():

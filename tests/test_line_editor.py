@@ -1,6 +1,7 @@
 """prompt_toolkit's line editor over the input of hedrugal.prompt_toolkit, on a pseudo-terminal."""
 import re
 import signal
+import subprocess
 import sys
 
 import pytest
@@ -88,8 +89,8 @@ def prompt():
     """Starts a program, and waits for its prompt."""
     prompts = []
 
-    def start(text):
-        it = Prompt([sys.executable, "-W", "error", "-c", text])
+    def start(text, **how):
+        it = Prompt([sys.executable, "-W", "error", "-c", text], **how)
         prompts.append(it)
         it.answer()
         return it
@@ -118,6 +119,26 @@ def test_emacs(prompt, steps, lines):
 @pytest.mark.parametrize("steps, lines", VI.values(), ids=VI)
 def test_vi(prompt, steps, lines):
     check(prompt(PROGRAM.format(how={"vi_mode": True})), steps, lines)
+
+
+@pytest.mark.parametrize("has_icrnl", [True, False], ids=["ICRNL", "no ICRNL"])
+@pytest.mark.parametrize("erase", [b"\x7f", b"\b"], ids=["127", "8"])
+@pytest.mark.parametrize("enter", [b"\r", b"\n"], ids=["CR", "byte 10"])
+def test_settings(prompt, erase, has_icrnl, enter):
+    """The bytes 8 and 127 are Backspace to prompt_toolkit, and CR and 10 end a line."""
+    program = prompt(PROGRAM.format(how={}), erase=erase, has_icrnl=has_icrnl)
+    program.play([b"abc\b\x7fd" + enter, "got 'ad'"])
+    program.answer()
+    program.play([b"\x04", "raised EOFError"])
+    program.check_end(0)
+
+
+def test_pipe():
+    """The same if the input is no terminal."""
+    words = [sys.executable, "-W", "error", "-c", PROGRAM.format(how={})]
+    done = subprocess.run(words, input=b"abc\b\x7fd\nxy\r", capture_output=True, timeout=60)
+    lines = re.findall(rb"(?:got|raised) [^\r\n]*", done.stdout)
+    assert (done.returncode, lines) == (0, [b"got 'ad'", b"got 'xy'", b"raised EOFError"])
 
 
 @pytest.mark.parametrize("number", [signal.SIGCONT, signal.SIGSTOP], ids=lambda it: it.name)

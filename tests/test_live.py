@@ -90,6 +90,22 @@ def test_typed(start, steps, lines):
     live.quit(*lines)
 
 
+# What VERASE is, and the keys of the bytes 8 and 127.
+ERASES = {
+    "127": (b"\x7f", ["Char U+0008", "Backspace"]),
+    "8": (b"\b", ["Backspace", "Char U+007F"]),
+}
+
+
+@pytest.mark.parametrize("has_icrnl", [True, False], ids=["ICRNL", "no ICRNL"])
+@pytest.mark.parametrize("erase, lines", ERASES.values(), ids=ERASES)
+def test_settings(start, erase, lines, has_icrnl):
+    """Backspace sends what they say. Byte 10 is Ctrl-J, since raw mode passes CR on."""
+    live = start(erase=erase, has_icrnl=has_icrnl)
+    live.send(b"\b\x7f\n\r")
+    live.quit(*lines, "Char U+000A", "Enter")
+
+
 @pytest.mark.parametrize("word", ["", "--mouse"])
 def test_modes(start, word):
     """Bracketed paste is always on."""

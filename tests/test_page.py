@@ -24,12 +24,12 @@ WIDE, NARROW, WIDTH = (1100, 900), (360, 740), "document.documentElement.scrollW
 # What each script may use.
 HELPERS = """const $ = (id) => document.getElementById(id);
 const $$ = (selector) => [...document.querySelectorAll(selector)];"""
-READING, READINGS = "$$('input[name=reading]:checked')[0].value", ("table", "extended", "kitty")
+READING, READINGS = "$$('input[name=reading]:checked')[0].value", ("table", "extended")
 BUSY, FOCUS = "document.body.ariaBusy", "document.activeElement.id"
 # The lines of the events, without what is said beside them.
 LINES = "$$('#items > li .event').map((it) => it.firstChild.textContent)"
 TWO_READS, SINGLE_BYTES = "#two .event", "#steps .event:not(.quiet)"
-HREFS = "$$('#rows a, #sent a').map((it) => it.hash.endsWith('&reading=kitty'))"
+HREFS = "$$('#rows a, #sent a').map((it) => it.hash.endsWith('&reading=extended'))"
 SAME = "✓ Two reads: the same events."
 EVIL = "<script>alert(1)</script><img src=x onerror=alert(2)>"
 
@@ -297,10 +297,15 @@ def test_first_sight(page):
 WRITTEN = {
     "table": ("\\e[1;5Aq\\e[113;5u", ["as it is", "as it is", "as ^Q"]),
     "extended": (
-        "\\e[24;80R\\e]11;#fff^G\\e[I\\e[200~ab\\e[201~",
-        ["as ESC [ ? 2 4 ; 8 0 R", "as ESC ] 1 1 ; # f f f ESC \\", "as it is", "as it is"],
+        "\\e[24;80R\\e]11;#fff^G\\e[I\\e[200~ab\\e[201~\\e[97;5u\\e[<0;3;4m",
+        [
+            "as ESC [ ? 2 4 ; 8 0 R",
+            "as ESC ] 1 1 ; # f f f ESC \\",
+            *2 * ["as it is"],
+            "as ^A",
+            "as it is",
+        ],
     ),
-    "kitty": ("\\e[97;5u\\e[<0;3;4m", ["as ESC [ 9 7 ; 5 : 1 u", "as ESC [ < 3 5 ; 3 ; 4 M"]),
 }
 
 
@@ -484,9 +489,8 @@ def test_what_waits(page, reading, text):
 def test_what_waits_in_other_readings(page):
     page.read_as("extended")
     page.enter("\\e[1;")
-    page.read_as("kitty")
-    assert "ESC [ 1 ; 1 A is report UpArrow NONE press" in page.text("why")
-    assert page.run("$$('#why a')[0].hash.endsWith('&reading=kitty')")
+    assert "ESC [ 1 ; 1 A is key UpArrow NONE" in page.text("why")
+    assert page.run("$$('#why a')[0].hash.endsWith('&reading=extended')")
     page.read_as("table")
     assert "control sequence" not in page.text("why")
 
@@ -521,12 +525,12 @@ def test_cuts(page):
 
 
 REPLIES = ["cursor 24 80", "osc 7:31313b23666666", "focus gained"]
-REPLY, ALT, SUPER = ["cursor 24 80"], ["key UpArrow ALT"], ["report UpArrow SUPER press"]
+REPLY, ALT, SUPER = ["cursor 24 80"], ["key UpArrow ALT"], ["key UpArrow SUPER"]
 KEYS = ["key U+005B ALT", *typed("24;80R")]
 # What is typed, its bytes, and the lines in each reading.
 READ = {
-    "a key": ("\\e[1;9A", "1b5b313b3941", [ALT, ALT, SUPER]),
-    "a reply": ("\\e[24;80R", "1b5b32343b383052", [KEYS, REPLY, REPLY]),
+    "a key": ("\\e[1;9A", "1b5b313b3941", [ALT, SUPER]),
+    "a reply": ("\\e[24;80R", "1b5b32343b383052", [KEYS, REPLY]),
 }
 
 
@@ -549,7 +553,7 @@ def test_readings(page, text, hexes, wanted):
 
 
 def test_readings_of_the_links_in_the_table(page):
-    page.read_as("kitty")
+    page.read_as("extended")
     assert {*page.run(HREFS)} == {True}
     page.find("up super")
     assert {*page.run(HREFS)} == {True}
@@ -559,13 +563,13 @@ def test_readings_of_the_links_in_the_table(page):
 
 def test_readings_of_links(page):
     """A link that is followed sets the switch, to the table unless it names another reading."""
-    for name in ("kitty", "x", "extended", "constructor", "", "%00", "kitty", "table"):
+    for name in ("extended", "x", "kitty", "constructor", "", "%00", "extended", "table"):
         page.run(f"location.hash = '#bytes=1b5b313b3941&end=flush&reading={name}'")
         known = name if name in READINGS else "table"
         page.wait(READING, known)
-        page.check(SUPER if known == "kitty" else ALT)
+        page.check(SUPER if known == "extended" else ALT)
         assert page.is_shown("flushed")
-    page.open("#bytes=1b5b313b3941&reading=kitty")
+    page.open("#bytes=1b5b313b3941&reading=extended")
     page.run("location.hash = '#bytes=1b5b41'")
     page.check(["key UpArrow NONE"])
     assert page.run(READING) == "table"
@@ -577,8 +581,8 @@ def test_switching_by_keys(page):
     page.enter("\\e[1;9A")
     page.focus("text")
     page.run("$$('input[name=reading]:checked')[0].focus()")
-    means = ["asks its terminal questions", "Protocol::Kitty", "typed text"]
-    for lines, words in zip([ALT, SUPER, ALT], means):
+    means = ["in any mode", "typed text"]
+    for lines, words in zip([SUPER, ALT], means):
         page.press(Keys.ARROW_DOWN)
         page.wait_for_text("reading-means", words, "includes")
         page.check(lines)
@@ -588,9 +592,9 @@ def test_switching_by_examples(page):
     """Examples that need a reading choose it."""
     page.click("[data-reading=extended]")
     page.check(REPLIES)
-    page.click("[data-reading=kitty]")
-    page.check(["report U+0061 CTRL release", "report UpArrow SUPER press"])
-    wanted = "\nread: at once\nby: ExtendedParser, Protocol::Kitty\nreport U+0061"
+    page.click("[data-try^='\\\\e[97']")
+    page.check(["key U+0061 CTRL release", "key UpArrow SUPER"])
+    wanted = "\nread: at once\nby: ExtendedParser, Dialect::Extended\nkey U+0061"
     assert wanted in page.report()
 
 
@@ -628,7 +632,7 @@ def test_keys_in_every_mode(page):
     sent = ["ESC [ 1 0 5 ; 5 u", "key U+0069 CTRL", "✓ ctrl+i"]
     assert rows[0] == first
     assert ["CSI u, modifyOtherKeys off", *sent] in rows
-    assert rows[-1] == ["Kitty’s protocol", sent[0], "report U+0069 CTRL press", sent[2]]
+    assert rows[-1] == ["Kitty’s protocol", sent[0], "key U+0069 CTRL", sent[2]]
     page.enter("Enter", "key")
     page.click("#modifiers input[value=CTRL]")
     page.wait_for_text("key-count", "key Enter NONE sends")
@@ -658,8 +662,8 @@ def test_typed_names(page):
     assert [rows[it] for it in headings] == [["ctrl+x"], ["ctrl+s"]]
     assert rows[headings[1] + 1][1:] == ["^S", "key U+0073 CTRL", "✓ ctrl+s"]
     page.run("$$('#sent tbody:last-child tr:last-child a')[0].click()")
-    page.check(["report U+0073 CTRL press"])
-    assert page.run(READING) == "kitty"
+    page.check(["key U+0073 CTRL"])
+    assert page.run(READING) == "extended"
 
 
 def test_typing_a_name(page):
@@ -815,7 +819,7 @@ def test_narrow(page):
     page.enter("C-i super+hyper+meta+pageup kitty57428", "key")
     page.wait_for_text("key-count", "key U+0069 CTRL sends")
     assert page.run(WIDTH) == 360
-    page.read_as("kitty")
+    page.read_as("extended")
     string = "\\e]0;" + "x" * 300
     for text in (f"{string}\\a", string, "\\e[97:65:99;256:3;65:66:67:68u\\e[1;"):
         page.enter(text)
@@ -868,8 +872,8 @@ def test_keyboard_alone(page):
 
 
 ROLES = {*"textbox radio button slider searchbox checkbox combobox link application".split()}
-NAMED = """textbox Bytes/radio the sequence table alone/radio with replies and reports/slider Cut
-after byte/radio for Kitty’s keyboard protocol/application Keys Press keys here/searchbox Search
+NAMED = """textbox Bytes/radio the sequence table alone/radio all that terminals send/slider Cut
+after byte/application Keys Press keys here/searchbox Search
 by words or bytes"""
 NAMED = {tuple(it.split(" ", 1)) for it in NAMED.replace("\n", " ").split("/")}
 

@@ -21,7 +21,7 @@ from concurrent.futures import ThreadPoolExecutor
 import hedrugal
 import pytest
 from conftest import TOP, entries_after, header_constant, run_without_terminal
-from hedrugal import Function, KeyCode, KeyPress, Modifiers, encode
+from hedrugal import ExtendedParser, Function, KeyCode, KeyPress, Modifiers, encode
 from hedrugal.page import meanings
 from hedrugal.page.server import AT_ONCE, FILES, MOST, Handler, Server
 
@@ -302,11 +302,11 @@ def test_queries(client):
     wrong = "end=all end= first=-1 first=x first=1e3 a a=1&b=2&c=3&d=4&e=5 end=%ff first=%D9%A1"
     for query in [*wrong.split(), f"first={'9' * 10}"]:
         assert client.status("POST", f"/api/read?{query}", b"q") == 400, query
-    readings = ["x", "", "Kitty", "table,kitty", "kitty&reading=x", "%ff"]
+    readings = ["x", "", "Extended", "table,extended", "extended&reading=x", "%ff"]
     for path, reading in itertools.product(POSTED, readings):
         assert client.status("POST", f"{path}?reading={reading}", b"q") == 400, (path, reading)
     says = client.ask("POST", "/api/read?reading=x", b"q")[2]
-    assert says == b"reading is one of table, extended, kitty\n"
+    assert says == b"reading is one of table, extended\n"
 
 
 def test_queries_for_encodings(client):
@@ -392,24 +392,25 @@ def test_random_bytes(client, reading):
 TYPED = ["key U+005B ALT", *(f"key U+{ord(it):04X} NONE" for it in "24;80R")]
 KEYS = ["key U+0071 NONE", "key U+0063 CTRL", "key U+00E9 NONE"]
 READ = [
-    (b"\x1b[1;9A", ["key UpArrow ALT"], ["key UpArrow ALT"], ["report UpArrow SUPER press"]),
-    (b"\x1b[24;80R", TYPED, ["cursor 24 80"], ["cursor 24 80"]),
-    (b"\x1b[27u", ["key U+001B NONE"], ["key U+001B NONE"], ["report Escape NONE press"]),
-    (b"\x1b[1;5R", ["key F3 CTRL"], ["key F3 CTRL"], ["report F3 CTRL press"]),
-    (b"\x1b[1;5A", ["key UpArrow CTRL"], ["key UpArrow CTRL"], ["report UpArrow CTRL press"]),
-    (b"q\x03\xc3\xa9", KEYS, KEYS, KEYS),
+    (b"\x1b[1;9A", ["key UpArrow ALT"], ["key UpArrow SUPER"]),
+    (b"\x1b[24;80R", TYPED, ["cursor 24 80"]),
+    (b"\x1b[27u", ["key U+001B NONE"], ["key Escape NONE"]),
+    (b"\x1b[1;5R", ["key F3 CTRL"], ["key F3 CTRL"]),
+    (b"\b\n", ["key Backspace NONE", "key Enter NONE"], ["key U+0008 NONE", "key U+000A NONE"]),
+    (b"q\x03\xc3\xa9", KEYS, KEYS),
 ]
 
 
-@pytest.mark.parametrize("data, table, extended, kitty", READ)
-def test_readings(client, data, table, extended, kitty):
+@pytest.mark.parametrize("data, table, extended", READ)
+def test_readings(client, data, table, extended):
     """Each reading has its own events. The table's is that of a request that names none."""
-    for reading, wanted in {"table": table, "extended": extended, "kitty": kitty}.items():
+    for reading, wanted in {"table": table, "extended": extended}.items():
         items, _ = client.check(data, "more", reading)
         assert [it[1] for it in items] == wanted, reading
         steps = client.told(f"/api/reads?reading={reading}", data)["steps"]
         assert [line for _, *came in steps for line in came] == wanted
-        reads = client.told(f"/api/cut?at=2&reading={reading}", data)["reads"]
+        at = min(2, len(data) - 1)
+        reads = client.told(f"/api/cut?at={at}&reading={reading}", data)["reads"]
         assert reads[0]["lines"] + reads[1]["lines"] == wanted
     for path in POSTED:
         assert client.told(path, data) == client.told(f"{path}?reading=table", data)
@@ -418,25 +419,25 @@ def test_readings(client, data, table, extended, kitty):
 ALL_HELD = "SHIFT+ALT+CTRL+SUPER+HYPER+META+CAPS_LOCK+NUM_LOCK"
 # Bytes that the table doesn't know, their line in hedrugal-keys, and what is shown of their text.
 REPORTS = [
-    (b"\x1b[97;5:3u", "report U+0061 CTRL release", "a"),
-    (b"\x1b[97;1:2u", "report U+0061 NONE repeat", "a"),
-    (b"\x1b[97:65:99;2;65u", "report U+0061 SHIFT press shifted U+0041 base U+0063 text 1:41", "A"),
-    (b"\x1b[97::99;;228u", "report U+0061 NONE press base U+0063 text 2:c3a4", "ä"),
-    (b"\x1b[97;256:1u", f"report U+0061 {ALL_HELD} press", "a"),
-    (b"\x1b[57414u", "report functional 57414 NONE press", ""),
-    (b"\x1b[[B", "report F2 NONE press", ""),
-    (b"\x1b[1;1:3A", "report UpArrow NONE release", ""),
+    (b"\x1b[97;5:3u", "key U+0061 CTRL release", "a"),
+    (b"\x1b[97;1:2u", "key U+0061 NONE repeat", "a"),
+    (b"\x1b[97:65:99;2;65u", "key U+0061 SHIFT shifted U+0041 base U+0063 text 1:41", "A"),
+    (b"\x1b[97::99;;228u", "key U+0061 NONE base U+0063 text 2:c3a4", "ä"),
+    (b"\x1b[97;256:1u", f"key U+0061 {ALL_HELD}", "a"),
+    (b"\x1b[57414u", "key functional 57414 NONE", ""),
+    (b"\x1b[[B", "key F2 NONE", ""),
+    (b"\x1b[1;1:3A", "key UpArrow NONE release", ""),
     (b"\x1b[I", "focus gained", ""),
     (b"\x1b[O", "focus lost", ""),
     (b"\x1b[?24;80;1R", "cursor 24 80", ""),
     (b"\x1b[48;24;80;480;800t", "resize 24 80 480 800", ""),
     (b"\x1b[?31u", "keyboard flags 31", ""),
-    (b"\x1b[32;3;4M", "mouse 3 4 LEFT NONE", ""),
-    (b"\x1b[<136;3;4M", "button 8 press 3 4 ALT", ""),
-    (b"\x1b[<129;3;4m", "button 9 release 3 4 NONE", ""),
-    (b"\x1b[23$", "report F11 SHIFT press", ""),
-    (b"\x1bO5Q", "report F2 CTRL press", ""),
-    (b"\x1b[R", "report F3 NONE press", ""),
+    (b"\x1b[32;3;4M", "mouse 3 4 LEFT NONE press 1", ""),
+    (b"\x1b[<136;3;4M", "mouse 3 4 NONE ALT press 8", ""),
+    (b"\x1b[<129;3;4m", "mouse 3 4 NONE NONE release 9", ""),
+    (b"\x1b[23$", "key F11 SHIFT", ""),
+    (b"\x1bO5Q", "key F2 CTRL", ""),
+    (b"\x1b[R", "key F3 NONE", ""),
     (b"\x1b[M", "csi 1:4d", "M"),
     (b"\x1b[?62;4c", "csi 6:3f36323b3463", "?62;4c"),
     (b"\x1b]11;#fff\a", "osc 7:31313b23666666", "11;#fff"),
@@ -450,41 +451,41 @@ REPORTS = [
 
 # The names of the presses of those that have one, in their order. Another case has two names.
 PRESSES = "a A ä super+hyper+meta+ctrl+alt+shift+a enter f2 shift+f11 ctrl+f2 f3".split()
-PRESSES = dict(zip((it for _, it, _ in REPORTS if "report" in it and "release" not in it), PRESSES))
+PRESSES = dict(
+    zip((it for _, it, _ in REPORTS if it.startswith("key ") and "release" not in it), PRESSES)
+)
 
 
-@pytest.mark.parametrize("reading", ["extended", "kitty"])
 @pytest.mark.parametrize("data, line, glyphs", REPORTS)
-def test_lines_beyond_the_table(client, reading, data, line, glyphs):
-    [[*item, written]], told = client.check(data, "more", reading)
+def test_lines_beyond_the_table(client, data, line, glyphs):
+    [[*item, written]], told = client.check(data, "more", "extended")
     assert (item, told["waits"]) == ([len(data), line, glyphs, PRESSES.get(line, "")], None)
     assert written["length"] >= len(written["bytes"]) // 2 > 2
 
 
 def test_second_press(client):
-    items, _ = client.check(b"\x1b[1089::99;5u", "more", "kitty")
+    items, _ = client.check(b"\x1b[1089::99;5u", "more", "extended")
     assert items[0][3] == "ctrl+с or ctrl+c"
 
 
-@pytest.mark.parametrize("reading", ["extended", "kitty"])
-def test_beginnings(client, reading):
+def test_beginnings(client):
     """What begins no entry of the table is named by what it becomes."""
     for rest, begins in zip(BEGINNINGS, BEGUN):
         wanted = {"kind": "Sequence", "length": len(rest), "count": 0, "named": []}
-        waits = client.waits(rest, reading, begins=begins, **wanted)
+        waits = client.waits(rest, "extended", begins=begins, **wanted)
         assert waits["emits"] == len(waits["flushed"])
         assert waits["mouse"] is None, rest
 
 
 def test_beginnings_of_the_table_too(client):
-    lines = ["key UpArrow NONE", "key UpArrow NONE", "report UpArrow NONE press"]
-    for reading, begins, line in zip(meanings.READINGS, (None, "csi", "csi"), lines):
+    line = "key UpArrow NONE"
+    for reading, begins in zip(meanings.READINGS, (None, "csi")):
         waits = client.waits(b"\x1b[1;", reading)
         found = waits["begins"], waits["count"], waits["named"][0]
         assert found == (begins, 169, ["1b5b313b3141", line])
     waits = client.waits(b"\x1b[<0;3", "extended")
     assert (waits["count"], waits["begins"]) == (0, "csi")
-    assert waits["mouse"][1] == "mouse 33 4 LEFT NONE"
+    assert waits["mouse"][1] == "mouse 33 4 LEFT NONE press 1"
 
 
 OPEN = {
@@ -499,7 +500,7 @@ def test_open_strings(client, rest, line):
     """A string without its end stays buffered. A flush or another sequence cuts it off."""
     wanted = {"kind": "String", "length": len(rest), "begins": line[:3], "emits": 1}
     assert client.waits(rest, "extended") == wanted | {"flushed": [line]}
-    assert client.all_items(rest.rstrip(b"\x1b") + b"\x1b[I", "more", "kitty")[0][0][1] == line
+    assert client.all_items(rest.rstrip(b"\x1b") + b"\x1b[I", "more", "extended")[0][0][1] == line
 
 
 def test_long_strings(client):
@@ -594,13 +595,12 @@ def test_encodings(client, name, modifiers, keys):
         sent = [encode(key, modifiers_of(held), modes).hex() for modes in meanings.MODES]
         assert [text for text, *_ in it["sent"]] == sent
         assert (len(it["sent"]), len(it["kitty"])) == (24, 4)
-        for reading, texts in {"table": it["sent"], "kitty": it["kitty"]}.items():
-            for text, *said in texts:
-                with meanings.READINGS[reading]() as parser:
-                    events = parser.parse(bytes.fromhex(text), False)
-                names = ", ".join(meanings.press_name(event) for event in events)
-                lines = ", ".join(map(meanings.line, events))
-                assert said == [lines, names, names == press]
+        for text, *said in it["sent"] + it["kitty"]:
+            with ExtendedParser() as parser:
+                events = parser.parse(bytes.fromhex(text), False)
+            names = ", ".join(meanings.press_name(event) for event in events)
+            lines = ", ".join(map(meanings.line, events))
+            assert said == [lines, names, names == press]
 
 
 def sent(texts):
@@ -638,7 +638,7 @@ def test_keys_that_are_no_press(client):
     """A name of keyshow is that key: Shift sends nothing, and Kitty's protocol reports it."""
     told = encodings(client, "LeftShift")[0]
     assert (told["line"], told["press"], {*sent(told["sent"])}) == ("key LeftShift NONE", "", {b""})
-    assert told["kitty"][-1][1:] == ["report LeftShift NONE press", "no press", True]
+    assert told["kitty"][-1][1:] == ["key LeftShift NONE", "no press", True]
 
 
 def test_encodings_that_are_read_as_another(client):
@@ -667,7 +667,10 @@ BEYOND = [b"\x1b[97;5:3u", b"\x1b]11;#fff\a", b"\x1b]0;" + b"a" * 65536]
 @pytest.mark.parametrize("path", ["read?end=more&first=0&", "reads?", "cut?at=5000&"])
 @pytest.mark.parametrize(
     "reading, seconds, piece",
-    [*(("table", 2, it) for it in PIECES + OTHERS), *(("kitty", 4, it) for it in PIECES + BEYOND)],
+    [
+        *(("table", 2, it) for it in PIECES + OTHERS),
+        *(("extended", 4, it) for it in PIECES + BEYOND),
+    ],
     ids=lambda it: repr(it)[:20],
 )
 def test_a_megabyte(client, path, reading, seconds, piece):

@@ -21,10 +21,10 @@ PROGRAM = """
 import asyncio, errno, fcntl, os, signal, subprocess, sys, threading, time
 from hedrugal import *
 from hedrugal.terminal import PastePart, Resumed, Terminal
-Q, CTRL_C = KeyEvent("q"), KeyEvent("c", Modifiers.CTRL)
+Q, CTRL_C = KeyReport("q"), KeyReport("c", KittyModifiers.CTRL)
 def show(*events):
     for event in events:
-        print(event.key if isinstance(event, KeyEvent) else event, flush=True)
+        print(event.key if isinstance(event, KeyReport) else event, flush=True)
 def show_until_q(terminal):
     for event in terminal:
         show(event)
@@ -133,74 +133,156 @@ with Terminal(mouse=MouseTracking.{tracking}, focus=True) as terminal:
 
 
 def test_kitty(run):
-    """Keys are read by Kitty's protocol once the terminal said that it has it, from then on."""
+    """The flags are pushed, and nothing is asked. Keys are read before and after them."""
     program = run(
         """
 flags = KittyKeyboardFlags.DISAMBIGUATE_ESCAPE_CODES
 enter, leave = b"\\033[?1049h", b"\\033[?1049l"
 with Terminal(kitty=flags, modify_other_keys=2, enter=enter, leave=leave) as terminal:
     ready()
-    show_until_q(terminal)
+    for event in terminal:
+        print(event, flush=True)
+        if event == Q:
+            break
 """
     )
-    on, off = b"\033[?1049h\033[?2004h\033[>4;2m\033[>1u\033[?u", b"\033[<u\033[>4m\033[?2004l"
-    assert program.output.startswith(on)
-    program.send(b"\033[1;5R\033[?1u\033[1;5Rq")
+    on, off = b"\033[?1049h\033[?2004h\033[>4;2m\033[>1u", b"\033[<u\033[>4m\033[?2004l"
+    assert program.output == on + b"ready\r\n"
+    program.send(b"\003\033[1;5R\033[?1u\033[99;5u\033[1;9Aq")
     program.ends_with(
-        "Function(number=3)",
+        "KeyReport(key='c', modifiers=KittyModifiers.CTRL)",
+        "KeyReport(key=Function(number=3), modifiers=KittyModifiers.CTRL)",
         "KeyboardFlags(flags=KittyKeyboardFlags.DISAMBIGUATE_ESCAPE_CODES, unnamed=0)",
-        "KeyReport(key=Function(number=3), modifiers=KittyModifiers.CTRL, "
-        "kind=KeyEventKind.PRESS, shifted=None, base=None, text='')",
-        "q",
+        "KeyReport(key='c', modifiers=KittyModifiers.CTRL)",
+        "KeyReport(key=KeyCode.UP_ARROW, modifiers=KittyModifiers.SUPER)",
+        "KeyReport(key='q')",
     )
     assert program.output.endswith(off + b"\033[?1049l")
 
 
-KITTY = """
-with Terminal(kitty=KittyKeyboardFlags.DISAMBIGUATE_ESCAPE_CODES) as terminal:
-    ready()
-    for event in terminal:
-        show(event)
-        if event == KeyEvent("l"):
-            terminal.parser.reading = Reading(Protocol.LEGACY)
-        if event == KeyEvent("n"):
-            show("replies", *terminal.ask(b"\\033[?u", 60), "asked")
-        if event == Q:
-            break
+# What VERASE is, and the keys of the bytes 8 and 127.
+ERASE = {
+    "127": (b"\x7f", "'\\x08'", "KeyCode.BACKSPACE"),
+    "8": (b"\b", "KeyCode.BACKSPACE", "'\\x7f'"),
+    "none": (b"\0", "'\\x08'", "KeyCode.BACKSPACE"),
+}
+# Programs that print the keys of a terminal: by a loop, by asyncio, and with a standard input that
+# is no terminal.
+PRINT = """
+terminal = Terminal()
+def is_last(event):
+    print(repr(event.key), flush=True)
+    return event == Q
 """
-FLAGS = "KeyboardFlags(flags=KittyKeyboardFlags.DISAMBIGUATE_ESCAPE_CODES, unnamed=0)"
+KEYS = {
+    "a loop": """
+with terminal:
+    ready()
+    any(map(is_last, terminal))
+""",
+    "asyncio": """
+async def main():
+    with terminal:
+        ready()
+        async for event in terminal:
+            if is_last(event):
+                return
+asyncio.run(main())
+""",
+    "a pipe": """
+os.dup2(os.pipe()[0], 0)
+with terminal:
+    ready()
+    any(map(is_last, terminal))
+""",
+}
+
+
+@pytest.mark.parametrize("text", KEYS.values(), ids=KEYS)
+@pytest.mark.parametrize("has_icrnl", [True, False], ids=["ICRNL", "no ICRNL"])
+@pytest.mark.parametrize("erase, eight, last", ERASE.values(), ids=ERASE)
+def test_settings_of_the_reading(run, erase, eight, last, has_icrnl, text):
+    """Which byte Backspace sends is what VERASE says. Byte 10 is Ctrl-J, since raw mode passes CR
+    on, whatever ICRNL was."""
+    program = run(PRINT + text, erase=erase, has_icrnl=has_icrnl)
+    program.send(b"\b\x7f\x1b\b\x1b\x7f\n\rq")
+    program.ends_with(eight, last, eight, last, "'\\n'", "KeyCode.ENTER", "'q'")
+
+
+def test_settings_that_change(run):
+    """They are read each time that the block is entered."""
+    program = run(
+        PRINT
+        + """
+import termios
+before = termios.tcgetattr(0)
+for character in (b"\\x7f", b"\\b", b"\\x7f", b"\\b"):
+    settings = termios.tcgetattr(0)
+    settings[6][termios.VERASE] = character
+    termios.tcsetattr(0, termios.TCSANOW, settings)
+    with terminal:
+        print(terminal.parser.reading.erase.name, flush=True)
+with terminal:
+    ready()
+    any(map(is_last, terminal))
+termios.tcsetattr(0, termios.TCSANOW, before)
+"""
+    )
+    program.send(b"\b\x7fq")
+    program.check_end(0)
+    erases = ["DELETE", "BACKSPACE"] * 2
+    assert program.lines() == [*erases, "ready", "KeyCode.BACKSPACE", "'\\x7f'", "'q'"]
+
+
+# Whether CR becomes byte 10, and the presses of an Enter and of a byte 10, with their second ones.
+AHEAD = {
+    "ICRNL": (True, "ctrl+j enter, ctrl+j enter"),
+    "no ICRNL": (False, "enter None, ctrl+j enter"),
+}
+
+
+@pytest.mark.parametrize("has_icrnl, keys", AHEAD.values(), ids=AHEAD)
+def test_enter_before_the_block(run, has_icrnl, keys):
+    program = run(
+        """
+import select
+terminal = Terminal()
+with terminal:
+    ready()
+    terminal.read()
+print("left", flush=True)
+select.select([0], [], [])
+with terminal:
+    reports = [terminal.read() for _ in range(2)]
+    presses = [f"{KeyPress.of_event(it)} {KeyPress.second(it)}" for it in reports]
+    print(*presses, sep=", ", flush=True)
+""",
+        has_icrnl=has_icrnl,
+    )
+    program.play([b"q", "left\r\n", b"\r\n", f"{keys}\r\n"])
+    program.check_end(0)
 
 
 def test_reading_that_the_program_sets(run):
-    """It stays, whatever is reported later."""
-    program = run(KITTY)
-    program.play([b"\033[?1u\033[?62cl", "l\r\n", b"\033[?1u\033[1;5Rq"])
-    program.ends_with(FLAGS, "l", FLAGS, "Function(number=3)", "q")
-
-
-def test_reply_behind_the_flags(run):
-    """The program gets that to its own question alone."""
-    program = run(KITTY)
-    program.send(b"\033[?1u\033[?62;1c\033[?62;2cn")
-    program.play(["Csi", "\033[?u\033[c", b"\033[?1u\033[?62;3c\033[?62;4cq"])
-    replies = ["replies", FLAGS, "Csi(data=b'?62;3c')", "asked"]
-    program.ends_with(FLAGS, "Csi(data=b'?62;2c')", "n", *replies, "Csi(data=b'?62;4c')", "q")
-
-
-def test_question_behind_the_flags(run):
-    """What belongs to the flags are events."""
-    program = run(KITTY)
-    program.play([b"n", "\033[c", b"\033[?1u\033[?62;1c\033[?2u\033[?62;2cq"])
-    other = FLAGS.replace("DISAMBIGUATE_ESCAPE_CODES", "REPORT_EVENT_TYPES")
-    program.ends_with("n", "replies", other, "Csi(data=b'?62;2c')", "asked", FLAGS, "q")
-
-
-@pytest.mark.timed
-def test_late_reply_behind_the_flags(run):
-    """After two seconds none is owed any more."""
-    program = run(KITTY)
-    program.play([2.2, b"\033[?1u\033[?62cq"])
-    program.ends_with(FLAGS, "Csi(data=b'?62c')", "q")
+    """It stays, but for what the settings say."""
+    program = run(
+        """
+terminal = Terminal()
+mine = Reading(Dialect.TERMWIZ, True, 0, EraseByte.BACKSPACE, NewlineByte.ENTER)
+terminal.parser.reading = mine
+with terminal:
+    ready()
+    assert terminal.parser.reading == Reading(Dialect.TERMWIZ, x10_mouse=True)
+    for event in terminal:
+        print(event, flush=True)
+        if event == Q:
+            break
+        terminal.parser.reading = Reading()
+"""
+    )
+    program.play([b"\033[1;9A", "ALT)\r\n", b"\033[1;9Aq"])
+    up = "KeyReport(key=KeyCode.UP_ARROW, modifiers=KittyModifiers"
+    program.ends_with(f"{up}.ALT)", f"{up}.SUPER)", "KeyReport(key='q')")
 
 
 def test_sizes(run):
@@ -248,7 +330,7 @@ termios.tcsetattr(0, termios.TCSANOW, before)
 """
     )
     program.send("é\r\n\x13\x11q".encode())
-    program.ends_with("é", "enter", "enter", "ctrl+s", "ctrl+q", "q")
+    program.ends_with("é", "enter", "ctrl+j", "ctrl+s", "ctrl+q", "q")
 
 
 def test_long_paste(run):
@@ -392,7 +474,7 @@ def test_signals_in_the_middle(run):
 signal.signal(signal.SIGUSR1, lambda *_: None)
 with Terminal() as terminal:
     ready()
-    wanted = [KeyEvent(chr(97 + at % 16)) for at in range({count})]
+    wanted = [KeyReport(chr(97 + at % 16)) for at in range({count})]
     keys, sizes = [], 0
     for event in terminal:
         if event == Q:
@@ -626,8 +708,7 @@ def test_replies_at_the_end(run_below_shell, end, status, mouse):
     program = run_below_shell(
         f"""
 mouse = MouseTracking.ANY if {mouse} else None
-flags = KittyKeyboardFlags.DISAMBIGUATE_ESCAPE_CODES
-with Terminal(kitty=flags, mouse=mouse) as terminal:
+with Terminal(mouse=mouse) as terminal:
     ready()
     show(*terminal.ask(b"", 60))
     for _ in range(2):
@@ -635,7 +716,7 @@ with Terminal(kitty=flags, mouse=mouse) as terminal:
     {end}
 """
     )
-    program.play(["\033[c", SLOW_LINE, b"\033[?1u\033[?62c\033[?62c", "62c"])
+    program.play(["\033[c", SLOW_LINE, b"\033[?62c", "62c"])
     program.play(["\033[6n\033[c", "\033[6n\033[c", "\033[?2004l", SLOW_LINE - 0.1])
     program.play([b"a\033[<35;3;4M" + CURSOR, 0.1, CURSOR + b"ls\r"])
     assert left_for_shell(program, status) == r"b'ls\r.'"
@@ -662,7 +743,6 @@ with Terminal(mouse=MouseTracking.ANY) as terminal:
 SILENT = {
     "mouse": ("mouse=MouseTracking.ANY", ""),
     "a question": ("", "terminal.ask(b'', 0.01)"),
-    "flags": ("kitty=KittyKeyboardFlags.DISAMBIGUATE_ESCAPE_CODES", ""),
 }
 
 
@@ -709,7 +789,8 @@ def test_replies_that_another_thread_reads(run, _):
     """It may get a byte for which the end would wait."""
     program = run(
         """
-with Terminal(kitty=KittyKeyboardFlags.DISAMBIGUATE_ESCAPE_CODES) as terminal:
+with Terminal() as terminal:
+    terminal.ask(b"", 0.01)
     thread = threading.Thread(target=show_until_q, args=[terminal], daemon=True)
     thread.start()
     ready()
@@ -773,7 +854,7 @@ with Terminal() as terminal:
     ready()
     for event in terminal:
         show(event)
-        if event in (KeyEvent("p"), Q):
+        if event in (KeyReport("p"), Q):
             if event == Q:
                 break
             while terminal.parser.waiting is Waiting.NOTHING:
@@ -936,7 +1017,7 @@ ASK_AGAIN = {
     show(*terminal.ask(b"\\033[6n", 0.2), "asked")
     for event in terminal:
         show(event)
-        if event == KeyEvent("n"):
+        if event == KeyReport("n"):
             show("replies", *terminal.ask(b"\\033]11;?\\033\\\\", 60), "asked")
         if event == Q:
             break""",
@@ -945,7 +1026,7 @@ ASK_AGAIN = {
         show(*await terminal.ask_async(b"\\033[6n", 0.2), "asked")
         async for event in terminal:
             show(event)
-            if event == KeyEvent("n"):
+            if event == KeyReport("n"):
                 show("replies", *await terminal.ask_async(b"\\033]11;?\\033\\\\", 60), "asked")
             if event == Q:
                 break
@@ -1022,7 +1103,7 @@ with Terminal() as terminal:
     for _ in range(2):
         replies = terminal.ask(b"", 600)
         count = 0
-        while terminal.read() == KeyEvent("a"):
+        while terminal.read() == KeyReport("a"):
             count += 1
         show(len(replies), count)
     show_until_q(terminal)

@@ -16,7 +16,6 @@ TEST_CALLS = os.environ.get("TEST_CALLS") or str(TOP / "crates/test_calls/out/te
 CALLS = ["list", "callback", "event", "loop"]
 EXTENDED_CALLS = ["list", "callback", "next_event", "loop"]
 FLUSHES = ["expire", "next_flushed"]
-PROTOCOLS = ["legacy", "kitty"]
 
 PASTE_START = b"\033[200~"
 PASTE_END = b"\033[201~"
@@ -329,16 +328,36 @@ EXTENDED_TIMES = [
 ]
 
 
+def key_report(key, modifiers=0, kind="Press", shifted="None", base="None", text=""):
+    return (
+        f"KeyReport {{ key: Named({key}), modifiers: {modifiers}, kind: {kind}, "
+        f'shifted: {shifted}, base: {base}, text: KeyText {{ inner: "{text}" }} }}'
+    )
+
+
+def as_extended(line):
+    """The same events of the extended parser, whose keys are reports."""
+    held = {"NONE": 0, "ALT": 2, "CTRL": 4}
+
+    def report(found):
+        key, modifiers = found.groups()
+        named = f"Char('{chr(int(key[2:], 16))}')" if key.startswith("U+") else key
+        return f"Key({key_report(named, held[modifiers])})"
+
+    return re.sub(r"key (\S+) (\w+)", report, line)
+
+
 @pytest.mark.parametrize("call", FLUSHES)
-@pytest.mark.parametrize("mode, rows", [("parser", TIMES), ("legacy", TIMES + EXTENDED_TIMES)])
-def test_limits_in_time(mode, rows, call):
-    for reads, wanted in rows:
+@pytest.mark.parametrize("mode", ["parser", "extended"])
+def test_limits_in_time(mode, call):
+    for reads, wanted in TIMES if mode == "parser" else TIMES + EXTENDED_TIMES:
         with Program(mode) as program:
-            assert program.over_time(call, reads) == wanted
+            events = wanted if mode == "parser" else as_extended(wanted)
+            assert program.over_time(call, reads) == events
 
 
 @pytest.mark.parametrize("call", FLUSHES)
-@pytest.mark.parametrize("mode", ["parser", "kitty"])
+@pytest.mark.parametrize("mode", ["parser", "extended"])
 def test_a_stalled_paste_of_1_megabyte(mode, call):
     body = b"0123456789abcdef" * 65536
     waiting = f"{len(PASTE_START + body)} wait"
@@ -356,13 +375,6 @@ def sequence_bytes(text):
     return f"SequenceBytes {{ inner: {list(text)} }}"
 
 
-def key_report(key, modifiers=0, kind="Press", shifted="None", base="None", text=""):
-    return (
-        f"KeyReport {{ key: Named({key}), modifiers: {modifiers}, kind: {kind}, "
-        f'shifted: {shifted}, base: {base}, text: KeyText {{ inner: "{text}" }} }}'
-    )
-
-
 # The longest string that has one event, of 65536 bytes.
 LONG_STRING = b"\033]52;" + b"x" * 65529 + b"\033\\"
 # A key report with as long a text as fits in 256 bytes.
@@ -374,7 +386,7 @@ TEXTS = [
     (
         b"a\033[I\033[200~p\033[201~\033[97;1:3u\033]0;t\a",
         [
-            "key U+0061 NONE",
+            f"""Key({key_report("Char('a')")})""",
             "FocusGained",
             "paste 1:70",
             f"""Key({key_report("Char('a')", kind="Release")})""",
@@ -392,19 +404,69 @@ TEXTS = [
 ]
 
 
-@pytest.mark.parametrize("protocol", PROTOCOLS)
 @pytest.mark.parametrize("call", EXTENDED_CALLS)
-def test_extended_texts(protocol, call):
-    with Program(protocol) as program:
+def test_extended_texts(call):
+    with Program("extended") as program:
         for text, events in TEXTS:
             assert program.read(call, 1, text) == (events, "0 wait")
 
 
-@pytest.mark.parametrize("protocol", PROTOCOLS)
+# What the dialects read of the same bytes.
+DIALECTS = {
+    "extended": [("Char('\\u{8}')", 0), ("Char('\\n')", 0), ("Backspace", 0), ("UpArrow", 8)],
+    "termwiz": [("Backspace", 0), ("Enter", 0), ("Backspace", 0), ("UpArrow", 2)],
+}
+
+
 @pytest.mark.parametrize("call", EXTENDED_CALLS)
-def test_a_string_of_128_kilobytes_comes_in_parts(protocol, call):
+@pytest.mark.parametrize("dialect, keys", DIALECTS.items())
+def test_dialects(dialect, keys, call):
+    with Program(dialect) as program:
+        events = [f"Key({key_report(*key)})" for key in keys]
+        assert program.read(call, 1, b"\b\n\x7f\033[1;9A") == (events, "0 wait")
+
+
+# Texts, and the port's event of the event of each.
+PORT_EVENTS = {
+    "a typed key": (b"a", "key U+0061 NONE"),
+    "a row": (b"\033[1;9A", "key UpArrow SUPER"),
+    "a key with all modifiers of the port": (b"\033[97;16u", "key U+0061 SHIFT+ALT+CTRL+SUPER"),
+    "Tab": (b"\033[1;6Z", "key Tab SHIFT+CTRL"),
+    "byte 8": (b"\b", "key U+0008 NONE"),
+    "byte 127": (b"\x7f", "key Backspace NONE"),
+    "byte 10": (b"\n", "key U+000A NONE"),
+    "another modifier": (b"\033[97;17u", "None"),
+    "a lock": (b"\033[97;65u", "None"),
+    "a repeat": (b"\033[97;1:2u", "None"),
+    "a release": (b"\033[97;1:3u", "None"),
+    "what Shift makes": (b"\033[97:65;2u", "None"),
+    "the base": (b"\033[97::99u", "None"),
+    "a text": (b"\033[97;;97u", "None"),
+    "text without a key": (b"\033[0;;229u", "None"),
+    "a key without a name": (b"\033[57428u", "None"),
+    "a press of a button": (b"\033[<4;3;4M", "mouse 3 4 LEFT SHIFT"),
+    "a release of a button": (b"\033[<0;3;4m", "mouse 3 4 NONE NONE"),
+    "a wheel": (b"\033[<64;3;4M", "mouse 3 4 VERT_WHEEL+WHEEL_POSITIVE NONE"),
+    "urxvt's release": (b"\033[35;3;4M", "mouse 3 4 NONE NONE"),
+    "a side button": (b"\033[<128;3;4M", "None"),
+    "a paste": (PASTE_START + b"ab" + PASTE_END, "paste 2:6162"),
+    "the focus": (b"\033[I", "None"),
+    "a position": (b"\033[24;80R", "None"),
+    "a control sequence": (b"\033[?62c", "None"),
+    "a string": (b"\033]0;a\a", "None"),
+}
+
+
+@pytest.mark.parametrize("text, of_port", PORT_EVENTS.values(), ids=PORT_EVENTS)
+def test_events_of_the_port(text, of_port):
+    asked = [(command("feed", 0, text), ""), ("next_port 1", of_port), ("next_port 1", "")]
+    check("extended", asked)
+
+
+@pytest.mark.parametrize("call", EXTENDED_CALLS)
+def test_a_string_of_128_kilobytes_comes_in_parts(call):
     """Each part has the opening."""
-    with Program(protocol) as program:
+    with Program("extended") as program:
         events, waiting = program.read(call, 1, b"\033]52;" + b"x" * 131070 + b"\a")
     assert [re.split(r"\W", it)[0] for it in events] == ["StringPart", "StringPart", "Osc"]
     assert all(f"[{', '.join(str(it) for it in b'52;')}, 120" in it for it in events)
@@ -427,20 +489,20 @@ SEQUENCES = [
 def test_sequences_that_are_keys(text, report):
     """The event, its key, and a clone of that."""
     for asks in (0, 1):
-        assert answer_of("kitty", "sequence", asks, text) == "true, " + f"Key({report}), " * 3
+        assert answer_of("extended", "sequence", asks, text) == "true, " + f"Key({report}), " * 3
 
 
 def test_a_sequence_that_may_be_a_position():
     text, report = b"\033[1;5R", key_report("Function(3)", modifiers=4)
-    assert answer_of("kitty", "sequence", 0, text) == "true, " + f"Key({report}), " * 3
+    assert answer_of("extended", "sequence", 0, text) == "true, " + f"Key({report}), " * 3
     position = "true, CursorPosition { row: 1, column: 5 }, "
-    assert answer_of("kitty", "sequence", 1, text) == position
+    assert answer_of("extended", "sequence", 1, text) == position
 
 
 @pytest.mark.parametrize("text", [b"\033[O", b"\033[M0\x60\x70", b"\033[9D", LONG_STRING])
 def test_sequences_that_are_neither_keys_nor_positions(text):
     for asks in (0, 1):
-        assert answer_of("kitty", "sequence", asks, text).startswith("false, ")
+        assert answer_of("extended", "sequence", asks, text).startswith("false, ")
 
 
 # The key map.

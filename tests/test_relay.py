@@ -23,15 +23,7 @@ from relay_child import long_text
 from terminal import END, ENDING_SIGNALS, LONG_PAUSE, PAUSE, SECONDS, START, Terminal
 from terminal_data import FOLDER, load
 
-from hedrugal import (
-    ExtendedParser,
-    KeyEvent,
-    KeyPress,
-    KittyKeyboardFlags,
-    Protocol,
-    encode_paste,
-    key_report,
-)
+from hedrugal import ExtendedParser, KeyPress, KeyReport, KittyKeyboardFlags, encode_paste
 
 CHILD = Path(__file__).with_name("relay_child.py")
 # What relay tells its terminal at the start, and at its end.
@@ -149,6 +141,7 @@ KITTY_TO_LEGACY = {
     "Shift-Tab, Shift-Enter": (b"", b"\033[9;2u\033[13;2u", b"\033[Z\r"),
     "Ctrl": (b"", b"\033[99;5u\033[91;5u\033[32;5u", b"\x03\x1b\0"),
     "Ctrl and Shift": (b"", b"\033[97:65;6u", b"\x01"),
+    "Ctrl and a sign": (b"", b"\033[49:33;6u\033[50:64;6u", b"!\0"),
     "Alt": (b"", b"\033[97;3u\033[97:65;4u\033[233;3u", "\033a\033A\033é".encode()),
     "Super, Hyper, Meta": (b"", b"\033[97;9u\033[97;17u\033[97;33u\033[1;9A", b""),
     "locks": (b"", b"\033[97;65;65u\033[99;69u\033[1;129B", b"A\x03\033[B"),
@@ -158,6 +151,7 @@ KITTY_TO_LEGACY = {
     "F3 of kitty 0.26": (b"", b"\033[1;2R", b"\033[1;2R"),
     "a layout": (b"", "\033[1092::97;;1092u\033[1092::97;5u".encode(), "ф\1".encode()),
     "two characters": (b"", b"\033[0;;102:105u", b"fi"),
+    "a character without a key": (b"", "\033[0;;229u\033[0u".encode(), "å".encode()),
     "the keypad": (b"", b"\033[57404;129;53u\033[57414u\033[57413;;43u", b"5\r+"),
     "cursor keys": (b"\033[?1h", b"\033[A\033[1;5A\033[H\033[F", b"\033OA\033[1;5A\033OH\033OF"),
     "cursor keys, reset": (b"\033[?1h\033[?1l", b"\033[A", b"\033[A"),
@@ -170,12 +164,12 @@ KITTY_TO_LEGACY = {
     "modifyOtherKeys, reset": (b"\033[>4;2m\033[>4m", b"\033[105;5u", b"\t"),
 }
 # The same from a terminal without the protocol, and with flags that the child asks for.
-LEGACY = b"a\x03\033[1;5A\033OA\r\t\x7f\033[Z\033x\xc3\xa9\033OP\033Ok"
+LEGACY = b"a\x03\033[1;5A\033OA\r\t\x7f\x08\n\0\033[Z\033x\xc3\xa9\033OP\033Ok"
 LEGACY_TO_ANY = {
-    "no modes": (b"", LEGACY, b"a\x03\033[1;5A\033[A\r\t\x7f\033[Z\033x\xc3\xa9\033OP+"),
+    "no modes": (b"", LEGACY, LEGACY.replace(b"\033OA", b"\033[A").replace(b"\033Ok", b"+")),
     "cursor keys": (b"\033[?1h", b"\033[A\033OA\033[1;5A", b"\033OA\033OA\033[1;5A"),
     "the keypad's mode": (b"\033=", b"\033Ok\033OM\033Ou", b"\033Ok\033OM\033Ou"),
-    "flag 1": (b"\033[>1u", b"a\x03\r\033[A", b"a\033[99;5u\r\033[A"),
+    "flag 1": (b"\033[>1u", b"a\x03\r\n\033[A", b"a\033[99;5u\r\033[106;5u\033[A"),
     "flag 8": (b"\033[=8u", b"a\x03\r\033[A", b"\033[97u\033[99;5u\033[13u\033[A"),
     "all flags": (b"\033[>31u", b"aA\r\t", b"\033[97;;97u\033[65;;65u\033[13u\033[9u"),
     "modifyOtherKeys": (b"\033[>4;2m", b"\033[27;5;105~\t", b"\033[27;5;105~\t"),
@@ -198,6 +192,34 @@ def test_legacy_outside(start, modes, sent, got):
     relay.end()
 
 
+# What the child gets for these, where 127 erases and where 8 does. Ctrl-H sends 8 in both.
+BACKSPACE = b"\x08\x7f\033\x08\033[127u\033[127;5u\033[127;3u\033[104;5u"
+ERASED = {
+    "127": (b"\x7f", b"", b"\x08\x7f\033\x08\x7f\x08\033\x7f\x08"),
+    "8": (b"\x08", b"", b"\x08\x7f\033\x08\x08\x7f\033\x08\x08"),
+    "127, flag 1": (
+        b"\x7f",
+        b"\033[>1u",
+        b"\033[104;5u\x7f\033[104;7u\x7f\033[127;5u\033[127;3u\033[104;5u",
+    ),
+    "8, flag 1": (
+        b"\x08",
+        b"\033[>1u",
+        b"\x08\033[127;5u\033[127;3u\x08\033[127;5u\033[127;3u\033[104;5u",
+    ),
+}
+
+
+@pytest.mark.parametrize("erase, modes, got", ERASED.values(), ids=ERASED)
+def test_backspace(start, erase, modes, got):
+    """The child's terminal has the settings of the terminal outside, and the byte of these."""
+    relay = start(True, erase=erase)
+    relay.child.is_told(ord(erase), 80, 24)
+    relay.passes(modes)
+    relay.check_keys(BACKSPACE, got)
+    relay.end()
+
+
 def test_newline_mode(start):
     """A terminal by Kitty's protocol tells the key alone. Another one adds the line feed itself."""
     relay = start(True)
@@ -216,15 +238,17 @@ def recorded(name, mode, kind="press"):
 
 
 def one_key(data):
-    """The report of a key, with what it types, if these bytes are one without Kitty's protocol."""
-    with ExtendedParser(Protocol.LEGACY) as parser:
+    """The report of the key, with what it types, if these bytes are one press. A control character
+    is the key that sends it."""
+    with ExtendedParser() as parser:
         events = parser.parse(data, maybe_more=False)
     press = KeyPress.of_event(events[0]) if len(events) == 1 else None
     if press is None:
         return None
-    report = key_report(events[0])
-    typed = press.text if isinstance(events[0], KeyEvent) else None
-    return replace(report, text=typed or report.text)
+    [report] = events
+    if isinstance(report.key, str) and not report.key.isprintable():
+        report = KeyReport(press.key, press.held)
+    return replace(report, text=press.text or "")
 
 
 def relayed(relay, texts):
@@ -316,12 +340,13 @@ def test_mouse(start, modes, told, sent, got):
 
 
 def test_two_buttons(start):
-    """No event says which of two is released, so it is the one that was pressed last."""
+    """A release says of which of the two it is, unless it comes in an older form."""
     relay = start()
+    down, up = b"\033[<0;1;1M\033[<2;1;1M", b"\033[<0;1;1m\033[<2;1;1m"
     relay.passes(b"\033[?1002;1006h", switches("1002 1006"))
-    down = [b"\033[<0;1;1M", b"\033[<2;1;1M"]
-    up = [it.lower() for it in down]
-    relay.check_keys(b"".join(down + up), b"".join(down + up[::-1]))
+    relay.check_keys(down + up, down + up)
+    relay.passes(b"\033[?1006l")
+    relay.check_keys(down + up, b'\033[M !!\033[M"!!' + 2 * b"\033[M#!!")
     relay.end()
 
 
@@ -599,7 +624,7 @@ def test_sequence_that_comes_while_it_is_stopped(start, tmp_path):
 
 def test_new_size(start):
     relay = start()
-    relay.child.is_told(8, 80, 24)
+    relay.child.is_told(127, 80, 24)
     relay.resize(100, 40)
     relay.child.is_told(signal.SIGWINCH, 100, 40)
     relay.end()
@@ -732,7 +757,7 @@ def test_stop_where_nobody_has_the_terminal(start, number):
         relay.check_keys(b"", START + b"a\r" + END + b"\033[1;5A")
     relay.end()
     assert relay.output.count(ON.encode()) == 1
-    assert relay.child.signals == [[8, 80, 24]]
+    assert relay.child.signals == [[127, 80, 24]]
 
 
 def test_sigtstp_where_no_shell_could_continue_it(start):

@@ -4,6 +4,7 @@ stream for tokio and the source for mio, by the examples that do the same over e
 import contextlib
 import fcntl
 import os
+import re
 import signal
 import termios
 import time
@@ -94,7 +95,7 @@ def program(example):
 def start(program, on_terminal):
     def run(*words, before=(), **how):
         cases = Cases([*before, *program, *words], **how)
-        if "plain" in words:
+        if {"plain", "kitty"} & {*words}:
             cases.turned_on = {2004}
         on_terminal(cases).check_raw()
         return cases
@@ -228,7 +229,7 @@ def test_child_that_changes_the_settings(start):
 
 def test_lent(start):
     """A child has the terminal as it was, and changes it. Then it is raw again."""
-    cases = start("", "stty -a; read line; stty erase y; echo got $line")
+    cases = start("", "stty -a; read line; stty erase y; echo got $line", erase=b"\x08")
     cases.play([b"l", "erase = ^H"])
     cases.check_restored()
     cases.play([b"text\n", "got text\r\n", "lent true\r\n"])
@@ -329,11 +330,13 @@ def test_terminal_that_is_gone(start):
 
 @pytest.mark.parametrize("redirected", ["< /dev/null", "> /dev/null", "< /dev/null > /dev/null"])
 def test_terminal_of_the_session(program, redirected):
-    """Where standard input or output is none, /dev/tty is read or written."""
+    """Where standard input or output is none, /dev/tty is read or written, by its settings."""
     words = ["sh", "-c", f'"$0" "$@" {redirected}', *program]
-    with Cases(words) as cases:
+    with Cases(words, erase=b"\x08") as cases:
         cases.play(["q ends\r\n"])
         cases.check_raw()
+        if ">" not in redirected:
+            cases.play([b"\x08\x7f", "key backspace\r\nkey ctrl+backspace\r\n"])
         cases.quit()
 
 
@@ -347,8 +350,8 @@ def layer(request, example):
 
 @pytest.fixture
 def start_layer(layer, on_terminal):
-    def run(*before):
-        live = on_terminal(Live([*before, *layer]))
+    def run(*before, **how):
+        live = on_terminal(Live([*before, *layer], **how))
         live.wait_for(lambda: live.modes() == {2004}, "modes")
         return live
 
@@ -404,6 +407,16 @@ def test_stopped_within_a_paste(start_layer, number):
     stop_and_continue(live, number)
     live.play([b"b\r", 0.7, b"c\r", 0.7, b"d" + END + START + b"e\r", LONG_PAUSE, b"f" + END])
     live.quit(SIZE, "paste of 7 bytes", "paste of 3 bytes")
+
+
+@stopped
+def test_settings_after_a_stop(start_layer, number):
+    """Backspace and LF are the keys that they were before."""
+    live, keys = start_layer(erase=b"\x08"), ["Backspace", "Char U+007F", "Char U+000A"]
+    live.play([b"\x08\x7f\n", *(f"{key}\r\n" for key in keys)])
+    stop_and_continue(live, number)
+    live.send(b"\x08\x7f\n")
+    live.quit(*keys, SIZE, *keys)
 
 
 @pytest.mark.timed
@@ -515,41 +528,20 @@ def test_terminal_that_never_answers(start):
     cases.quit()
 
 
-class Kitty(Cases):
-    def check_raw(self):
-        self.wait_for(self.is_raw, "raw mode")
-        self.expect_exact("\033[?u\033[c")
-
-
-@pytest.fixture
-def start_kitty(program, on_terminal):
-    def run(before=()):
-        cases = Kitty([*before, *program, "kitty"])
-        cases.FIRST = "\033[?u\033[cq ends"
-        return on_terminal(cases)
-
-    return run
-
-
-def test_flags_of_kittys_protocol(start_kitty):
-    """The reply to the question behind them isn't told, nor is it that of the program's own."""
-    cases = start_kitty()
-    cases.play([b"b", BACKGROUND, b"\033[?1u" + ATTRIBUTES + b"\033]11;new\007" + ATTRIBUTES])
-    cases.play([f"[Osc({list(b'11;new')}), Csi(", "is_whole: true", "KeyboardFlags(1))\r\n"])
-    cases.play([b"x", "key x\r\n", ATTRIBUTES, "Csi("])
-    assert cases.output.count(b"Csi(") == 2
-    cases.quit()
-
-
-def test_flags_of_kittys_protocol_after_a_stop(start_kitty):
-    cases = start_kitty()
-    cases.play([b"\033[?1u" + ATTRIBUTES, "KeyboardFlags(1))\r\n"])
+def test_flags_of_kittys_protocol(start):
+    """They are turned on and off, and nothing is asked. Keys are read in each form, whenever the
+    terminal begins to send another."""
+    cases = start("kitty")
+    cases.play([b"\x03", "key ctrl+c\r\n", b"\033[99;5u", "key ctrl+c\r\n"])
+    cases.play([b"\033[1;9A\033[1;5R", "key super+up\r\nkey ctrl+f3\r\n"])
+    cases.play([b"\033[?1u", "KeyboardFlags(1))\r\n"])
     cases.stop()
     cases.continue_in_foreground()
-    cases.play(["\033[?u\033[c", b"\033[?1u" + ATTRIBUTES, "KeyboardFlags(1))\r\n"])
-    cases.play([b"x", "key x\r\n"])
-    assert b"Csi(" not in cases.output
+    cases.play(["resumed\r\n", b"\x03\033[99;5u", "key ctrl+c\r\nkey ctrl+c\r\n"])
     cases.quit()
+    on, off = b"\033[?2004h\033[>1u", b"\033[<u\033[?2004l"
+    assert (cases.output.count(on), cases.output.count(off)) == (2, 2)
+    assert not re.search(rb"\033\[[?>]?[0-9]*[cn]|\033\[\?u", cases.output)
 
 
 def test_flood_while_asking(start):
@@ -560,20 +552,15 @@ def test_flood_while_asking(start):
 
 
 @pytest.fixture
-def start_below_shell(start, start_kitty):
+def start_below_shell(start):
     """Starts a program below a shell, which then prints what is left for it."""
-
-    def run(word):
-        if word == "kitty":
-            return start_kitty(before=BEFORE_SHELL)
-        return start(word, before=BEFORE_SHELL)
-
-    return run
+    return lambda word: start(word, before=BEFORE_SHELL)
 
 
-def test_typed_ahead(start_below_shell):
+@pytest.mark.parametrize("word", ["plain", "kitty"])
+def test_typed_ahead(start_below_shell, word):
     """It is left for the shell."""
-    cases = start_below_shell("plain")
+    cases = start_below_shell(word)
     cases.play([b"e", "ending\r\n", b"ls\r"])
     cases.check_left(b"ls\r")
 
@@ -603,13 +590,6 @@ def test_reply_that_is_owed_at_a_signal(start_below_shell):
     cases.play([b"t", "\033[6n\033[c", "is_whole: false"])
     os.killpg(cases.job, signal.SIGTERM)
     cases.play(["\033[?2004l", 0.2, b"\033[1;5R" + ATTRIBUTES + b"ls\r"])
-    cases.check_left(b"ls\r")
-
-
-@pytest.mark.timed
-def test_reply_to_the_question_for_the_flags_at_the_end(start_below_shell):
-    cases = start_below_shell("kitty")
-    cases.play([b"q", "\033[?2004l", 0.05, b"\033[?0u" + ATTRIBUTES + b"ls\r"])
     cases.check_left(b"ls\r")
 
 

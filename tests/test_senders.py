@@ -13,9 +13,8 @@ from hedrugal import (
     Modifiers,
     MouseButton,
     MouseEncoding,
-    MouseReport,
     MouseTracking,
-    Protocol,
+    SentMouse,
     encode_event,
     encode_paste,
 )
@@ -87,7 +86,7 @@ def written(what, mode, data):
     actions = {what.split()[1], "press"} if name.startswith("Wheel") else {what.split()[1]}
     button = BUTTONS.index(name) + 1
     reports = (MouseButton[f"BUTTON{button}_{action.upper()}"] for action in actions)
-    return {MouseReport(x, y, it, modifiers).encode(TRACKING[tracking], encoding) for it in reports}
+    return {SentMouse(x, y, it, modifiers).encode(TRACKING[tracking], encoding) for it in reports}
 
 
 @pytest.mark.parametrize("path", data_files(), ids=lambda path: path.stem)
@@ -113,5 +112,4 @@ def test_focus():
     lines = [line for path in data_files() for line in load(path)[1] if line.kind == "focus"]
     assert Counter(line.what for line in lines) == {"gained": 11, "lost": 12}
     for line in lines:
-        for protocol in Protocol:
-            assert encode_event(FOCUS[line.what], ExtendedParser(protocol)) == line.bytes
+        assert encode_event(FOCUS[line.what], ExtendedParser()) == line.bytes

@@ -97,6 +97,38 @@ def start(program, on_terminal):
     return start_program
 
 
+# What Backspace sends, and the keys of the bytes 8 and 127. A program that polls by itself feeds
+# its parser itself.
+ERASES = {
+    "127": (b"\x7f", "", ["key 1, 8", "key 6, 0"]),
+    "8": (b"\x08", "", ["key 6, 0", "key 1, 127"]),
+    "8, and /dev/tty": (b"\x08", "--tty", ["key 6, 0", "key 1, 127"]),
+    "8, and a loop of its own": (b"\x08", "--poll", ["key 6, 0", "key 1, 127"]),
+    "another": (b"\x15", "", ["key 1, 8", "key 6, 0"]),
+    "none": (b"\0", "", ["key 1, 8", "key 6, 0"]),
+}
+
+
+@pytest.mark.parametrize("erase, word, keys", ERASES.values(), ids=ERASES)
+def test_the_byte_of_backspace(start, erase, word, keys):
+    it = start(*word.split(), erase=erase)
+    for byte, line in zip([b"\x08", b"\x7f"], keys):
+        it.play([byte, f"{line}\r\n"])
+    it.quit()
+
+
+@pytest.mark.parametrize("has_icrnl", [True, False], ids=["CR becomes LF", "CR stays"])
+@pytest.mark.parametrize("word", ["", "--tty", "--poll"])
+def test_the_byte_of_enter(start, word, has_icrnl):
+    """In raw mode CR stays, whatever the settings were before."""
+    it = start(*word.split(), has_icrnl=has_icrnl)
+    it.play([b"\n", "key 1, 10\r\n", b"\r", "key 9, 0\r\n"])
+    it.stop()
+    it.continue_in_foreground()
+    it.play([f"{RESUMED}\r\n", b"\n", "key 1, 10\r\n", b"\r", "key 9, 0\r\n"])
+    it.quit()
+
+
 WAYS = ["", "--poll", "--tty"]
 
 

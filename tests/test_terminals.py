@@ -12,9 +12,8 @@ import sys
 
 import pytest
 from conftest import TOP
-from plain_reader import read as plain_read
-from presses import ALT, CAPS_LOCK, CTRL, NUM_LOCK, SHIFT, canonical, press
-from terminal_data import is_kitty
+from plain_reader import Reading, read as plain_read
+from presses import ALT, CAPS_LOCK, CTRL, NUM_LOCK, SHIFT, canonical, press, second
 from terminal_judge import is_exact, read, reader_of, told
 from terminal_tables import DOCUMENT, in_document, load_all, peers, set_up, tables
 
@@ -28,6 +27,7 @@ BUTTONS = {
     **{"WheelUp": "VERT_WHEEL+WHEEL_POSITIVE", "WheelDown": "VERT_WHEEL"},
     **{"WheelLeft": "HORZ_WHEEL+WHEEL_POSITIVE", "WheelRight": "HORZ_WHEEL"},
 }
+NUMBERS = dict(zip("Left Middle Right WheelUp WheelDown WheelLeft WheelRight".split(), range(1, 8)))
 SIDE_BUTTONS = {"Back": 8, "Forward": 9}
 # urxvt reports these as a wheel, and VTE as the left button.
 WITHOUT_SIDE_BUTTONS = ("urxvt", "xfce4-terminal", "gnome-terminal")
@@ -37,11 +37,11 @@ WRONG_REPORTS = {"dvtm": rb"\x1b\[M.*", "vim-terminal": rb"\x1b\[\d.*"}
 UNTOLD = {"qterminal": ("Ctrl", "Alt"), "putty": ("Alt",), "vim-terminal": ("Ctrl", "Alt")}
 # Of everyday presses at least so many percent are read exactly: of all, and of those without a
 # reason.
-LEAST_OF_ALL, LEAST_WITHOUT_REASON = 93.6, 98.4
+LEAST_OF_ALL, LEAST_WITHOUT_REASON = 95.2, 100
 # At most so many pairs of byte strings of a terminal in a mode share a press.
-MOST_PAIRS = 209
+MOST_PAIRS = 98
 # In at most so many modes of a terminal another parser reads more.
-MOST_FEWER = 1
+MOST_FEWER = 0
 
 
 def plain_key(key):
@@ -55,22 +55,22 @@ def plain_key(key):
 
 def plain_press(event):
     """What an event tells, as plain_reader.py says it: `key` or `release`, and a press."""
-    from hedrugal import KeyEventKind, key_report
+    from hedrugal import KeyEventKind, KeyPress, KeyReport
 
-    report = key_report(event)
-    if report is None:
+    if not isinstance(event, KeyReport):
         return None
+    report = event
     of = plain_key(report.key), report.modifiers.value, report.text, report.shifted
     is_release = report.kind is KeyEventKind.RELEASE
-    check_press(event, canonical(*of, is_release))
+    check_press(KeyPress.of_report(event), canonical(*of, is_release), event)
+    if not is_release and not report.text:
+        key, held, _, shifted = of
+        check_press(KeyPress.second(event), second(key, held, shifted, report.base), event)
     return ("release" if is_release else "key", press(*of))
 
 
-def check_press(event, wanted):
-    """Compares the press that the library gives with that of presses.py."""
-    from hedrugal import KeyPress
-
-    found = KeyPress.of_event(event)
+def check_press(found, wanted, event):
+    """Compares a press that the library gives with that of presses.py."""
     assert (found and (plain_key(found.key), found.held.value)) == wanted, event
 
 
@@ -98,7 +98,7 @@ def judged():
     for terminal, line, mode in presses():
         counts = found[set_up(terminal, line), mode]
         facts = {"presses": True, "port": is_exact("port", line)}
-        facts |= {"extended": is_exact(reader_of(mode), line), "reason": has_reason(line)}
+        facts |= {"extended": is_exact(reader_of(terminal), line), "reason": has_reason(line)}
         for name, holds in facts.items():
             counts[name] += line.count * holds
             counts["everyday " + name] += line.everyday * holds
@@ -136,7 +136,7 @@ def test_pairs():
     strings = collections.defaultdict(set)
     for terminal, line, mode in presses():
         if line.everyday and not line.layout:
-            for name in told(reader_of(mode), line.bytes)[1]:
+            for name in told(reader_of(terminal), line.bytes)[1]:
                 strings[terminal, mode, name].add(line.bytes)
     pairs = {
         (terminal, mode, pair)
@@ -153,18 +153,20 @@ def test_plain_reader(terminal):
     for line, mode in keys_of(terminal):
         if line.bytes.decode("utf-8", "ignore").encode() != line.bytes:
             continue
-        events, rest = read(reader_of(mode), line.bytes)
-        wanted, wanted_rest = plain_read(line.bytes, is_kitty(mode))
+        reader = reader_of(terminal)
+        events, rest = read(reader, line.bytes)
+        reading = Reading(erase=8 if reader == "erase" else 127)
+        wanted, wanted_rest = plain_read(line.bytes, reading)
         found = [plain_press(event) for event in events]
         wanted = [it if it[0] in ("key", "release") else None for it in wanted]
         assert (found, rest) == (wanted, wanted_rest), (line, mode)
 
 
 def test_port():
-    """What the port reads as one key, the extended parser reads as that key, by legacy rules."""
+    """What the port reads as the key that was pressed, the extended parser reads so, too."""
     for terminal, line, mode in presses():
-        if not is_kitty(mode) and is_exact("port", line):
-            assert is_exact("legacy", line), (terminal, line)
+        if is_exact("port", line):
+            assert is_exact(reader_of(terminal), line), (terminal, mode, line)
 
 
 # A report of the modes 1006 and 1016, one of 1015, and one of the others.
@@ -175,7 +177,7 @@ ONE_REPORT = rb"\x1b\[<[\d;]+[Mm]|\x1b\[[\d;]+M|\x1b\[M[ -\xff]{3}"
 def test_mouse(terminal):
     """A report tells the button and the modifiers. None is a key. The short form of a report is
     read by a parser that was told so."""
-    from hedrugal import Modifiers, MouseButtons, SideButton, SideButtonKind
+    from hedrugal import Modifiers, MouseButtons, MouseKind
 
     def flags(kind, names):
         return functools.reduce(lambda all_, it: all_ | kind[it], names, kind.NONE)
@@ -189,20 +191,22 @@ def test_mouse(terminal):
         *held, button = pressed.split("+")
         held = [it.upper() for it in held if it not in UNTOLD.get(terminal, ())]
         modifiers = flags(Modifiers, held)
-        for reader in ["x10"] if line.bytes.startswith(b"\x1b[M") else ["legacy", "kitty"]:
-            events, rest = read(reader, line.bytes)
-            assert len(events) == 1 and not rest and not plain_press(events[0]), line
-            # In the mode 1003 a move may come in between, and few terminals say what was released.
-            if "1000" not in line.modes or what == "release" and not line.bytes.endswith(b"m"):
-                continue
-            if what == "press" and button in BUTTONS:
-                buttons = flags(MouseButtons, BUTTONS[button].split("+"))
-                assert (events[0].buttons, events[0].modifiers) == (buttons, modifiers), line
-            if button in SIDE_BUTTONS and terminal not in WITHOUT_SIDE_BUTTONS:
-                event = events[0]
-                wanted = SIDE_BUTTONS[button], SideButtonKind[what.upper()], modifiers
-                assert isinstance(event, SideButton), line
-                assert (event.number, event.kind, event.modifiers) == wanted, line
+        reader = "x10" if line.bytes.startswith(b"\x1b[M") else "extended"
+        events, rest = read(reader, line.bytes)
+        assert len(events) == 1 and not rest and not plain_press(events[0]), line
+        # In the mode 1003 a move may come in between, and few terminals say what was released.
+        if "1000" not in line.modes or what == "release" and not line.bytes.endswith(b"m"):
+            continue
+        event = events[0]
+        if what == "press" and button in BUTTONS:
+            buttons = flags(MouseButtons, BUTTONS[button].split("+"))
+            assert (event.buttons, event.modifiers) == (buttons, modifiers), line
+            kind = MouseKind.WHEEL if "Wheel" in button else MouseKind.PRESS
+            assert (event.kind, event.button) == (kind, NUMBERS[button]), line
+        if button in SIDE_BUTTONS and terminal not in WITHOUT_SIDE_BUTTONS:
+            wanted = SIDE_BUTTONS[button], MouseKind[what.upper()], modifiers
+            assert (event.button, event.kind, event.modifiers) == wanted, line
+            assert event.buttons is MouseButtons.NONE, line
 
 
 @pytest.mark.parametrize("terminal", TERMINALS)
@@ -212,14 +216,14 @@ def test_focus(terminal):
     for line in FILES[terminal][1]:
         if line.kind == "focus":
             wanted = {"gained": FocusGained(), "lost": FocusLost()}[line.what]
-            assert read("legacy", line.bytes) == read("kitty", line.bytes) == ([wanted], 0), line
+            assert read("extended", line.bytes) == ([wanted], 0), line
 
 
 @pytest.mark.parametrize("terminal", TERMINALS)
 def test_pastes(terminal):
     """A paste is one event. What follows an END in its text is typed, and then comes the other
     END, a key of its own. Without an END it stays open."""
-    from hedrugal import KeyCode, KeyEvent, Paste
+    from hedrugal import KeyCode, Paste
 
     for line in FILES[terminal][1]:
         if line.kind != "paste" or "2004" not in line.modes:
@@ -227,14 +231,15 @@ def test_pastes(terminal):
         start, end = b"\x1b[200~", b"\x1b[201~"
         assert line.bytes.startswith(start), line
         text, *typed = line.bytes[len(start) :].split(end)
-        for reader in ("port", "legacy", "kitty"):
+        for reader in ("port", "extended"):
             events, rest = read(reader, line.bytes)
             if not typed:
                 assert (events, rest) == ([], len(line.bytes)), line
                 continue
             assert events[0] == Paste(text.decode("utf-8", "replace")) and not rest, line
             is_forged = typed != [b""]
-            assert is_forged == (events[-1] == KeyEvent(KeyCode.INTERNAL_PASTE_END)), line
+            last = getattr(events[-1], "key", None)
+            assert is_forged == (last is KeyCode.INTERNAL_PASTE_END), line
             assert is_forged or len(events) == 1, line
 
 
@@ -246,7 +251,7 @@ def test_replies(terminal):
 
     for line in FILES[terminal][1]:
         if line.kind == "reply" and line.bytes != b"PuTTY":
-            for reader in ("legacy", "kitty", "asked"):
+            for reader in ("extended", "asked"):
                 events, _ = read(reader, line.bytes)
                 keys = [it[1] for it in map(plain_press, events) if it]
                 is_third = all(it.endswith("f3") for it in keys) and b"R" in line.bytes
@@ -287,6 +292,9 @@ def test_document(name):
         (("applicationuparrow", CTRL), "ctrl+up"),
         (("\0", 0), "ctrl+space"),
         (("\x1f", ALT), "ctrl+alt+_"),
+        (("\b", 0), "ctrl+h"),
+        (("\n", ALT), "ctrl+alt+j"),
+        (("\x7f", 0), "ctrl+backspace"),
         (("\t", CTRL), "ctrl+tab"),
         (("A", CTRL), "ctrl+shift+a"),
         (("!", SHIFT), "!"),

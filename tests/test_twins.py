@@ -1,10 +1,10 @@
-"""Which press is read of what `encode` writes, for every key and every set of four modifiers, and
-of what `encode_kitty` writes as before Kitty's protocol.
+"""Which press is read of what is sent for a key: of what `encode` writes, for every key and every
+set of four modifiers, and of what `encode_kitty` writes under any flags.
 
 Most keys are read as themselves. The others are read as their twins, by the tables of
-crates/termwiz_binding_laws/README.md, which `twin` and `legacy_twin` follow line by line. The laws
-of that crate say the same of the definitions. Here the library encodes, reads and names the press,
-and the plain model of presses says what it should be."""
+crates/termwiz_binding_laws/README.md, which `twin`, `port_twin` and `legacy_twin` follow line by
+line. The laws of that crate say the same of the definitions. Here the library encodes, reads and
+names the press, and the plain model of presses says what it should be."""
 import itertools
 import string
 
@@ -12,20 +12,28 @@ import pytest
 from presses import ALT, CTRL, KITTY_NAMES, MAIN_KEYS, NO_PRESS, SHIFT, SUPER, canonical, is_control
 
 # What is read in place of Ctrl and a character.
-CONTROL = {it: ("backspace", 0) for it in "h8?"} | {"i": ("tab", 0)}
-CONTROL |= {it: ("enter", 0) for it in "jm"} | {it: ("escape", 0) for it in "[3{"}
+CONTROL = {it: ("backspace", 0) for it in "8?"} | {"i": ("tab", 0), "m": ("enter", 0)}
+CONTROL |= {it: ("escape", 0) for it in "[3{"}
 CONTROL |= {it: (" ", CTRL) for it in "@2`"} | {it: ("\\", CTRL) for it in "4|"}
 CONTROL |= {it: ("]", CTRL) for it in "5}"} | {it: ("^", CTRL) for it in "6~"}
 CONTROL |= {it: ("_", CTRL) for it in "7/"}
+# To the port the bytes 8 and 10 are keys too.
+PORT_CONTROL = CONTROL | {"h": ("backspace", 0), "j": ("enter", 0)}
 TOLD_IN_CSI_U = "im[@{"
 HAS_CONTROL = " \\]^_abcdefghijklmnopqrstuvwxyz"
+EDIT_KEYS = "insert end downarrow pagedown leftarrow keypadbegin rightarrow home uparrow pagedown"
+EDIT_KEYS = {f"numpad{place}": it for place, it in enumerate(EDIT_KEYS.split())}
+EDIT_KEYS |= {"decimal": "delete"}
 
 CHARACTERS = [chr(code) for code in range(32, 127)]
 CHARACTERS += list("\x80\x9f\xa0éÉсСß\ue000\ufffd\U0001f600\U0010ffff")
+CONTROL_CHARACTERS = [chr(code) for code in [*range(1, 32), 127]]
 NAMES = "BACKSPACE TAB ENTER ESCAPE PAGE_UP PAGE_DOWN END HOME INSERT DELETE KEY_PAD_BEGIN"
 NAMES += " LEFT_ARROW RIGHT_ARROW UP_ARROW DOWN_ARROW KEY_PAD_HOME KEY_PAD_END KEY_PAD_PAGE_UP"
 NAMES += " KEY_PAD_PAGE_DOWN APPLICATION_LEFT_ARROW APPLICATION_RIGHT_ARROW"
 NAMES += " APPLICATION_UP_ARROW APPLICATION_DOWN_ARROW"
+# Those that only the law of the extended parser speaks of.
+EDIT_NAMES = [f"NUMPAD_{it}" for it in range(10)] + ["DECIMAL"]
 LEVELS = [None, -1, 0, 1, 2, 3]
 
 
@@ -33,7 +41,7 @@ def is_capital(key, held):
     return "A" <= key <= "Z" or "a" <= key <= "z" and held & SHIFT
 
 
-def twin_of_control(key, held, is_csi_u, level):
+def twin_of_control(key, held, is_csi_u, level, rows):
     """Of Ctrl and a character of ASCII."""
     if level == 2:
         return key, held
@@ -45,37 +53,69 @@ def twin_of_control(key, held, is_csi_u, level):
         return key, held & ~SHIFT
     if is_csi_u and key in TOLD_IN_CSI_U:
         return key, held
-    if key in CONTROL:
-        named, control = CONTROL[key]
+    if key in rows:
+        named, control = rows[key]
         return named, control | held & ALT
     if key in HAS_CONTROL or (is_csi_u or level is not None) and not held & ALT:
         return key, held
     return key, held & ALT
 
 
-def twin(key, held, is_csi_u, level, is_kitty):
-    """The key and the modifiers that are read, under Kitty's protocol or before it."""
+def twin_of_character(key, held, is_csi_u, level, rows):
+    is_on = level is not None
+    if ord(key) >= 128:
+        told = held if is_control(key) else held & ~SHIFT
+        return key, told if is_on else held & ALT
+    if key in string.punctuation:
+        held &= ~SHIFT
+    if held & CTRL:
+        return twin_of_control(key, held, is_csi_u, level, rows)
+    is_coded = (is_csi_u or is_on) and (key == " " or not held & ALT)
+    return key, held if key.isalpha() or is_coded else held & ~SHIFT
+
+
+def twin_of_name(key, held, is_csi_u, level):
+    """Of a key that has a name, but for Backspace with a modifier."""
     is_on = level is not None
     if key == "tab" and held & SUPER and not is_on:
         return key, held & ALT
     held &= ~SUPER
     if key == "enter" and not (is_csi_u or is_on):
         return key, held & ALT
-    if key == "backspace" and is_csi_u and held & CTRL and not is_kitty:
-        return "h", held
     if key in ("escape", "backspace") and not (is_csi_u or is_on and level != 1):
         return key, held & ALT
+    return EDIT_KEYS.get(key, key), held
+
+
+def twin(key, held, is_csi_u, level):
+    """The key and the modifiers that the extended parser reads."""
+    is_told = is_csi_u or level is not None
+    is_escape_told = is_csi_u or level not in (None, 1)
+    if key == "\b":
+        key = "backspace"
+    if key == "backspace" and held & CTRL and not is_escape_told:
+        return "h", CTRL | held & ALT
+    if key == "\x7f":
+        return "delete", held & ~SUPER
     if len(key) > 1:
-        return key, held
-    if ord(key) >= 128:
-        told = held if is_control(key) else held & ~SHIFT
-        return key, told if is_on else held & ALT
-    if key in string.punctuation or key.isdigit() and is_kitty and not is_csi_u:
+        return twin_of_name(key, held, is_csi_u, level)
+    if key < " ":
+        if not (is_escape_told if key == "\x1b" else is_told):
+            return key, held & ALT
+        return "enter" if key == "\n" and held else key, held & ~SUPER
+    if key.isdigit() and not is_csi_u:
         held &= ~SHIFT
-    if held & CTRL:
-        return twin_of_control(key, held, is_csi_u, level)
-    is_coded = (is_csi_u or is_on) and (key == " " or not held & ALT)
-    return key, held if key.isalpha() or is_coded else held & ~SHIFT
+    return twin_of_character(key, held & ~SUPER, is_csi_u, level, CONTROL)
+
+
+def port_twin(key, held, is_csi_u, level):
+    """The key and the modifiers that the port reads."""
+    if key == "backspace" and is_csi_u and held & (SHIFT | CTRL):
+        # By its code this is a character: U+0008 with Ctrl, and U+007F without.
+        return chr(8 if held & CTRL else 127), held & ~SUPER
+    if len(key) > 1:
+        return twin_of_name(key, held, is_csi_u, level)
+    return twin_of_character(key, held & ~SUPER, is_csi_u, level, PORT_CONTROL)
 
 
 def plain_name(key):
@@ -90,8 +130,9 @@ def plain_name(key):
 def keys():
     from hedrugal import Function, KeyCode
 
-    named = [KeyCode[it] for it in NAMES.split()]
-    return CHARACTERS + named + [Function(number) for number in range(1, 25)]
+    named = [KeyCode[it] for it in [*NAMES.split(), *EDIT_NAMES]]
+    functions = [Function(number) for number in range(1, 25)]
+    return CONTROL_CHARACTERS + CHARACTERS + named + functions
 
 
 def presses(events):
@@ -106,32 +147,37 @@ def read(parser, text):
     return presses([*parser.parse(text), *parser.flush()])
 
 
-def is_unknown_to_port(key, held, level):
-    """The port has no text of the key in its table."""
-    return key == "keypadbegin" or len(key) == 1 and ord(key) > 127 and level is not None and held
+def is_left_out_of_port(key, held, level):
+    """The law of the port doesn't speak of the key, or the port has no text of it in its table."""
+    if key in EDIT_KEYS or key in CONTROL_CHARACTERS or key == "keypadbegin":
+        return True
+    return len(key) == 1 and ord(key) > 127 and level is not None and held
 
 
 @pytest.mark.parametrize("level", LEVELS)
 @pytest.mark.parametrize("encoding", ["XTERM", "CSI_U"])
 def test_twins(encoding, level):
-    from hedrugal import ExtendedParser, InputParser, KeyboardEncoding, KeyCodeEncodeModes
-    from hedrugal import Modifiers, Protocol, encode
+    from hedrugal import Dialect, ExtendedParser, InputParser, KeyboardEncoding
+    from hedrugal import KeyCodeEncodeModes, Modifiers, Reading, encode
 
     is_csi_u = encoding == "CSI_U"
-    parsers = [ExtendedParser(), ExtendedParser(Protocol.KITTY), InputParser()]
+    extended = [ExtendedParser(), ExtendedParser()]
+    extended[1].reading = Reading(x10_mouse=True)
+    port = [InputParser(), ExtendedParser(Dialect.TERMWIZ)]
     for key, held, on in itertools.product(keys(), range(16), [False, True]):
         modes = KeyCodeEncodeModes(KeyboardEncoding[encoding], on, on, level)
         text = encode(key, Modifiers(2 * held), modes)
         name = plain_name(key)
-        for parser in parsers:
-            is_kitty = parser is parsers[1]
-            pressed = [canonical(*twin(name, held, is_csi_u, level, is_kitty))]
-            if on and name == "enter" and not held & (SHIFT | CTRL):
-                pressed = [("enter", held & ALT), ("enter", 0)]
-            if parser is parsers[2] and is_unknown_to_port(name, held, level):
-                continue
-            case = (name, held, on, text)
+        case = (name, held, on, text)
+        pressed = [canonical(*twin(name, held, is_csi_u, level))]
+        port_pressed = [canonical(*port_twin(name, held, is_csi_u, level))]
+        if on and name == "enter" and not held & (SHIFT | CTRL):
+            pressed = [("enter", held & ALT), ("j", CTRL)]
+            port_pressed = [("enter", held & ALT), ("enter", 0)]
+        for parser in extended:
             assert (case, read(parser, text)) == (case, pressed)
+        for parser in [] if is_left_out_of_port(name, held, level) else port:
+            assert (case, read(parser, text)) == (case, port_pressed)
 
 
 # The sets of modifiers in the columns of Kitty's tables, and which of them text keys have.
@@ -146,6 +192,8 @@ WAITING = {("escape", 0), ("escape", ALT), *((it, ALT) for it in "[OP]_")}
 
 def legacy_twin(key, held, shifted):
     """The key, the modifiers and what it types with Shift, as they are read of Kitty's tables."""
+    if key == "backspace" and held & CTRL:
+        return "h", CTRL | held & ALT, None
     if key in ("enter", "escape", "backspace"):
         return key, held & ALT, None
     if key == "tab":
@@ -183,17 +231,20 @@ def shown(key, held, shifted, text):
     return key.upper() if "a" <= key <= "z" else key
 
 
-def read_before(key, held, flags, is_repeat, shifted, text):
-    """What is read of a key before Kitty's protocol, and whether its modifiers are told to Kitty's
-    parser alone."""
-    main = MAIN_KEYS.get(key, key)
-    types = len(str(main)) == 1 and not is_control(main)
-    if not held & ~SHIFT and (text or types) or main in CONTROLS and not held:
-        return canonical(shown(main, held, shifted, text), 0), False
-    if not (is_repeat and flags & 2) and is_of_tables(main, held, shifted):
-        twin_key, twin_held, twin_shifted = legacy_twin(main, held, shifted)
-        return canonical(twin_key, twin_held, "", twin_shifted), main == "applications" and held > 7
-    return canonical(key, held, "", shifted if flags & 4 else None), True
+def kitty_twin(key, held, flags, is_repeat, shifted, text):
+    """The press that is read of a key. Flag 1 makes reports of keys, and flag 8 of all keys. Flag 2
+    tells a repeat, flag 4 what the key types with Shift, and flag 16 its text beside flag 8."""
+    told = key if flags & (1 | 8) else MAIN_KEYS.get(key, key)
+    types = len(str(told)) == 1 and not is_control(told)
+    is_typed = not held & ~SHIFT and (text or types) or told in CONTROLS and not held
+    if is_typed and not flags & 8:
+        return canonical(shown(told, held, shifted, text), 0)
+    is_press = not (is_repeat and flags & 2)
+    if not flags & (1 | 8) and is_press and is_of_tables(told, held, shifted):
+        twin_key, twin_held, twin_shifted = legacy_twin(told, held, shifted)
+        return canonical(twin_key, twin_held, "", twin_shifted)
+    has_text = flags & 8 and flags & 16
+    return canonical(key, held, text if has_text else "", shifted if flags & 4 else None)
 
 
 def kitty_keys():
@@ -204,6 +255,7 @@ def kitty_keys():
     found = [names[it] for it in KITTY_NAMES.values() if it in names]
     found += [KeyCode[it] for it in NAMES.split()[:11] + NAMES.split()[11:15]]
     characters = [it for it in CHARACTERS if it != "\ue000"]  # Kitty's number of a functional key.
+    characters += list("\x01\x0b\x1c")  # Those without the number of another key.
     return characters + [*dict.fromkeys(found)] + [Function(it) for it in range(1, 36)] + numbers
 
 
@@ -221,36 +273,36 @@ def kitty_reports(key, kind):
             yield held, KeyReport(key, modifiers, kind, shifted)
 
 
-@pytest.mark.parametrize("flags", [0, 2, 4, 16, 22])
-def test_before_kitty(flags):
-    from hedrugal import ExtendedParser, Protocol
+@pytest.mark.parametrize("flags", [0, 1, 2, 4, 5, 8, 16, 22, 29, 31])
+def test_kitty(flags):
+    from hedrugal import ExtendedParser, Reading
     from hedrugal.extended import KeyEventKind, KittyKeyboardFlags
 
-    parsers = [ExtendedParser(Protocol.KITTY), ExtendedParser()]
+    parsers = [ExtendedParser(), ExtendedParser()]
+    parsers[1].reading = Reading(x10_mouse=True, questions=255)
     for key, kind in itertools.product(kitty_keys(), [KeyEventKind.PRESS, KeyEventKind.REPEAT]):
         name, is_repeat = plain_name(key), kind is KeyEventKind.REPEAT
         for held, report in kitty_reports(key, kind):
             sent = report.encode(KittyKeyboardFlags(flags))
-            if name in NO_PRESS:
+            if name in NO_PRESS and not flags & 8:
                 assert sent == b""
                 continue
-            told = report.shifted, report.text
-            press, needs_kitty = read_before(name, held, flags, is_repeat, *told)
-            for parser in parsers[:1] if needs_kitty else parsers:
+            press = kitty_twin(name, held, flags, is_repeat, report.shifted, report.text)
+            for parser in parsers:
                 found = presses(parser.parse(sent))
                 if press in WAITING:
                     found += presses(parser.flush())
                 assert (report, sent, found) == (report, sent, [press])
+    assert parsers[1].reading.questions == 255
 
 
-@pytest.mark.parametrize("protocol", ["LEGACY", "KITTY"])
-def test_f3_while_a_question_is_open(protocol):
+def test_f3_while_a_question_is_open():
     """Its text with a modifier is the position that was asked for, and the next one is the key."""
-    from hedrugal import ExtendedParser, Function, Modifiers, Protocol, encode
+    from hedrugal import ExtendedParser, Function, Modifiers, encode
     from hedrugal.extended import CursorPosition
 
     for held in range(1, 8):
-        parser = ExtendedParser(Protocol[protocol])
+        parser = ExtendedParser()
         parser.expect_position()
         text = encode(Function(3), Modifiers(2 * held))
         assert parser.parse(text) == [CursorPosition(1, held + 1)]
