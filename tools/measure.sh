@@ -1,11 +1,11 @@
 #!/usr/bin/env bash
 # Measures the parser in process beside that of another commit, in one run on this machine.
 #
-#     tools/measure.sh --against COMMIT [--extended PROTOCOL] [--reads N] [--runs N] [INPUT..]
+#     tools/measure.sh --against COMMIT [--extended] [--reads N] [--runs N] [INPUT..]
 #
 # It builds the crates of the parser here and of COMMIT in a temporary folder, each with a program that asks the parser for one
-# event after another (tools/measure/next.rt.txt, pass.c). The parser is InputParser or, with --extended, the extended parser under
-# PROTOCOL, legacy or kitty. Each INPUT (all) has a megabyte, and is given in reads of N bytes (64). The two programs run in turn,
+# event after another (tools/measure/next.rt.txt, pass.c). The parser is InputParser or, with --extended, the extended parser.
+# Each INPUT (all) has a megabyte, and is given in reads of N bytes (64). The two programs run in turn,
 # N times each (9), one pass a process. It prints the least nanoseconds for an event of both, and the first divided by the second.
 #
 # tools/performance.py measures all else. This needs rt, cc and python3. It says on standard error what it does.
@@ -16,7 +16,8 @@ against='' extended='' reads=64 runs=9
 while [[ ${1-} == -* ]]; do
     case $1 in
         --help) show_help; exit ;;
-        --against | --extended | --reads | --runs) [ $# -gt 1 ] || refuse "$1 wants a word after it" ;;
+        --extended) extended=yes; shift; continue ;;
+        --against | --reads | --runs) [ $# -gt 1 ] || refuse "$1 wants a word after it" ;;
         *) refuse_word "$1" ;;
     esac
     declare "${1#--}=$2"
@@ -25,26 +26,27 @@ done
 want_number "$reads" --reads
 want_number "$runs" --runs
 git -C "$top" rev-parse --quiet --verify "$against^{commit}" > /dev/null || refuse "--against wants a commit, and not '$against'"
-case $extended in '' | legacy | kitty) ;; *) refuse_word "$extended" ;; esac
 need rt 'the Rattle kit' cc gcc python3 python3
 work=$(mktemp -d)
 trap 'rm -rf "$work"' EXIT
 
 # Builds the program of the crates in a folder. What rt kept at the top spares it the proofs of what is the same. An older commit
-# calls the protocols otherwise.
+# has protocols in place of dialects, and calls them so or otherwise.
 build() { # folder
-    local folder=$1 parser=termwiz_input protocol=Protocol::${extended^} kept crate
+    local folder=$1 parser=termwiz_input dialect=Protocol::Kitty event=ExtendedEvent kept crate
     [ -z "$extended" ] || parser=termwiz_input_extended
-    grep -q 'enum Rows' "$folder"/crates/termwiz_extended_events/src/types.rt && protocol=Rows::$([ "$extended" = kitty ] && echo Kitty || echo Port)
+    ! grep -q 'enum Rows' "$folder"/crates/termwiz_extended_events/src/types.rt || dialect=Rows::Kitty
+    ! grep -q 'enum Dialect' "$folder"/crates/termwiz_extended_events/src/types.rt || dialect=Dialect::Extended
+    ! grep -q 'enum Event ' "$folder"/crates/termwiz_extended_events/src/types.rt || event=Event
     for kept in "$top"/crates/termwiz_*/out; do
         crate=$folder/crates/$(basename "$(dirname "$kept")")
         [ ! -d "$crate" ] || cp -a "$kept" "$crate/"
     done
     mkdir -p "$folder/crates/next/src"
     cp "$top/tools/measure/next.rt.txt" "$folder/crates/next/src/lib.rt"
-    [ -z "$extended" ] || sed -i -e "s/^use .*::InputEvent;/use termwiz_input_extended::types::{ExtendedEvent, ${protocol%::*}};/" \
-        -e 's/^use termwiz_input::/use termwiz_input_extended::/' -e "s/InputParser::new(alloc)/ExtendedParser::new(alloc, $protocol)/" \
-        -e 's/InputParser/ExtendedParser/g' -e 's/InputEvent/ExtendedEvent/g' "$folder/crates/next/src/lib.rt"
+    [ -z "$extended" ] || sed -i -e "s/^use .*::InputEvent;/use termwiz_input_extended::types::{$event, ${dialect%::*}};/" \
+        -e 's/^use termwiz_input::/use termwiz_input_extended::/' -e "s/InputParser::new(alloc)/ExtendedParser::new(alloc, $dialect)/" \
+        -e 's/InputParser/ExtendedParser/g' -e 's/InputEvent/'$event'/g' "$folder/crates/next/src/lib.rt"
     echo "next staticlib: $parser" >> "$folder/crates.txt"
     (cd "$folder/crates/next" && run_quietly rt lib)
     cc -O2 -o "$folder/pass" "$top/tools/measure/pass.c" "$folder/crates/next/out/libnext.a" "$(dirname "$(rt doc)")/c/liblibc_c.a"

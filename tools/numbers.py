@@ -69,14 +69,15 @@ def read_list() -> Numbers:
 PLACES = {
     HEADER: {
         "c": "kind next waiting age termwiz_mod button key encoding kitty_flag encoded found"
-        " protocol side_button key_event_kind kitty_mod named printed bound pressed outcome replied"
-        " reply device_attributes mode_state colour_name colour_scheme mouse mouse_tracking"
-        " mouse_encoding"
+        " dialect erase newline mouse_kind key_event_kind kitty_mod named printed bound pressed"
+        " outcome replied reply device_attributes mode_state colour_name colour_scheme mouse"
+        " mouse_tracking mouse_encoding"
     },
     "rust/src/raw.rs": {
-        "const": "next waiting age encoded found kind protocol side_button key_event_kind encoding"
-        " named printed bound pressed outcome replied reply device_attributes mode_state"
-        " colour_name colour_scheme mouse mouse_tracking mouse_encoding"
+        "const": "next waiting age encoded found kind dialect erase newline mouse_kind"
+        " key_event_kind encoding named printed bound pressed outcome replied reply"
+        " device_attributes mode_state colour_name colour_scheme mouse mouse_tracking"
+        " mouse_encoding"
     },
     "rust/src/input/flags.rs": {"flag": "termwiz_mod button kitty_flag kitty_mod"},
     "rust/src/input/keys.rs": {"variant": "key", "number": "key", "of": "key"},
@@ -86,7 +87,7 @@ PLACES = {
         "private": "next encoded found kind key",
     },
     "python/hedrugal/extended.py": {
-        "member": "protocol side_button key_event_kind kitty_mod",
+        "member": "dialect erase newline mouse_kind key_event_kind kitty_mod",
         "private": "named printed bound pressed outcome",
     },
     "python/hedrugal/replies.py": {
@@ -122,7 +123,7 @@ FORMS = {
 # The types of groups in Rust; the others are u32.
 RUST_TYPES = {
     **dict.fromkeys(
-        "kind side_button key_event_kind encoding reply device_attributes age mouse".split(), "u8"
+        "kind mouse_kind key_event_kind encoding reply device_attributes age mouse".split(), "u8"
     ),
     **dict.fromkeys("mode_state colour_name colour_scheme".split(), "u8"),
     **{"termwiz_mod": "Modifiers", "button": "MouseButtons"},
@@ -231,7 +232,7 @@ FLAG_NAME = r'name: "(?P<text>\w+)",\n *value: \w+::(?P<name>\w+),$'
 PROVED = [
     ("key", "termwiz_bindings/src/numbers.rt", KEY_NUMBER),
     ("kind", "hedrugal/src/events.rt hedrugal/src/extended_events.rt", constants("KIND")),
-    ("side_button", "hedrugal/src/extended_events.rt", constants("SIDE_BUTTON")),
+    ("mouse_kind", "hedrugal/src/extended_events.rt", constants("MOUSE_KIND")),
     ("key_event_kind", "hedrugal/src/extended_events.rt", constants("KEY_EVENT_KIND")),
     ("encoding", "hedrugal/src/modes.rt", variants("KeyboardEncoding")),
     ("next", "hedrugal/src/lib.rt", constants("NEXT")),
@@ -239,7 +240,9 @@ PROVED = [
     ("waiting", "hedrugal/src/lib.rt", constants("WAITING")),
     ("age", "hedrugal/src/timer_calls.rt", constants("AGE")),
     ("found", "hedrugal/src/keymap_calls.rt", constants("FOUND")),
-    ("protocol", "hedrugal/src/extended_calls.rt", constants("PROTOCOL")),
+    ("dialect", "hedrugal/src/extended_calls.rt", constants("DIALECT")),
+    ("erase", "hedrugal/src/reading_calls.rt", constants("ERASE")),
+    ("newline", "hedrugal/src/reading_calls.rt", constants("NEWLINE")),
     ("named", "hedrugal/src/name_calls.rt", constants("NAMED")),
     ("printed", "hedrugal/src/name_calls.rt", constants("PRINTED")),
     ("bound", "hedrugal/src/binding_calls.rt", constants("BOUND")),

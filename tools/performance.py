@@ -14,8 +14,8 @@ turn, and of each the least time counts. What is printed is what docs/PERFORMANC
 - processor time for an event through each layer over a terminal: those in C, Rust and Python, and
   crossterm's
 
-The parsers are C (InputParser), Legacy and Kitty (the extended parser under that protocol, from C),
-Rust and Python (InputParser), Python Legacy (the extended parser), Python Keys (the parser for
+The parsers are C (InputParser), Extended (the extended parser, from C), Rust and Python
+(InputParser), Python Extended (the extended parser), Python Keys (the parser for
 prompt_toolkit), libtermkey, crossterm and prompt_toolkit. The last three are those of
 Debian's packages. If one can't be built its column says why; `tools/needs.sh --install performance`
 installs them. To compare two commits there is tools/measure.sh."""
@@ -155,11 +155,10 @@ class Builder:
 
 PARSERS = {
     "C": Builder.from_c,
-    "Legacy": lambda it: it.from_c("-DPROTOCOL=HED_PROTOCOL_LEGACY"),
-    "Kitty": lambda it: it.from_c("-DPROTOCOL=HED_PROTOCOL_KITTY"),
+    "Extended": lambda it: it.from_c("-DDIALECT=HED_DIALECT_EXTENDED"),
     "Rust": Builder.rust,
     "Python": lambda it: it.python("measure.py", "hedrugal"),
-    "Python Legacy": lambda it: it.python("measure.py", "legacy"),
+    "Python Extended": lambda it: it.python("measure.py", "extended"),
     "Python Keys": lambda it: it.python("measure.py", "keys"),
     "libtermkey": lambda it: it.linked(f"{TOOLS}/libtermkey.c", "-ltermkey"),
     "crossterm": Builder.crossterm,
@@ -167,7 +166,7 @@ PARSERS = {
 }
 # The parsers that may be many. Their inputs stay in the processor's cache.
 OWN = "C with a table each"
-MANY = ["C", OWN, "Legacy", "Kitty", "libtermkey", "crossterm"]
+MANY = ["C", OWN, "Extended", "libtermkey", "crossterm"]
 MANY_INPUTS, MANY_BYTES = ["keys", "csiu"], 1 << 15
 # The layers of rust/examples/with/layers.rs.
 RUST_LAYERS = {
@@ -193,7 +192,7 @@ TASKS = {
     "bind drawn": "to bind a chord, of 10,000 in no order",
     "unbind drawn": "to unbind a chord of these, in no order",
 }
-# The kinds of events of tools/measure/written.c, by the reading of Legacy.
+# The kinds of events of tools/measure/written.c.
 KINDS = {
     "character": "a typed character",
     "arrow": "an arrow key",
@@ -435,7 +434,7 @@ def options():
     add = parser.add_argument
     add("inputs", nargs="*", metavar="INPUT", help=f"{', '.join(TITLES)} (all)")
     add("--library", metavar="DIR", type=os.path.abspath, help="the library's folder (out/lib)")
-    add("--only", metavar="PARSERS", type=lambda text: text.split(","), help="such as C,Kitty")
+    add("--only", metavar="PARSERS", type=lambda text: text.split(","), help="such as C,Extended")
     add("--runs", metavar="N", type=number_of, default=9, help="passes of each program (9)")
     add("--read", metavar="N", type=number_of, default=64, help="bytes of a read (64)")
     add("--kilobytes", metavar="N", type=number_of, default=256, help="of an input (256)")

@@ -369,7 +369,7 @@ static uint32_t encode_pasted(const void *key, uint8_t *out, size_t capacity, si
 
 /* A mouse report that is sent, and what the program asked for. */
 typedef struct told_mouse {
-  hed_mouse_report report;
+  hed_sent_mouse report;
   uint32_t tracking;
   uint32_t encoding;
 } told_mouse;
@@ -378,7 +378,7 @@ static uint32_t encode_mouse(const void *key, uint8_t *out, size_t capacity, siz
   static room report;
   const told_mouse *it = key;
   room_with(&report, &it->report, sizeof it->report);
-  uint32_t encoded = hed_encode_mouse((hed_mouse_report *)report.at, it->tracking, it->encoding, out, capacity, len);
+  uint32_t encoded = hed_encode_mouse((hed_sent_mouse *)report.at, it->tracking, it->encoding, out, capacity, len);
   HOLDS(is_unchanged(&report, &it->report));
   return encoded;
 }
@@ -429,7 +429,7 @@ static void send_paste(input *it) {
 static void send_mouse(input *it) {
   enum { EVERY_MODIFIER = 4094, FARTHEST = 223 };
   told_mouse told;
-  hed_mouse_report *report = &told.report;
+  hed_sent_mouse *report = &told.report;
   memset(&told, 0, sizeof told);
   report->x = (uint16_t)take_number(it, 2);
   report->y = (uint16_t)take_number(it, 2);

@@ -1,9 +1,10 @@
 /* The events of the extended parser don't depend on how a stream is cut, nor on whether they are taken one by one or in arrays, and its keys
  * can be encoded and read back.
  *
- * reading.h says how streams are read. The bit 0x40 of an input's first byte asks for Kitty's reading of the rows. With the bit 0x80 X10
- * mouse reports are read too, and as many replies for the cursor's position are expected as the two low bits say. If the byte is 0x80 + n,
- * n up to 7, a string too long for one event repeats the bytes after it, in reads of 4 to the power of n. Its parts bring all of them.
+ * reading.h says how streams are read. With the bit 0x40 of an input's first byte Backspace sends 8, and byte 10 is Enter. With the bit 0x80
+ * X10 mouse reports are read too, and as many replies for the cursor's position are expected as the two low bits say. With both what termwiz
+ * reads is read: the events are those of a hed_parser. If the byte is 0x80 + n, n up to 7, a string too long for one event repeats the bytes
+ * after it, in reads of 4 to the power of n. Its parts bring all of them.
  *
  * The first keys of the stream are encoded. Under all flags of Kitty's protocol what is sent is read as one key report, and that is then
  * read back whole. Under other flags, one set for each key, a room that is too short gets the front of what is sent. The press of each is
@@ -20,7 +21,7 @@ typedef hed_extended tested;
 typedef hed_extended_event event;
 
 enum {
-  KITTY = 0x40,
+  SETTINGS = 0x40,
   X10_AND_QUESTIONS = 0x80,
   QUESTIONS = 3,
   LONG = 0x80,
@@ -32,11 +33,11 @@ enum {
   STRING_MAX = 1 << 17
 };
 enum { ALL_FLAGS = 2 * HED_KITTY_FLAG_REPORT_ASSOCIATED_TEXT - 1, SEQUENCE_MAX = 256, ENCODED_KEYS = 40, REPLIES = 40, REPLY_MAX = 4096 };
-/* For a key and for a control sequence or a string the sequence table is made, so that they are written for one stream in eight. */
+/* For a key the sequence table is searched, so that such and sequences are written for one stream in eight. */
 enum { WRITTEN = 4, STREAMS = 8, WRITTEN_MAX = 4096, AROUND_MAX = 12 };
 
 static bool is_key(const event *it) {
-  return it->kind == HED_KIND_KEY || it->kind == HED_KIND_REPORT;
+  return it->kind == HED_KIND_KEY;
 }
 
 /* What holds for every report: it says what happened to a key, which has a name or a number in Kitty's table, or is none and has 0. */
@@ -48,26 +49,38 @@ static void check_report(const hed_key_report *report) {
   HOLDS((report->shifted <= 0x10ffff || report->shifted == HED_NO_CODE) && (report->base <= 0x10ffff || report->base == HED_NO_CODE));
 }
 
-/* What holds for the report of a side button: its number, what happened, where it was, and which modifiers were held. */
-static void check_side_button(const event *it) {
-  const hed_event *input = &it->input;
-  HOLDS(it->flags >= HED_SIDE_BUTTON_PRESS && it->flags <= HED_SIDE_BUTTON_DRAG && input->detail >= 8 && input->detail <= 11);
-  HOLDS((input->modifiers & ~(HED_TERMWIZ_MOD_SHIFT | HED_TERMWIZ_MOD_ALT | HED_TERMWIZ_MOD_CTRL)) == 0);
-  HOLDS(input->key == 0 && input->buttons == 0 && input->paste_len == 0 && it->text_len == 0);
+/* What holds for every mouse report. */
+static void check_mouse(const hed_mouse_report *report) {
+  bool is_wheel = report->button >= 4 && report->button <= 7;
+  HOLDS(report->kind >= HED_MOUSE_KIND_PRESS && report->kind <= HED_MOUSE_KIND_WHEEL && report->button <= 11);
+  HOLDS((report->modifiers & ~(HED_TERMWIZ_MOD_SHIFT | HED_TERMWIZ_MOD_ALT | HED_TERMWIZ_MOD_CTRL)) == 0);
+  HOLDS((report->kind == HED_MOUSE_KIND_MOVE) <= (report->button == 0) && (report->kind == HED_MOUSE_KIND_WHEEL) <= is_wheel);
+  HOLDS(report->button != 0 || report->kind == HED_MOUSE_KIND_MOVE || report->kind == HED_MOUSE_KIND_RELEASE);
+  bool has_none = report->kind == HED_MOUSE_KIND_MOVE || report->kind == HED_MOUSE_KIND_RELEASE || report->button >= 8;
+  HOLDS((report->buttons == 0) == has_none);
+}
+
+static bool same_mouse(const hed_mouse_report *one, const hed_mouse_report *other) {
+  return one->kind == other->kind && one->button == other->button && one->buttons == other->buttons && one->modifiers == other->modifiers
+         && one->x == other->x && one->y == other->y;
 }
 
 /* What holds for every event. */
 static void check_extended_event(const event *it) {
   static const hed_key_report none;
-  HOLDS(it->kind >= HED_KIND_KEY && it->kind <= HED_KIND_SIDE_BUTTON && it->kind != HED_KIND_PASTE_PART);
+  static const hed_mouse_report no_mouse;
+  bool has_kind = it->kind >= HED_KIND_KEY && it->kind <= HED_KIND_PASTE;
+  HOLDS(has_kind || (it->kind >= HED_KIND_FOCUS_GAINED && it->kind <= HED_KIND_STRING_CUT && it->kind != HED_KIND_PASTE_PART));
   if (is_key(it)) check_report(&it->report);
   else HOLDS(memcmp(&it->report, &none, sizeof none) == 0);
-  HOLDS(it->input.kind == (it->kind > HED_KIND_PASTE ? HED_KIND_OTHER : it->kind));
-  HOLDS(it->kind != HED_KIND_PASTE || it->text_len == it->input.paste_len);
+  if (it->kind == HED_KIND_MOUSE) check_mouse(&it->mouse);
+  else HOLDS(same_mouse(&it->mouse, &no_mouse));
   bool is_string = it->kind == HED_KIND_STRING_PART || it->kind == HED_KIND_STRING_CUT;
-  HOLDS(!is_string || (it->flags >= HED_KIND_OSC && it->flags <= HED_KIND_APC));
-  if (it->kind == HED_KIND_SIDE_BUTTON) check_side_button(it);
-  note(0x60000u | it->kind, is_key(it) ? it->report.kind : it->flags);
+  HOLDS(is_string ? it->flags >= HED_KIND_OSC && it->flags <= HED_KIND_APC : it->flags == 0 || it->kind == HED_KIND_KEYBOARD_FLAGS);
+  HOLDS(it->kind == HED_KIND_CURSOR_POSITION ? it->row > 0 && it->column > 0 : it->row == 0 && it->column == 0);
+  HOLDS(it->kind == HED_KIND_RESIZE || (it->rows == 0 && it->columns == 0 && it->height == 0 && it->width == 0));
+  HOLDS(is_key(it) || it->kind == HED_KIND_PASTE || it->kind >= HED_KIND_CSI || it->text_len == 0);
+  note(0x60000u | it->kind, is_key(it) ? it->report.kind : it->kind == HED_KIND_MOUSE ? it->mouse.kind : it->flags);
 }
 
 /* (A report has no bytes between its numbers.) */
@@ -75,7 +88,7 @@ static bool same_extended_event(const event *one, const event *other) {
   return one->kind == other->kind && one->flags == other->flags && one->row == other->row && one->column == other->column
          && one->rows == other->rows && one->columns == other->columns && one->height == other->height && one->width == other->width
          && one->text_len == other->text_len && memcmp(&one->report, &other->report, sizeof one->report) == 0
-         && same_event(&one->input, &other->input);
+         && same_mouse(&one->mouse, &other->mouse);
 }
 
 /* What stays buffered is told by its kind. */
@@ -88,13 +101,12 @@ static void check_extended_rest(const tested *parser, const uint8_t *waiting, si
   HOLDS(kind == HED_WAITING_PASTE || len <= (kind == HED_WAITING_STRING ? PART : CONTROL_REST));
 }
 
-static uint32_t protocol;
-
 /* How the stream is read at first. */
 static hed_reading first_reading;
 
 static bool same_reading(const hed_reading *one, const hed_reading *other) {
-  return one->protocol == other->protocol && one->x10_mouse == other->x10_mouse && one->questions == other->questions;
+  return one->dialect == other->dialect && one->erase == other->erase && one->newline == other->newline
+         && one->x10_mouse == other->x10_mouse && one->questions == other->questions;
 }
 
 static hed_reading reading_of(const tested *it) {
@@ -129,7 +141,7 @@ static size_t reset_and_read_on(tested *it) {
 #define BEGIN begin_reading
 #define NEXT_EVENTS hed_extended_next_events
 #define CALL(name) hed_extended_##name
-#define SHARE(sharing, other) hed_extended_init_sharing(sharing, protocol, other)
+#define SHARE(sharing, other) hed_extended_init_sharing(sharing, HED_DIALECT_EXTENDED, other)
 #define COPY_TEXT hed_extended_text
 #define DROP_TEXT hed_extended_drop_text
 #define TEXT_LEN text_len
@@ -144,6 +156,47 @@ static void check_questions(void) {
   for (size_t i = 0; i < cut.count; i++)
     if (cut.events[i].kind == HED_KIND_CURSOR_POSITION && wanted.questions > 0) wanted.questions--;
   HOLDS(same_reading(&found, &wanted));
+}
+
+/* The modifiers of a hed_event as those of a report. */
+static unsigned held_of(const hed_event *it) {
+  unsigned held = it->modifiers & HED_TERMWIZ_MOD_SHIFT ? HED_KITTY_MOD_SHIFT : 0;
+  if (it->modifiers & HED_TERMWIZ_MOD_ALT) held |= HED_KITTY_MOD_ALT;
+  return it->modifiers & HED_TERMWIZ_MOD_CTRL ? held | HED_KITTY_MOD_CTRL : held;
+}
+
+/* An event is that of a hed_parser, and tells nothing else of a key. */
+static void check_port_event(const event *it, const hed_event *of_port) {
+  const hed_key_report *report = &it->report;
+  const hed_mouse_report *mouse = &it->mouse;
+  HOLDS(it->kind == of_port->kind && it->text_len == of_port->paste_len);
+  HOLDS(report->key == of_port->key && report->detail == of_port->detail);
+  if (is_key(it)) {
+    HOLDS(report->kind == HED_KEY_EVENT_KIND_PRESS && report->modifiers == held_of(of_port));
+    HOLDS(report->shifted == HED_NO_CODE && report->base == HED_NO_CODE);
+  } else {
+    HOLDS(mouse->modifiers == of_port->modifiers && mouse->buttons == of_port->buttons);
+    HOLDS(mouse->x == of_port->x && mouse->y == of_port->y);
+  }
+}
+
+/* The events of a stream are those of a hed_parser, and so is what waits before the end. */
+static void check_port(const uint8_t *stream, size_t len) {
+  static hed_parser port = HED_PARSER_NONE;
+  hed_event next;
+  size_t count = 0;
+  if (!port.live) HOLDS(hed_parser_init_sharing_extended(&port, parser));
+  HOLDS(hed_parser_feed(&port, stream, len));
+  for (int more = 1; more >= 0; more--) {
+    while (hed_parser_next(&port, more, &next) == HED_NEXT_EVENT) {
+      HOLDS(count < whole.count);
+      check_port_event(&whole.events[count++], &next);
+    }
+    HOLDS(!more || hed_parser_waiting_len(&port) == whole.rest);
+  }
+  bool is_open = hed_parser_end_paste(&port, &next) == HED_NEXT_EVENT;
+  HOLDS(count + is_open == whole.count && hed_parser_waiting_len(&port) == 0);
+  if (is_open) check_port_event(&whole.events[count], &next);
 }
 
 /* Encodes the key of an event into a room of that size. */
@@ -164,10 +217,9 @@ static bool send_and_read(const event *key, const uint8_t *of_key, event *read, 
   event more;
   encode_event(&it, key, of_key, ALL_FLAGS, SEQUENCE_MAX);
   note(0x70000u | it.encoded, key->report.key);
-  HOLDS(it.encoded != HED_ENCODED_REFUSED_KEY || key->kind == HED_KIND_KEY);
   if (it.encoded != HED_ENCODED_TEXT) return false;
   HOLDS(it.len > 0 && it.len <= SEQUENCE_MAX && hed_extended_feed(&back, it.bytes, it.len));
-  HOLDS(hed_extended_next(&back, true, read) == HED_NEXT_EVENT && read->kind == HED_KIND_REPORT);
+  HOLDS(hed_extended_next(&back, true, read) == HED_NEXT_EVENT && read->kind == HED_KIND_KEY);
   HOLDS(read->report.kind == key->report.kind && read->report.modifiers == key->report.modifiers);
   HOLDS(hed_extended_text(&back, of_read, SEQUENCE_MAX) == read->text_len && (read->text_len == key->text_len || read->text_len == 0));
   HOLDS(memcmp(of_read, of_key, read->text_len) == 0);
@@ -200,7 +252,6 @@ static void check_press(const event *key, const uint8_t *of_key) {
   hed_key_report own = { HED_KEY_EVENT_KIND_PRESS, press.held, press.key, press.detail, HED_NO_CODE, HED_NO_CODE };
   HOLDS(hed_key_of_report(&own, NULL, 0, &again));
   HOLDS(again.key == press.key && again.held == press.held && again.detail == press.detail);
-  HOLDS(key->kind != HED_KIND_KEY || (hed_key_of_event(&key->input, &again) && again.key == press.key && again.held == press.held));
   note(0x90000u | press.key, press.held);
 }
 
@@ -273,11 +324,16 @@ static uint32_t write_told(const void *key, uint8_t *out, size_t capacity, size_
   return encoded;
 }
 
-/* What is written is read as the event. With more to come that is so for all but keys. */
+/* Whether a text may begin a sequence: ESC, or ESC and one of some bytes. */
+static bool waits(const sent *it) {
+  return it->len > 0 && it->bytes[0] == '\033' && (it->len == 1 || (it->len == 2 && strchr("\033[OP]_", it->bytes[1])));
+}
+
+/* What is written is read as the event, also with more to come unless it waits then. */
 static void read_written(const sent *all, const told_event *it) {
   static uint8_t of_read[WRITTEN_MAX];
   event read, other;
-  bool more = it->told->kind != HED_KIND_KEY;
+  bool more = !waits(all);
   HOLDS(hed_extended_feed(&back, all->bytes, all->len));
   HOLDS(hed_extended_next(&back, more, &read) == HED_NEXT_EVENT && same_extended_event(&read, it->told));
   HOLDS(read.text_len == 0 || hed_extended_text(&back, of_read, sizeof of_read) == it->told->text_len);
@@ -288,7 +344,7 @@ static void read_written(const sent *all, const told_event *it) {
 /* Each event but a part of a string and a string that was cut off is written. */
 static void write_event(const told_event *it) {
   static sent all, front;
-  static const hed_reading kitty = { HED_PROTOCOL_KITTY, false, 0 };
+  static const hed_reading first = { 0 };
   bool is_part = it->told->kind == HED_KIND_STRING_PART || it->told->kind == HED_KIND_STRING_CUT;
   size_t some = it->told->text_len % 8;
   HOLDS(hed_extended_set_reading(&back, &it->by));
@@ -296,7 +352,7 @@ static void write_event(const told_event *it) {
   encode(&front, write_told, it, some);
   HOLDS(all.encoded == (is_part ? HED_ENCODED_NO_TEXT : HED_ENCODED_TEXT) && same_sent(&all, &front, some));
   if (!is_part) read_written(&all, it);
-  HOLDS(hed_extended_set_reading(&back, &kitty));
+  HOLDS(hed_extended_set_reading(&back, &first));
   note(0xa0000u | it->told->kind, all.encoded);
 }
 
@@ -365,19 +421,38 @@ static void read_long_string(const uint8_t *bytes, size_t len, size_t size) {
   HOLDS(told == STRING_MAX && hed_extended_waiting_len(parser) == 0);
 }
 
+static hed_reading reading_by(uint8_t first) {
+  hed_reading found = { 0 };
+  if (first & SETTINGS) {
+    found.erase = HED_ERASE_BACKSPACE;
+    found.newline = HED_NEWLINE_ENTER;
+  }
+  if (first & X10_AND_QUESTIONS) {
+    found.x10_mouse = true;
+    found.questions = first & QUESTIONS;
+  }
+  if (first & SETTINGS && first & X10_AND_QUESTIONS) found.dialect = HED_DIALECT_TERMWIZ;
+  return found;
+}
+
 void try_input(input *it) {
-  static tested parsers[] = { HED_EXTENDED_NONE, HED_EXTENDED_NONE };
+  static tested only = HED_EXTENDED_NONE;
   hed_parser between = HED_PARSER_NONE;
   uint8_t first = take_byte(it);
-  protocol = first & KITTY ? HED_PROTOCOL_KITTY : HED_PROTOCOL_LEGACY;
-  first_reading = (hed_reading){ protocol, first & X10_AND_QUESTIONS, first & X10_AND_QUESTIONS ? first & QUESTIONS : 0 };
-  parser = &parsers[protocol];
-  if (!parser->live) HOLDS(hed_extended_init(parser, protocol));
+  first_reading = reading_by(first);
+  parser = &only;
+  if (!parser->live) HOLDS(hed_extended_init(parser, HED_DIALECT_EXTENDED));
   if (!back.live)
-    HOLDS(hed_parser_init_sharing_extended(&between, parser) && hed_extended_init_sharing_parser(&back, HED_PROTOCOL_KITTY, &between));
+    HOLDS(hed_parser_init_sharing_extended(&between, parser) && hed_extended_init_sharing_parser(&back, HED_DIALECT_EXTENDED, &between));
   hed_parser_free(&between);
+  begin_reading(parser);
   if ((first & ~READS) == LONG && it->left > 0) read_long_string(it->at, it->left, (size_t)1 << 2 * (first & READS));
+  input all = *it;
+  size_t count, len;
+  take_bytes(&all, first & SIZE, &count);
+  const uint8_t *stream = take_bytes(&all, STREAM_MAX, &len);
   read_both(it, first);
+  if (first_reading.dialect == HED_DIALECT_TERMWIZ) check_port(stream, len);
   check_questions();
   encode_keys();
   read_replies();

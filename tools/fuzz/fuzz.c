@@ -208,10 +208,13 @@ bool is_scalar(uint32_t code) {
 }
 
 bool may_have_second(const hed_key_report *report) {
-  bool is_placed = report->detail >= 0x80 && report->base != HED_NO_CODE;
-  bool is_sent_by_others = report->detail == '\b' || report->detail == '\n';
-  bool is_character = report->key == HED_KEY_CHAR && (is_placed || is_sent_by_others);
-  return report->kind != HED_KEY_EVENT_KIND_RELEASE && (is_character || report->shifted != HED_NO_CODE);
+  unsigned held = report->modifiers & ~(unsigned)(HED_KITTY_MOD_CAPS_LOCK | HED_KITTY_MOD_NUM_LOCK);
+  bool is_character = report->key == HED_KEY_CHAR;
+  bool is_placed = is_character && report->detail >= 0x80 && report->base != HED_NO_CODE;
+  bool is_shifted = held & HED_KITTY_MOD_SHIFT && report->shifted != HED_NO_CODE;
+  bool is_told = held & ~(unsigned)HED_KITTY_MOD_SHIFT && (is_placed || is_shifted);
+  bool is_sent_by_others = is_character && (report->detail == '\b' || report->detail == '\n');
+  return report->kind != HED_KEY_EVENT_KIND_RELEASE && (is_told || is_sent_by_others);
 }
 
 static void check_key(const hed_event *event) {

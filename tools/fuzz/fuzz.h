@@ -106,7 +106,8 @@ bool is_escape(const uint8_t *waiting, size_t len);
 /* Whether a code point is a character of Unicode. */
 bool is_scalar(uint32_t code);
 
-/* Whether a report may have a second press: its key's place or what it types with Shift is told, or another key may have sent its character. */
+/* Whether a report may have a second press: with a modifier but Shift its place or what it types with Shift is told, or its character may
+ * have been sent by another key. */
 bool may_have_second(const hed_key_report *report);
 
 /* Checks that a parser, which had nothing more to give while more bytes may come, has these bytes waiting, and tells their kind. */

@@ -50,7 +50,8 @@ static void check_press(const hed_key_press *press) {
   hed_key_press again;
   HOLDS(hed_key_of_report(&own, NULL, 0, &again) && same_press(press, &again));
   uint32_t text = hed_key_text(press);
-  HOLDS(text == HED_NO_CODE || (press->key == HED_KEY_CHAR && text == press->detail && press->held <= HED_KITTY_MOD_SHIFT));
+  HOLDS(text == HED_NO_CODE || (press->key == HED_KEY_CHAR && text == press->detail));
+  HOLDS(text == HED_NO_CODE || press->held == 0 || (press->held == HED_KITTY_MOD_SHIFT && text == ' '));
   HOLDS(text != HED_NO_CODE || press->key != HED_KEY_CHAR || press->held != 0 || press->detail < 0xa0);
   note(0x30000u | press->key, press->held);
 }

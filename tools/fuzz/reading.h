@@ -8,7 +8,8 @@
  * pieces leave comes in one piece, or byte by byte if the first byte has the bit 0x20.
  *
  * The stream is read in these pieces. Then nothing more comes, and an open paste is ended. Another parser, which shares the table of the
- * first, reads the stream whole, and then all that waits expires. Events, the bytes they bring and rests have to be the same each time. A flush leaves nothing outside a paste. */
+ * first, reads the stream whole, and then all that waits expires. Events, the bytes they bring and rests have to be the same each time. A
+ * flush leaves nothing outside a paste. */
 #include "fuzz.h"
 #include <string.h>
 

@@ -103,7 +103,7 @@ static hed_parser first = HED_PARSER_NONE;
 
 static void make(struct session *it, enum way way) {
   *it = (struct session){ .is_extended = way == EXTENDED };
-  want(it->is_extended ? hed_extended_init_sharing_parser(&it->extended, HED_PROTOCOL_KITTY, &first)
+  want(it->is_extended ? hed_extended_init_sharing_parser(&it->extended, HED_DIALECT_EXTENDED, &first)
                        : hed_parser_init_sharing(&it->plain, &first));
 }
 

@@ -1,15 +1,15 @@
-/* The parsers of this library: InputParser or, if PROTOCOL is defined, the extended parser under that protocol. All share the table of the
+/* The parsers of this library: InputParser or, if DIALECT is defined, the extended parser of that dialect. All share the table of the
  * first one, unless OWN_TABLES is defined. Text that an event brings is copied to memory of its own. */
 #include "hedrugal.h"
 #include "reader.h"
 #include <stdlib.h>
 
-#ifdef PROTOCOL
+#ifdef DIALECT
 typedef hed_extended parser;
 typedef hed_extended_event event;
 #define CALL(name) hed_extended_##name
-#define INIT(it) hed_extended_init(it, PROTOCOL)
-#define INIT_SHARING(it, other) hed_extended_init_sharing(it, PROTOCOL, other)
+#define INIT(it) hed_extended_init(it, DIALECT)
+#define INIT_SHARING(it, other) hed_extended_init_sharing(it, DIALECT, other)
 #define TEXT hed_extended_text
 #define TEXT_LEN text_len
 #else

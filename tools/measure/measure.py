@@ -1,4 +1,4 @@
-"""measure.py READER FILE READ: gives the file to READER, which is hedrugal, legacy, keys or
+"""measure.py READER FILE READ: gives the file to READER, which is hedrugal, extended, keys or
 prompt_toolkit, in reads of READ bytes, as measure.c does. It prints the nanoseconds of that, and
 the number of events."""
 import codecs
@@ -13,7 +13,7 @@ def hedrugal():
     return lambda data, is_last: len(parser.parse(data, not is_last))
 
 
-def legacy():
+def extended():
     from hedrugal import ExtendedParser
 
     parser = ExtendedParser()
@@ -54,7 +54,7 @@ def main():
     with open(file, "rb") as opened:
         text = opened.read()
     reads = [text[at : at + int(read)] for at in range(0, len(text), int(read))]
-    readers = (hedrugal, legacy, keys, prompt_toolkit)
+    readers = (hedrugal, extended, keys, prompt_toolkit)
     give = {it.__name__: it for it in readers}[reader]()
     start = time.perf_counter_ns()
     events = sum(give(data, False) for data in reads[:-1]) + give(reads[-1], True)

@@ -14,7 +14,7 @@ int main(int count, char **words) {
     return 2;
   }
   const bool is_told = !strcmp(words[2], "each");
-  if (!hed_extended_init(&parser, HED_PROTOCOL_LEGACY) || !hed_terminal_open(&terminal, 0, 1, "", "")) return 1;
+  if (!hed_extended_init(&parser, HED_DIALECT_EXTENDED) || !hed_terminal_open(&terminal, 0, 1, "", "")) return 1;
   puts("begun");
   for (long left = atol(words[1]); left > 0;) {
     const enum hed_terminal_event came = hed_terminal_next(&terminal, &parser, -1, &event);

@@ -44,7 +44,7 @@ static double nanoseconds(const hed_extended *parser, const hed_extended_event *
 
 int main(void) {
   hed_extended parser = HED_EXTENDED_NONE;
-  want(hed_extended_init(&parser, HED_PROTOCOL_LEGACY));
+  want(hed_extended_init(&parser, HED_DIALECT_EXTENDED));
   for (const struct kind *it = kinds; it < kinds + sizeof kinds / sizeof *kinds; it++) {
     hed_extended_event event;
     uint8_t text[TEXT_MOST];
