@@ -1,0 +1,17 @@
+pub mod StepsTaken
+pub mod RunAges
+pub mod RunRests
+pub mod DueInTime
+pub mod TimeoutRight
+pub mod RunBounds
+pub mod ReadsCut
+pub mod PartsTaken
+pub mod ExactSteps
+pub mod ExactSegments
+pub mod PausesInTime
+pub mod InertPastes
+pub mod WorkedSteps
+pub mod WorkedOut
+pub mod Witnesses
+pub mod FlushedBytes
+pub mod OneAnswers
