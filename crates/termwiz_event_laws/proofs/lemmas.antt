@@ -34,4 +34,5 @@ pub mod ToldModifiers
 pub mod TypedKeys
 pub mod UnreadEnds
 pub mod WrittenEvents
+pub mod WrittenPastes
 pub mod WrittenWords
