@@ -257,6 +257,7 @@ include $(wildcard *.mk)
 
 # Tests. Each part by itself is `make check-NAME`; the last line of what it prints counts its cases.
 test_calls := crates/test_calls/out/test_calls
+rattle_tests := tests/test_rattle.py tests/test_timed.py
 kit_checks := axioms growth refusals rattle listings prebuilt
 every_check := lint numbers c c-arm64 tests-arm64 rust python programs page install packages clone docs fuzz $(kit_checks)
 # What the tests of a part read.
@@ -270,7 +271,7 @@ check-c-arm64 := CC=aarch64-linux-gnu-gcc CXX=aarch64-linux-gnu-g++ EMULATOR='qe
 	HEDRUGAL_LIBRARY=$(arm64)/lib tools/c_test.sh
 check-rust := tools/rust_test.sh
 check-python := $(PYTHON) -m pytest python
-check-programs := $(PYTHON) -m pytest $(filter-out tests/test_page% tests/test_rattle.py,$(wildcard tests/test_*.py))
+check-programs := $(PYTHON) -m pytest $(filter-out tests/test_page% $(rattle_tests),$(wildcard tests/test_*.py))
 check-page := $(PYTHON) -m pytest $(wildcard tests/test_page*.py)
 check-install := tools/install_test.sh
 check-packages := tools/package_test.sh
@@ -281,7 +282,7 @@ check-fuzz := tools/fuzz.sh 30
 check-axioms := tools/axioms.sh keyshow $(processors:%=out/build/keyshow-%.log)
 check-growth := tools/growth.sh out/build/libfeed.a
 check-refusals := tools/refusals.sh
-check-rattle := TEST_CALLS=$(abspath $(test_calls)) $(PYTHON) -m pytest tests/test_rattle.py
+check-rattle := TEST_CALLS=$(abspath $(test_calls)) $(PYTHON) -m pytest $(rattle_tests)
 check-prebuilt := $(MAKE) --silent prebuilt-check
 check-listings := tools/docs.sh --library $(lib) --built --only sh,keyshow
 

@@ -101,7 +101,7 @@ fn answer_bytes(
 // Appends the next event, if there is one.
 fn take_next(parser: &mut ExtendedParser, more: bool, line: &mut Line) -> Result<(), Failure> {
     if let Some(event) = parser.next_event(more)? {
-        show_event(&event, line);
+        show_listed(&event, line);
     }
     line.waiting(parser.waiting_len());
     Ok(())
@@ -121,7 +121,7 @@ fn take_port(parser: &mut ExtendedParser, more: bool, line: &mut Line) -> Result
 // Appends the next event of a flush, if there is one.
 fn flush_next(parser: &mut ExtendedParser, line: &mut Line) -> Result<(), Failure> {
     if let Some(event) = next_flushed(parser)? {
-        show_event(&event, line);
+        show_listed(&event, line);
     }
     line.waiting(parser.waiting_len());
     Ok(())
@@ -130,17 +130,22 @@ fn flush_next(parser: &mut ExtendedParser, line: &mut Line) -> Result<(), Failur
 // Appends the events, and how many bytes stay buffered.
 fn show_events(events: &[Event], waiting: usize, line: &mut Line) {
     for event in events {
-        show_event(event, line);
+        show_listed(event, line);
     }
     line.waiting(waiting);
 }
 
-// Appends an event.
-fn show_event(event: &Event, line: &mut Line) {
+/// Appends an event.
+pub fn show_event(event: &Event, line: &mut Line) {
     match event {
         Event::Paste(text) => line.pasted(text),
         _ => line.shown(format_args!("{event:?}")),
     }
+}
+
+// Appends an event, and what is between two.
+fn show_listed(event: &Event, line: &mut Line) {
+    show_event(event, line);
     line.word(", ");
 }
 
@@ -150,7 +155,7 @@ fn show_sequence(alloc: Global, text: &[u8], asks: bool, line: &mut Line) -> Res
     line.holds(meaning_of(text, asks).is_key_or_position());
     line.word(", ");
     let event = event_of(alloc, text, asks)?;
-    show_event(&event, line);
+    show_listed(&event, line);
     match event.key() {
         Some(report) => show_report(alloc, report, line),
         None => Ok(()),
@@ -160,6 +165,6 @@ fn show_sequence(alloc: Global, text: &[u8], asks: bool, line: &mut Line) -> Res
 fn show_report(alloc: Global, report: &KeyReport, line: &mut Line) -> Result<(), Failure> {
     let copy = report.clone(alloc)?;
     line.shown(format_args!("Key({report:?}), "));
-    show_event(&Event::Key(copy), line);
+    show_listed(&Event::Key(copy), line);
     Ok(())
 }

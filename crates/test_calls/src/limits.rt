@@ -72,8 +72,8 @@ impl Limits {
     }
 }
 
-// Appends so many milliseconds, or that there is no limit.
-fn show_millis(millis: Option<u64>, line: &mut Line) {
+/// Appends so many milliseconds, or that there is no limit.
+pub fn show_millis(millis: Option<u64>, line: &mut Line) {
     match millis {
         Some(millis) => line.number(millis as usize),
         None => line.word("None"),

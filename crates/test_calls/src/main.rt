@@ -2,7 +2,7 @@
 //! `tests/test_rattle.py`.
 //!
 //! `test_calls MODE` reads commands from standard input, and prints a line for each: see [`conversation`]. MODE is `parser`, `extended` or `termwiz`
-//! for an extended parser of that dialect, `map`, `buffer` or `values`. `test_calls refusals CASE..` prints a line for each case: see [`refusals`].
+//! for an extended parser of that dialect, `timed`, `map`, `buffer` or `values`. `test_calls refusals CASE..` prints a line for each case: see [`refusals`].
 //!
 //! The status is 0, or 3 if memory was refused elsewhere than in the call of a case, 2 if there is no such mode, command or case, and 1 if the
 //! call of a case was refused twice, or nothing could be read or printed.
@@ -26,6 +26,7 @@ mod parses;
 mod parts;
 mod printing;
 mod refusals;
+mod timed;
 mod values;
 
 use buffer::BufferSession;
@@ -37,6 +38,7 @@ use parser::ParserSession;
 use std::env;
 use std::process::ExitCode;
 use termwiz_input_extended::types::Dialect;
+use timed::TimedSession;
 use values::ValuesSession;
 
 fn main(rt: HostRuntime) -> ExitCode {
@@ -70,6 +72,7 @@ fn converse_in(rt: &HostRuntime, mode: &str) -> Result<(), Failure> {
         "parser" => converse(rt, &mut ParserSession::new(alloc)?),
         "extended" => converse(rt, &mut ExtendedSession::new(alloc, Dialect::Extended)?),
         "termwiz" => converse(rt, &mut ExtendedSession::new(alloc, Dialect::Termwiz)?),
+        "timed" => converse(rt, &mut TimedSession::new(alloc)?),
         "map" => converse(rt, &mut MapSession::new(alloc)),
         "buffer" => converse(rt, &mut BufferSession::new(alloc)),
         "values" => converse(rt, &mut ValuesSession),
