@@ -1,5 +1,5 @@
 //! The parser with a clock.
-ghost use Rattle.std.specs.Prelude.{◌≡◌, ◌≢◌, ◌⊎◌, ◌↔◌, ℕ, Bool, [], length, true, false, Some, IsTrue, IfOk, IfSome, IfNone, IfErr, OnOk, OnErr, IsOk, IsErrOf, if◌then◌else◌};
+ghost use Rattle.std.specs.Prelude.{◌≡◌, ◌≢◌, ◌⊎◌, ◌↔◌, ℕ, Bool, [], length, true, false, None, Some, IsTrue, IfOk, IfSome, IfNone, IfErr, OnOk, OnErr, IsOk, IsErrOf, if◌then◌else◌};
 ghost use Rattle.termwiz_grammar.specs.PasteParts.{IsSkipped};
 ghost use Rattle.termwiz_grammar.specs.WaitingKinds.{IsOpenPaste};
 ghost use Rattle.termwiz_input_extended.specs.Buffered.{IsToldByBytes};
@@ -477,23 +477,6 @@ impl TimedParser {
         self.interrupted = goes_on(event, self.interrupted);
     }
 
-    // The event of the item at the front.
-    fn next_item(&mut self) -> Result<Option<Event>, AllocError>
-        ensures told { IfOk result (λ found. IfSome found (λ event. Tells self.old (TimedEvent.Whole event) self.new)) }
-        ensures none { IfOk result (λ found. IfNone found (IsRest self.old.reading self.old.text (more_comes self.old.stage))) }
-        ensures none_same { IfOk result (λ found. IfNone found (self.new ≡ self.old)) }
-        ensures refused { OnErr result (HasItemThatNeedsMemory self.old.reading self.old.text (more_comes self.old.stage)) }
-        ensures refused_same { OnErr result (self.new ≡ self.old) }
-    {
-        match self.parser.next_event(self.stage.more_comes())? {
-            Some(event) => {
-                self.note_told(&event);
-                Ok(Some(event))
-            }
-            None => Ok(None),
-        }
-    }
-
     // A part of an open paste that has more than the limit.
     fn next_part(&mut self) -> Result<Option<PastedText>, AllocError>
         ensures told { IfOk result (λ found. IfSome found (λ text. Tells self.old (TimedEvent.PastePart text) self.new)) }
@@ -537,6 +520,53 @@ impl TimedParser {
         }
     }
 
+    // Whether parts are off and an open paste stays.
+    fn tells_no_paste(&self) -> bool
+        ensures parts { IsTrue result → self.now.parts ≡ None }
+        ensures stage { IsTrue result → self.now.stage ≢ Stage.Ending }
+    {
+        match (self.parts, self.stage) {
+            (Some(_), _) | (None, Stage::Ending) => false,
+            _ => true,
+        }
+    }
+
+    // What is told of an open paste where no item is at the front. It isn't inlined, so that nothing else pays for its places in a frame.
+    #[inline(never)]
+    fn next_of_paste(&mut self) -> Result<Option<TimedEvent>, AllocError>
+        requires { IsRest self.old.reading self.old.text (more_comes self.old.stage) }
+        ensures told { IfOk result (λ found. IfSome found (λ event. Step self.old (Told event) self.new)) }
+        ensures all_told { IfOk result (λ found. IfNone found (Step self.old AllTold self.new)) }
+        ensures refused { OnErr result (IsOpenPaste self.old.text) }
+        ensures refused_same { OnErr result (self.new ≡ self.old) }
+    {
+        if let Some(text) = self.next_part()? {
+            return Ok(Some(TimedEvent::PastePart(text)));
+        }
+        if let Some(event) = self.next_end()? {
+            return Ok(Some(TimedEvent::Whole(event)));
+        }
+        self.stage = Stage::AllTold;
+        Ok(None)
+    }
+
+    // What is told where no item is at the front.
+    #[inline(always)]
+    fn next_of_rest(&mut self) -> Result<Option<TimedEvent>, AllocError>
+        requires { IsRest self.old.reading self.old.text (more_comes self.old.stage) }
+        ensures told { IfOk result (λ found. IfSome found (λ event. Step self.old (Told event) self.new)) }
+        ensures all_told { IfOk result (λ found. IfNone found (Step self.old AllTold self.new)) }
+        ensures refused { OnErr result (IsOpenPaste self.old.text) }
+        ensures refused_same { OnErr result (self.new ≡ self.old) }
+    {
+        if self.tells_no_paste() {
+            self.stage = Stage::AllTold;
+            return Ok(None);
+        }
+        // Wrapped anew: an event of an item would be copied once more on its way if it had to stand in the place of this answer.
+        Ok(self.next_of_paste()?)
+    }
+
     /// The next event, or none: then all is told.
     ///
     /// If memory is refused, nothing changed, and the same call may be made again.
@@ -547,16 +577,13 @@ impl TimedParser {
             ⊎ HasItemThatNeedsMemory self.old.reading self.old.text (more_comes self.old.stage)) }
         ensures refused_same { OnErr result (self.new ≡ self.old) }
     {
-        if let Some(event) = self.next_item()? {
-            return Ok(Some(TimedEvent::Whole(event)));
+        match self.parser.next_event(self.stage.more_comes()) {
+            Ok(Some(event)) => {
+                self.note_told(&event);
+                Ok(Some(TimedEvent::Whole(event)))
+            }
+            Ok(None) => self.next_of_rest(),
+            Err(error) => Err(error),
         }
-        if let Some(text) = self.next_part()? {
-            return Ok(Some(TimedEvent::PastePart(text)));
-        }
-        if let Some(event) = self.next_end()? {
-            return Ok(Some(TimedEvent::Whole(event)));
-        }
-        self.stage = Stage::AllTold;
-        Ok(None)
     }
 }
