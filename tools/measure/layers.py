@@ -13,6 +13,9 @@ import termios
 import time
 from pathlib import Path
 
+# The seconds that this may take.
+LIMIT = 60
+
 
 def unread(terminal):
     return struct.unpack("i", fcntl.ioctl(terminal, termios.FIONREAD, bytes(4)))[0]
@@ -36,6 +39,8 @@ def time_of(words, count, text, size):
     ours, terminal = os.openpty()
     child = os.fork()
     if not child:
+        # It ends when this script does: crossterm reads on for ever once its terminal is gone.
+        signal.alarm(LIMIT)
         os.login_tty(terminal)
         os.execvp(words[0], [*words, count, "each" if size == 1 else "all"])
     said = b""
@@ -52,7 +57,7 @@ def time_of(words, count, text, size):
 
 def main():
     file, count, size, *words = sys.argv[1:]
-    signal.alarm(60)
+    signal.alarm(LIMIT)
     for events, text in (count, Path(file).read_bytes()), ("1", b"a"):
         print(int(time_of(words, events, text, int(size)) * 1e9))
 
