@@ -312,56 +312,19 @@ TIMES = [
     ),
 ]
 
-# Those of the extended parser alone.
-EXTENDED_TIMES = [
-    (
-        [(0, b"\033]l"), (500, b"j"), (900, b"j")],
-        "1000 key U+005D ALT, 1000 key U+006C NONE, 1000 key U+006A NONE, 1000 key U+006A NONE, "
-        "0 wait",
-    ),
-    (
-        [(0, b"\033\033"), (40, b"]11;a"), (4000, b"b")],
-        "40 key Escape NONE, 5047 StringCut { kind: Osc, bytes: SequenceBytes { inner: "
-        "[49, 49, 59, 97, 98] } }, 0 wait",
-    ),
-    ([(0, b"\033["), (99, b"I")], "99 FocusGained, 0 wait"),
-]
 
-
-def key_report(key, modifiers=0, kind="Press", shifted="None", base="None", text=""):
-    return (
-        f"KeyReport {{ key: Named({key}), modifiers: {modifiers}, kind: {kind}, "
-        f'shifted: {shifted}, base: {base}, text: KeyText {{ inner: "{text}" }} }}'
-    )
-
-
-def as_extended(line):
-    """The same events of the extended parser, whose keys are reports."""
-    held = {"NONE": 0, "ALT": 2, "CTRL": 4}
-
-    def report(found):
-        key, modifiers = found.groups()
-        named = f"Char('{chr(int(key[2:], 16))}')" if key.startswith("U+") else key
-        return f"Key({key_report(named, held[modifiers])})"
-
-    return re.sub(r"key (\S+) (\w+)", report, line)
+@pytest.mark.parametrize("call", FLUSHES)
+def test_limits_in_time(call):
+    for reads, wanted in TIMES:
+        with Program("parser") as program:
+            assert program.over_time(call, reads) == wanted
 
 
 @pytest.mark.parametrize("call", FLUSHES)
-@pytest.mark.parametrize("mode", ["parser", "extended"])
-def test_limits_in_time(mode, call):
-    for reads, wanted in TIMES if mode == "parser" else TIMES + EXTENDED_TIMES:
-        with Program(mode) as program:
-            events = wanted if mode == "parser" else as_extended(wanted)
-            assert program.over_time(call, reads) == events
-
-
-@pytest.mark.parametrize("call", FLUSHES)
-@pytest.mark.parametrize("mode", ["parser", "extended"])
-def test_a_stalled_paste_of_1_megabyte(mode, call):
+def test_a_stalled_paste_of_1_megabyte(call):
     body = b"0123456789abcdef" * 65536
     waiting = f"{len(PASTE_START + body)} wait"
-    with Program(mode) as program:
+    with Program("parser") as program:
         program.ask("end-pastes")
         assert program.read_at(5, PASTE_START + body) == ([], waiting)
         assert program.ask("limit") == "10000 Last"
@@ -371,6 +334,13 @@ def test_a_stalled_paste_of_1_megabyte(mode, call):
 
 
 # The extended parser.
+def key_report(key, modifiers=0, kind="Press", shifted="None", base="None", text=""):
+    return (
+        f"KeyReport {{ key: Named({key}), modifiers: {modifiers}, kind: {kind}, "
+        f'shifted: {shifted}, base: {base}, text: KeyText {{ inner: "{text}" }} }}'
+    )
+
+
 def sequence_bytes(text):
     return f"SequenceBytes {{ inner: {list(text)} }}"
 

@@ -257,6 +257,11 @@ MORE_RUNS = [
     ("feed 0 ESC | feed 40 ESC | idle 89 | idle 90", "- | - | - | alt+escape"),
     ("feed 0 ESC `]52;c;QQ` | idle 5008 | idle 5009", "- | - | cut osc"),
     ("feed 0 ESC `]lq` | idle 999 | idle 1000", "- | - | alt+], l, q"),
+    ("feed 0 ESC `[` | idle 98 | feed 99 `I`", "- | - | focus"),
+    (
+        "feed 0 ESC ESC | feed 40 `]11;a` | feed 4000 `b` | idle 5046 | idle 5047",
+        "- | escape | - | - | cut osc",
+    ),
     ("feed 0 0xe2 0x82 | idle 99999 | character 20 | idle 99999", "- | - | - | U+FFFD, U+FFFD"),
     ("escape 4294967296 | feed 0 ESC | timeout 0 | idle 99999", "- | - | - | -"),
     ("escape 0 | feed 7 ESC, timeout 7 | timeout 7 | idle 7", "- | 0 | 0 | escape"),
@@ -570,6 +575,20 @@ def test_a_long_string_that_was_interrupted(length):
     run = by_model(calls)
     told = [it[0] for call, it in run if call[0] == "next" and it != "none"]
     assert told == ["part of osc", "part of osc", "cut osc"]
+    check_runs([run])
+
+
+def test_stalled_pastes_of_1_megabyte():
+    """Each is told a limit after its last byte."""
+    body = b"0123456789abcdef" * 65536
+    calls = [("paste", 10_000)]
+    for now in 5, 20_000:
+        calls += [("feed", now, START + body), ("next",), ("timeout", now)]
+        calls += [("idle", now + 9999), ("next",), ("idle", now + 10_000), *[("next",)] * 2]
+    run = by_model(calls)
+    assert [it for call, it in run if call[0] == "timeout"] == [10_000] * 2
+    told = [it for call, it in run if call[0] == "next"]
+    assert told == ["none", "none", ("paste", body.decode()), "none"] * 2
     check_runs([run])
 
 

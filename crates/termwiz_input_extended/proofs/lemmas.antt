@@ -2,4 +2,3 @@ pub mod calls
 pub mod forms
 pub mod fronts
 pub mod strings
-pub mod time

@@ -1,7 +1,6 @@
 pub mod Buffered
 pub mod EventCallbacks
 pub mod ExtendedExpiry
-pub mod ExtendedExpiryLaws
 pub mod NextItems
 pub mod FormAnswers
 pub mod StringAnswers

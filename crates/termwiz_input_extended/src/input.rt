@@ -1,10 +1,10 @@
 //! The extended parser.
-ghost use Rattle.std.specs.Prelude.{◌≡◌, ◌≢◌, ◌++◌, ◌+◌, ◌≤◌, ◌<◌, max, min, ℕ, Bool, List, [], ◌∷◌, length, take, drop, true, false, OnErr, IfOk, IfErr, IfSome, IfNone, IsSome, IsTrue, ◌↔◌, ◌⊎◌, OnOk, IsOk, IsErrOf, unwrap_or, vec_len, vec_capacity};
+ghost use Rattle.std.specs.Prelude.{◌≡◌, ◌≢◌, ◌++◌, ◌+◌, ◌≤◌, ◌<◌, max, min, ℕ, Bool, List, [], ◌∷◌, length, take, drop, true, false, OnErr, IfOk, IfErr, IfSome, IfNone, IsTrue, ◌⊎◌, OnOk, IsOk, IsErrOf, unwrap_or, vec_len, vec_capacity};
 ghost use Rattle.termwiz_keymap.specs.Bytes.{Begins};
 ghost use Rattle.termwiz_keys.specs.Introducers.{ESC, START};
 ghost use Rattle.termwiz_grammar.specs.MouseReports.{IsMouseReport};
 ghost use Rattle.termwiz_grammar.specs.PasteParts.{HasPart, IsSkipped, IsTaken};
-ghost use Rattle.termwiz_grammar.specs.WaitingKinds.{IsOneOrTwoEscapes, IsOpenPaste};
+ghost use Rattle.termwiz_grammar.specs.WaitingKinds.{IsOpenPaste};
 ghost use Rattle.termwiz_extended_events.specs.declared.types.Event.{Event};
 ghost use Rattle.termwiz_extended_events.specs.PortEvents.{pressed_key, with_key};
 ghost use Rattle.termwiz_extended_grammar.specs.ExtraSequences.{with_alt};
@@ -150,27 +150,15 @@ impl ExtendedParser {
         ensures empty { IfOk result (λ parser. parser.text ≡ []) }
         ensures reading { IfOk result (λ parser. parser.reading ≡ first_reading dialect) }
     {
-        ExtendedParser::sharing_table_of(self.alloc, &self.parser, dialect)
+        Ok(ExtendedParser::over(self.alloc, self.parser.sharing()?, Reading::new(dialect)))
     }
 
-    /// A parser with the sequence table of an [`InputParser`], as [`ExtendedParser::sharing`] makes one. So a program with parsers of both
-    /// kinds has one table.
-    pub fn sharing_table_of(
-        alloc: Global,
-        parser: &InputParser,
-        dialect: Dialect,
-    ) -> Result<ExtendedParser, AllocError>
-        ensures empty { IfOk result (λ parser. parser.text ≡ []) }
-        ensures reading { IfOk result (λ parser. parser.reading ≡ first_reading dialect) }
+    /// The parser of the port whose buffer this one has: it tells the rows of the sequence table, and which of them would complete what is
+    /// buffered.
+    pub fn input(&self) -> &InputParser
+        ensures { result.now ≡ self.now.text }
     {
-        Ok(ExtendedParser::over(alloc, parser.sharing()?, Reading::new(dialect)))
-    }
-
-    /// An [`InputParser`] with the sequence table of this parser, whose buffer is empty.
-    pub fn input_sharing(&self) -> Result<InputParser, AllocError>
-        ensures { IfOk result (λ parser. parser ≡ []) }
-    {
-        self.parser.sharing()
+        &self.parser
     }
 
     /// Gives back memory that holds no buffered bytes, as [`InputParser::shrink_to`] does.
@@ -228,13 +216,6 @@ impl ExtendedParser {
         ensures { result ≡ length self.now.text }
     {
         self.parser.waiting_len()
-    }
-
-    /// Whether the buffer begins with the start of a paste.
-    pub fn is_paste_open(&self) -> bool
-        ensures { IsTrue result ↔ Begins START self.now.text }
-    {
-        self.parser.is_paste_open()
     }
 
     // What is at the front of the buffer.
@@ -483,7 +464,7 @@ impl ExtendedParser {
 
     /// What kind of bytes stays buffered, once [`ExtendedParser::next_event`] returned `None`, or `parse` succeeded.
     ///
-    /// How long each kind may stay buffered is in [`Policy`](crate::time::Policy), and [`expire`](crate::time::expire) flushes it then.
+    /// How long each kind may stay buffered is in [`Policy`](crate::time::Policy), as [`limit_of`](crate::time::limit_of) tells.
     pub fn waiting(&self) -> ExtendedWaiting
         ensures kind { (more : Bool) → IsRest self.now.reading self.now.text more → IsKind self.now.reading self.now.text more result }
 
@@ -506,31 +487,12 @@ impl ExtendedParser {
         }
     }
 
-    /// Emits the Escape key, with ALT if ESC ESC stays buffered. `None` if anything else stays buffered; the parser is then unchanged.
-    ///
-    /// It is for a program with limits in time of its own; [`expire`](crate::time::expire) flushes by those of a policy. Unlike a flush, it
-    /// breaks only what is cut right after its ESC or ESC ESC.
-    pub fn flush_escape(&mut self) -> Option<Event>
-        ensures event { IfSome result (λ event. Means self.old.reading self.old.text false (event ∷ []) self.new.text) }
-        ensures reading { self.new.reading ≡ self.old.reading }
-        ensures when { IsSome result ↔ IsOneOrTwoEscapes self.old.text }
-        ensures none { IfNone result (self.new ≡ self.old) }
-    {
-        match self.parser.flush_escape() {
-            Some(event) => {
-                self.scanned = 0;
-                Some(told_event(self.alloc, event, None))
-            }
-            None => None,
-        }
-    }
-
     /// Ends an open paste where it is: its text so far is the event, and nothing stays buffered. `None` if no paste is open; the parser is
     /// then unchanged.
     ///
-    /// Call it at the end of the input. What the terminal still sends of the paste arrives as typed keys. A paste that stalls is given up by a
-    /// limit in time: see [`expire`](crate::time::expire). For a paste that is too long call [`ExtendedParser::take_paste`] or
-    /// [`ExtendedParser::skip_paste`]. If memory for the text is refused, the parser is unchanged.
+    /// Call it at the end of the input, or once the limit of a paste that stalls has passed. What the terminal still sends of the paste arrives
+    /// as typed keys. For a paste that is too long call [`ExtendedParser::take_paste`] or [`ExtendedParser::skip_paste`]. If memory for the text
+    /// is refused, the parser is unchanged.
     pub fn end_paste(&mut self) -> Result<Option<Event>, AllocError>
         ensures event { IfOk result (λ found. IfSome found (IsPasteEvent self.old.text)) }
         ensures nothing { IfOk result (λ found. IfSome found (λ _. self.new.text ≡ [])) }
@@ -637,8 +599,7 @@ impl ExtendedParser {
     /// Buffers `bytes`, and calls `callback` with each of its events in order. What is no event yet stays buffered.
     ///
     /// Pass `maybe_more` as true while more bytes may come: then a text that may yet become a longer sequence or a character
-    /// stays buffered. After a pause call [`expire`](crate::time::expire). Pass false at the end of the input: then only an open
-    /// paste stays buffered. No bytes and false are a flush.
+    /// stays buffered. Pass false at the end of the input: then only an open paste stays buffered. No bytes and false are a flush.
     pub fn parse<F: FnMut(Event)>(
         &mut self,
         bytes: &[u8],
@@ -759,8 +720,7 @@ impl ExtendedParser {
     /// Buffers `bytes`, and returns its events in order. What is no event yet stays buffered.
     ///
     /// Pass `maybe_more` as true while more bytes may come: then a text that may yet become a longer sequence or a character
-    /// stays buffered. After a pause call [`expire`](crate::time::expire). Pass false at the end of the input: then only an open
-    /// paste stays buffered. No bytes and false are a flush.
+    /// stays buffered. Pass false at the end of the input: then only an open paste stays buffered. No bytes and false are a flush.
     #[tactic(auto, using(termwiz_extended_grammar::proofs::lemmas::waiting::FlushesLeave::rest_flushed, termwiz_extended_grammar::proofs::lemmas::items::ExtendedRests::waiting_shape))]
     pub fn parse_as_vec(
         &mut self,

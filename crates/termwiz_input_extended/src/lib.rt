@@ -4,9 +4,9 @@
 mod characters;
 mod form;
 pub mod input;
-pub mod laws;
 mod next_item;
 mod string;
 pub mod time;
 
 pub use termwiz_extended_events::{reply_types, types};
+pub use termwiz_extended_grammar::laws;

@@ -328,10 +328,6 @@ fn item_of_two_escapes(
     requires scanned { IsScanned after.now scanned }
     ensures { IsNextItem reading (ESC ++ after.now) maybe_more result }
 {
-    // Before a third ESC the first two are a key, whatever comes.
-    if let [_, ESCAPE, ..] = after {
-        return NextItem::AltEscape;
-    }
     match match_front(after, scanned, reading.x10_mouse) {
         FormMatch::Form(len) => match after_escape(parser, reading, &after[..len]) {
             AfterEscape::Joined => NextItem::AltForm(len),
@@ -456,6 +452,10 @@ pub(crate) fn next_item(
     requires { IsScannedTo text.now scanned }
     ensures { IsNextItem reading text.now maybe_more result }
 {
+    // Before a third ESC the first two are a key, whatever comes.
+    if let [ESCAPE, ESCAPE, ESCAPE, ..] = text {
+        return NextItem::AltEscape;
+    }
     match reading.dialect {
         Dialect::Extended => extended_item(parser, reading, text, scanned, maybe_more),
         Dialect::Termwiz => NextItem::Usual,

@@ -24,7 +24,7 @@ impl Reader {
     // Reads by the sequence table of a parser, whose own bytes stay buffered.
     pub(crate) fn beside(parser: &ExtendedParser) -> Result<Reader, AllocError> {
         Ok(Reader {
-            rows: parser.input_sharing()?,
+            rows: parser.input().sharing()?,
             parser: parser.sharing(parser.dialect())?,
         })
     }

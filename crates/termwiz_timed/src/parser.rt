@@ -155,14 +155,17 @@ fn sooner(one: Option<u64>, other: Option<u64>) -> Option<u64>
 pub struct TimedParser {
     parser: ExtendedParser,
     stage: Stage,
-    policy: Policy,
-    parts: Option<usize>,
-    ages: Ages,
     // Whether a paste or a string is buffered that was open when another program had the terminal.
     interrupted: bool,
+    // Whether pastes are told in parts, and the limit of these. They are two fields since an option would take more memory.
+    tells_parts: bool,
+    parts: usize,
+    policy: Policy,
+    ages: Ages,
 }
 
 impl Model for TimedParser {
+    ghost use Rattle.std.specs.Prelude.{Some, None, if◌then◌else◌};
     ghost use Rattle.termwiz_timed.specs.Timed.{Timed};
 
     ghost Value = { Timed };
@@ -172,7 +175,7 @@ impl Model for TimedParser {
       text = p.parser.text;
       stage = p.stage;
       policy = p.policy;
-      parts = p.parts;
+      parts = if p.tells_parts then Some p.parts else None;
       ages = p.ages;
       interrupted = p.interrupted;
     } };
@@ -200,11 +203,20 @@ impl TimedParser {
         TimedParser {
             parser,
             stage: Stage::AllTold,
-            policy: Policy::usual(),
-            parts: None,
-            ages: Ages::new(),
             interrupted: false,
+            tells_parts: false,
+            parts: 0,
+            policy: Policy::usual(),
+            ages: Ages::new(),
         }
+    }
+
+    /// The parser without a clock that this one has: of its reading and its buffer.
+    pub fn parser(&self) -> &ExtendedParser
+        ensures reading { result.now.reading ≡ self.now.reading }
+        ensures text { result.now.text ≡ self.now.text }
+    {
+        &self.parser
     }
 
     /// How it reads. The number of open questions is that after the events so far.
@@ -279,7 +291,8 @@ impl TimedParser {
     pub fn set_parts(&mut self, limit: Option<usize>)
         ensures { Step self.old (SetParts limit) self.new }
     {
-        self.parts = limit;
+        self.tells_parts = limit.is_some();
+        self.parts = limit.unwrap_or(0);
         self.stage = self.stage.read_again();
     }
 
@@ -477,6 +490,17 @@ impl TimedParser {
         self.interrupted = goes_on(event, self.interrupted);
     }
 
+    // The limit of parts, if there are some.
+    fn parts(&self) -> Option<usize>
+        ensures { result ≡ self.now.parts }
+    {
+        if self.tells_parts {
+            Some(self.parts)
+        } else {
+            None
+        }
+    }
+
     // A part of an open paste that has more than the limit.
     fn next_part(&mut self) -> Result<Option<PastedText>, AllocError>
         ensures told { IfOk result (λ found. IfSome found (λ text. Tells self.old (TimedEvent.PastePart text) self.new)) }
@@ -486,7 +510,7 @@ impl TimedParser {
         ensures refused { OnErr result (IsOpenPaste self.old.text) }
         ensures refused_same { OnErr result (self.new ≡ self.old) }
     {
-        let Some(limit) = self.parts else {
+        let Some(limit) = self.parts() else {
             return Ok(None);
         };
         match self.parser.take_paste(limit)? {
@@ -525,7 +549,7 @@ impl TimedParser {
         ensures parts { IsTrue result → self.now.parts ≡ None }
         ensures stage { IsTrue result → self.now.stage ≢ Stage.Ending }
     {
-        match (self.parts, self.stage) {
+        match (self.parts(), self.stage) {
             (Some(_), _) | (None, Stage::Ending) => false,
             _ => true,
         }
@@ -570,6 +594,7 @@ impl TimedParser {
     /// The next event, or none: then all is told.
     ///
     /// If memory is refused, nothing changed, and the same call may be made again.
+    #[inline(always)]
     pub fn next(&mut self) -> Result<Option<TimedEvent>, AllocError>
         ensures told { IfOk result (λ found. IfSome found (λ event. Step self.old (Told event) self.new)) }
         ensures all_told { IfOk result (λ found. IfNone found (Step self.old AllTold self.new)) }

@@ -24,7 +24,7 @@ fn left_in(parser: &ExtendedParser) -> Left
 {
     Left {
         waiting: parser.waiting_len(),
-        is_paste_open: parser.is_paste_open(),
+        is_paste_open: parser.input().is_paste_open(),
     }
 }
 

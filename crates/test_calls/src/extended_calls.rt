@@ -1,10 +1,7 @@
 //! By which calls of the extended parser bytes are read. Each returns the events of what is buffered and of the bytes.
-use crate::calls::Callback;
-use crate::limits::Limits;
 use crate::noted::Noted;
 use std::alloc::{AllocError, Global};
 use termwiz_input_extended::input::ExtendedParser;
-use termwiz_input_extended::time::expire;
 use termwiz_input_extended::types::Event;
 
 /// The events of a call of `parse_as_vec`.
@@ -19,28 +16,33 @@ pub fn listed(
     }
 }
 
-/// The events that a callback is given.
+/// The events that the callback of `parse` is given.
 pub fn called_back(
     alloc: Global,
     parser: &mut ExtendedParser,
-    limits: &mut Limits,
-    callback: Callback,
     bytes: &[u8],
+    more: bool,
 ) -> Result<Vec<Event>, AllocError> {
     let mut noted = Noted::new(alloc);
     let mut note = |event: Event| noted.push(event);
-    let is_done = match callback {
-        Callback::Parse(more) => parser.parse(bytes, &mut note, more).is_ok(),
-        Callback::Loop(more) => {
-            parser.feed(bytes).is_ok() && parser.for_each_event(&mut note, more).is_ok()
-        }
-        Callback::Expire(now) => {
-            expire(parser, &mut limits.timer, &limits.policy, now, &mut note).is_ok()
-        }
-    };
-    if is_done {
-        noted.all()
-    } else {
-        Err(AllocError)
+    match parser.parse(bytes, &mut note, more) {
+        Ok(()) => noted.all(),
+        Err(_) => Err(AllocError),
+    }
+}
+
+/// The events that the callback of `for_each_event` is given, after the bytes were fed.
+pub fn looped(
+    alloc: Global,
+    parser: &mut ExtendedParser,
+    bytes: &[u8],
+    more: bool,
+) -> Result<Vec<Event>, AllocError> {
+    let mut noted = Noted::new(alloc);
+    let mut note = |event: Event| noted.push(event);
+    parser.feed(bytes)?;
+    match parser.for_each_event(&mut note, more) {
+        Ok(()) => noted.all(),
+        Err(_) => Err(AllocError),
     }
 }

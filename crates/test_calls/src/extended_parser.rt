@@ -1,31 +1,26 @@
 //! Commands to an extended parser, and whole sequences.
-use crate::calls::Callback;
 use crate::conversation::{Command, Session, bytes_of};
-use crate::extended_calls::{called_back, listed};
+use crate::extended_calls::{called_back, listed, looped};
 use crate::failure::Failure;
-use crate::limits::{Limits, note_of};
 use crate::line::Line;
 use std::alloc::{AllocError, Global};
 use termwiz_extended_events::meanings::{event_of, meaning_of};
 use termwiz_extended_events::port_events::port_of;
 use termwiz_extended_events::types::KeyReport;
 use termwiz_input_extended::input::ExtendedParser;
-use termwiz_input_extended::time::{limit_of, next_flushed, seen_of};
 use termwiz_input_extended::types::{Dialect, Event};
 
-/// A parser, and its limits in time.
+/// A parser.
 #[derive(Drop)]
 pub struct ExtendedSession {
     parser: ExtendedParser,
-    limits: Limits,
 }
 
 impl ExtendedSession {
-    /// A parser whose buffer is empty, under the usual policy.
+    /// A parser whose buffer is empty.
     pub fn new(alloc: Global, dialect: Dialect) -> Result<ExtendedSession, AllocError> {
         Ok(ExtendedSession {
             parser: ExtendedParser::new(alloc, dialect)?,
-            limits: Limits::usual(),
         })
     }
 }
@@ -40,42 +35,9 @@ impl Session for ExtendedSession {
         let more = command.number == 1;
         match command.name {
             "next_event" => take_next(&mut self.parser, more, line),
-            "next_flushed" => flush_next(&mut self.parser, line),
             "next_port" => take_port(&mut self.parser, more, line),
-            "callback" => self.call_back(alloc, command, Callback::Parse(more), line),
-            "loop" => self.call_back(alloc, command, Callback::Loop(more), line),
-            "expire" => self.call_back(alloc, command, Callback::Expire(command.number), line),
-            "end-pastes" | "timeout" | "limit" => {
-                let limit = limit_of(&self.parser, &self.limits.policy);
-                self.limits
-                    .answer(command.name, command.number, limit, line)
-            }
-            _ => match note_of(command.name) {
-                Some(note) => {
-                    let seen = seen_of(&self.parser, &self.limits.policy, note.fed, note.taken);
-                    self.limits.note(command.number, seen, line);
-                    Ok(())
-                }
-                None => answer_bytes(&mut self.parser, alloc, command, line),
-            },
+            _ => answer_bytes(&mut self.parser, alloc, command, line),
         }
-    }
-}
-
-impl ExtendedSession {
-    // Makes a call with a callback.
-    fn call_back(
-        &mut self,
-        alloc: Global,
-        command: &Command<'_>,
-        callback: Callback,
-        line: &mut Line,
-    ) -> Result<(), Failure> {
-        let bytes = bytes_of(alloc, command.hex)?;
-        let (parser, limits) = (&mut self.parser, &mut self.limits);
-        let events = called_back(alloc, parser, limits, callback, &bytes)?;
-        show_events(&events, parser.waiting_len(), line);
-        Ok(())
     }
 }
 
@@ -90,8 +52,10 @@ fn answer_bytes(
     let more = command.number == 1;
     let events = match command.name {
         "list" => listed(parser, &bytes, more)?,
+        "callback" => called_back(alloc, parser, &bytes, more)?,
+        "loop" => looped(alloc, parser, &bytes, more)?,
         "feed" => return Ok(parser.feed(&bytes)?),
-        "sequence" => return show_sequence(alloc, &bytes, command.number == 1, line),
+        "sequence" => return show_sequence(alloc, &bytes, more, line),
         _ => return Err(Failure::NoSuchWord),
     };
     show_events(&events, parser.waiting_len(), line);
@@ -115,15 +79,6 @@ fn take_port(parser: &mut ExtendedParser, more: bool, line: &mut Line) -> Result
             None => line.word("None"),
         }
     }
-    Ok(())
-}
-
-// Appends the next event of a flush, if there is one.
-fn flush_next(parser: &mut ExtendedParser, line: &mut Line) -> Result<(), Failure> {
-    if let Some(event) = next_flushed(parser)? {
-        show_listed(&event, line);
-    }
-    line.waiting(parser.waiting_len());
     Ok(())
 }
 

@@ -1,4 +1,4 @@
-//! The limits in time of a parser, which both parsers have.
+//! The limits in time of a parser.
 use crate::failure::Failure;
 use crate::line::Line;
 use termwiz_input::time::{Age, Limit, Policy, Seen, Timer};

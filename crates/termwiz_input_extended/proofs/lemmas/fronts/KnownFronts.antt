@@ -149,13 +149,10 @@ three_escapes reading u f =
           (λ b. let second : ◌≡◌ {A = ℕ} 27 91 = cc (b.1) in omega arith),
     )
 
-pub escapes_front : (reading : Reading) (v : List ℕ) (f : Bool) → Begins ESC v → 1 < length v → slice_index_or v 1 0 ≡ 27
-    → IsPortsOwn reading (27 ∷ v) f × IsItemAt (27 ∷ v) f (Key (with_alt escape_key)) 2 × Begins (ESC ++ ESC) (27 ∷ v)
-escapes_front reading [] f b long second = absurd (omega arith)
-escapes_front reading (x ∷ []) f b long second = absurd (omega arith)
-escapes_front reading (x ∷ y ∷ u) f b long second =
-    let first : 27 ≡ x = cc (b.1) in
-    let it = subst (λ z. IsPortsOwn reading (27 ∷ z ∷ y ∷ u) f × IsItemAt (27 ∷ z ∷ y ∷ u) f (Key (with_alt escape_key)) 2) first
-    (subst (λ z. IsPortsOwn reading (27 ∷ 27 ∷ z ∷ u) f × IsItemAt (27 ∷ 27 ∷ z ∷ u) f (Key (with_alt escape_key)) 2) (sym second)
-    (three_escapes reading u f)) in
-    (it.0, it.1, (b.0, ap (λ t. 27 ∷ t) b.1))
+pub escapes_front : (reading : Reading) (u : List ℕ) (f : Bool) → 3 ≤ length u → slice_index_or u 0 0 ≡ 27 → slice_index_or u 1 0 ≡ 27
+    → slice_index_or u 2 0 ≡ 27 → IsPortsOwn reading u f × IsItemAt u f (Key (with_alt escape_key)) 2 × Begins (ESC ++ ESC) u
+escapes_front reading [] f long first second third = absurd (omega arith)
+escapes_front reading (x ∷ []) f long first second third = absurd (omega arith)
+escapes_front reading (x ∷ y ∷ []) f long first second third = absurd (omega arith)
+escapes_front reading (x ∷ y ∷ z ∷ u) f long first second third =
+    rw (first, second, third) (let it = three_escapes reading u f in (it.0, it.1, (27 ∷ u, refl)))

@@ -1,15 +1,10 @@
-use Rattle.std.proofs.Common.{inl, inr, take, drop, refl, sym, take-append-drop, arith}
+use Rattle.std.proofs.Common.{inl, inr, take, drop, refl, sym, take-append-drop}
 use Rattle.termwiz_extended_grammar.proofs.lemmas.forms.ExtraFacts.{mark_from_unfinished}
 use Rattle.termwiz_input_extended.proofs.lemmas.fronts.ExtraAnswers.{event_is, no_extra_starts, no_extra_unfinished, no_extra_without_form, unfinished_from_front}
 use Rattle.termwiz_input_extended.proofs.lemmas.fronts.FrontItems.{own_after_two_escapes, waits_after_escape}
-use Rattle.termwiz_input_extended.proofs.lemmas.fronts.KnownFronts.{escapes_front}
 use Rattle.termwiz_input_extended.proofs.lemmas.fronts.MouseForms.{report_no_extra, report_not_unfinished}
 use Rattle.termwiz_input_extended.proofs.lemmas.fronts.ScannedPlaces.{scanned_twice}
 use Rattle.termwiz_input_extended.proofs.next_item.item_of_two_escapes.Goals as goal
-
-pub returns-in-27 : goal.returns-in-27
-returns-in-27 c =
-    escapes_front c.args.reading c.args.after.now c.args.maybe_more c.requires.escape (omega arith) (omega arith)
 
 pub returns-in-Joined : goal.returns-in-Joined
 returns-in-Joined c =

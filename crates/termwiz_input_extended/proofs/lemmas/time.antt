@@ -1,3 +1,0 @@
-pub mod ExpirySteps
-pub mod FlushedRests
-pub mod Runs
