@@ -1,34 +1,36 @@
-/* Key, mouse and paste events from the bytes that a terminal sends, and the bytes that it sends for a key. A map from byte strings to
- * numbers, for key bindings.
+/* Key, mouse and paste events, and replies, from the bytes that a terminal sends, and the bytes that it sends for a key. Names of keys, and
+ * bindings of chords. A map from byte strings to numbers.
  *
  *     hed_parser parser = HED_PARSER_NONE;
  *     hed_event event;
- *     if (!hed_parser_init(&parser)) ...                        // no memory
- *     for (;;) {
- *       if (poll(&keyboard, 1, hed_parser_timeout(&parser, now_ms())) == 0) { // what is buffered waited long enough
- *         while (hed_parser_expire(&parser, now_ms(), &event) == HED_NEXT_EVENT) ...
- *         continue;
- *       }
- *       if ((n = read(0, bytes, sizeof bytes)) <= 0) break;
- *       if (!hed_parser_feed(&parser, bytes, n)) ...            // no memory: none of the bytes is buffered
- *       while (hed_parser_next(&parser, true, &event) == HED_NEXT_EVENT) ...
- *       if (hed_parser_take_paste(&parser, 1 << 20, &event) == HED_NEXT_EVENT) ... // text of a long paste
+ *     if (hed_parser_init(&parser, HED_DIALECT_EXTENDED)) ...                       // no memory
+ *     for (bool open = true; open;) {
+ *       while (hed_parser_next(&parser, &event) == HED_OK) ...                      // handle the event
+ *       int ready = poll(&keyboard, 1, hed_parser_timeout(&parser, now_ms()));
+ *       ssize_t n = ready > 0 ? read(0, bytes, sizeof bytes) : 0;
+ *       if (ready == 0) hed_parser_idle(&parser, now_ms());                         // nothing came: what is buffered may be due
+ *       else if (n > 0) hed_parser_feed(&parser, now_ms(), bytes, n);
+ *       else open = false;
  *     }
- *     while (hed_parser_next(&parser, false, &event) == HED_NEXT_EVENT) ...
+ *     hed_parser_end(&parser);
+ *     while (hed_parser_next(&parser, &event) == HED_OK) ...                        // what was buffered
  *     hed_parser_free(&parser);
  *
- * hed_parser_feed buffers bytes, and hed_parser_next emits events, one at a time. However the bytes are cut into calls, the events are
- * the same. An ESC stays buffered, since it may begin a sequence: only time tells that it is the Escape key. hed_parser_timeout says how
- * long the program may wait for more bytes, and hed_parser_expire emits the events of what waited so long. now_ms() stands for
- * CLOCK_MONOTONIC in milliseconds: the library reads no clock. A program without poll waits as it can, and has the same loop.
+ * hed_parser_feed buffers bytes, and hed_parser_next tells events, one at a time. However the bytes are cut into calls, the events are the same.
+ * An ESC stays buffered, since it may begin a sequence: only time tells that it is the Escape key. hed_parser_timeout says how long the program
+ * may wait for more bytes, and hed_parser_idle that none came. now_ms() stands for CLOCK_MONOTONIC in milliseconds: the library reads no clock.
+ * A program without a clock passes 0, calls hed_parser_flush at its pauses and hed_parser_end at the end.
+ *
+ * A call that returns a hed_status returns HED_OK, which is 0, if it did what it says, and else why not. Then it changed and wrote nothing, but
+ * for what is said of it.
  *
  * The bodies of the calls are proved. The duties of a caller are not checked:
  *
  * - A pointer of length 0 may be NULL. Every other pointer must be non-null.
  * - Two pointers of one call must not lead to the same memory, but for a table that parsers share. Each leads to as much as its type or
  *   length says.
- * - A hed_parser, a hed_extended, a hed_keymap and a hed_bindings are all zero (HED_PARSER_NONE, HED_EXTENDED_NONE, HED_KEYMAP_NONE,
- *   HED_BINDINGS_NONE) or as a call of this library left them. What is said here of a map holds of bindings too.
+ * - A hed_parser, a hed_keymap and a hed_bindings are all zero (HED_PARSER_NONE, HED_KEYMAP_NONE, HED_BINDINGS_NONE) or as a call of this
+ *   library left them. What is said here of a map holds of bindings too.
  * - Any thread may call, but no two calls on the same parser or the same map may run at the same time, not even two that only read.
  *   Parsers that share a table are different parsers.
  * - A parser or a map that one thread has used may be used by another once the two are ordered, as by a lock or by a join.
@@ -37,8 +39,8 @@
  *
  * The caller owns all memory that it passes. The library keeps no pointer to it, and reads and writes nothing else of the caller's. A call
  * with a const pointer to a parser or a map changes neither the struct nor what it leads to, but for the number of parsers that share its
- * table. What a parser or a map owns it gets from malloc and realloc, and hed_parser_free, hed_extended_free, hed_keymap_free or
- * hed_bindings_free frees it. That what it owns may pass from thread to thread is proved.
+ * table. What a parser or a map owns it gets from malloc and realloc, and hed_parser_free, hed_keymap_free or hed_bindings_free frees it.
+ * That what it owns may pass from thread to thread is proved.
  *
  * The library is built for Linux on x86-64 and on 64-bit ARM, and so are its layouts: for anything else this header doesn't compile. The
  * numbers are those of c/numbers.txt, and a number never changes its meaning. */
@@ -67,27 +69,65 @@
 extern "C" {
 #endif
 
+/* What a call did: HED_OK, or why it did nothing. */
+typedef uint32_t hed_status;
+
+/* Every hed_status. */
+enum {
+  /* numbers.txt: status c */
+  HED_OK = 0, /* The call did what it says. */
+  HED_NONE = 1, /* There is nothing more, or nothing was found. */
+  HED_NO_MEMORY = 2, /* Memory was refused. The call may be made again. */
+  HED_BAD_NUMBER = 3, /* A number stands for nothing. */
+  HED_BUSY = 4, /* Events are left: call hed_parser_next until it returns HED_NONE, and then make the call again. */
+  HED_NOT_INITIALIZED = 5, /* There is no parser, no map or no bindings: they weren't made yet, or they were freed. */
+  HED_REFUSED_KEY = 6, /* The key has no text. Of hed_encode it is a function key, since only F1 to F24 have one. */
+  HED_NO_TEXT = 7, /* No bytes are read as the event. */
+  HED_TOO_LONG = 8, /* The bytes would be more than a sequence or a string may have. */
+  HED_BAD_TEXT = 9, /* The text isn't UTF-8. */
+  HED_TOO_FAR = 10, /* The place of the mouse report is above 223, which its encoding can't tell. */
+  HED_AMBIGUOUS = 11, /* A key of the map is a prefix of the text, and the text is a prefix of a longer one. */
+  HED_NEED_DATA = 12, /* No key of the map is a prefix of the text, but the text is a prefix of some key. */
+  HED_FULL = 13, /* 32 presses are pending, and the press isn't. */
+  HED_NAME_CONTROL_CHARACTER = 20, /* A control character but the tab is in the text. */
+  HED_NAME_MODIFIER_TWICE = 21, /* A modifier is there twice, as in `M-A-x`. */
+  HED_NAME_UNKNOWN_MODIFIER = 22, /* A word before `+` or `-` is no modifier, as in `foo+x`. */
+  HED_NAME_MISSING_KEY = 23, /* No key stands behind the modifiers, as in `ctrl+`. */
+  HED_NAME_BAD_NUMBER = 24, /* A number names no key, as in `f256`, `f01`, `kitty1` or `U+D800`. */
+  HED_NAME_UNKNOWN_NAME = 25, /* No key has this name. */
+  HED_NAME_AMBIGUOUS = 26, /* `DEL` in capitals is Backspace to Emacs, and Delete to others: write `backspace` or `delete`. */
+  HED_NAME_NOT_A_KEY = 27, /* The key makes no press by itself, as a modifier or a lock. */
+  HED_NAME_SHIFTED_CHARACTER = 28, /* Shift with a sign that shows it, as in `shift+!`: write the sign alone. */
+  HED_NAME_TOO_LONG = 29, /* A chord has at most 32 keys, and this is the 33rd. */
+  HED_NAME_EMPTY = 30 /* No key is in the text. */
+  /* numbers.txt: end */
+};
+
 /* A parser, or none. Its fields are the library's. It may be moved, as by memcpy, and is then used at its new place alone: of two
  * copies only one may ever be used, and only one freed. */
 typedef struct hed_parser {
   bool live;
-  bool timed;
-  bool fed;
-  bool taken;
-  bool expiring;
   void *state;
-  void *timing;
 } hed_parser;
 
 /* The value of a hed_parser that is none. */
 #define HED_PARSER_NONE \
-  { false, false, false, false, false, NULL, NULL }
+  { false, NULL }
 
-/* The kinds of events: the field kind of a hed_event, which is HED_KIND_KEY, _MOUSE, _PASTE or _PASTE_PART, and of a hed_extended_event. */
+/* By which grammar a parser reads: what hed_parser_init is given. Pass HED_DIALECT_EXTENDED: it reads every protocol and mode, so a program
+ * never has to know which its terminal speaks. HED_DIALECT_TERMWIZ is for programs that must read just what termwiz reads. */
+enum hed_dialect {
+  /* numbers.txt: dialect c */
+  HED_DIALECT_EXTENDED = 0, /* What terminals send in any mode. For every program. */
+  HED_DIALECT_TERMWIZ = 1 /* What termwiz reads, and nothing else: the other fields of a reading say nothing then. */
+  /* numbers.txt: end */
+};
+
+/* The kinds of events: the field kind of a hed_event. docs/EXTENDED.md says which bytes are which. */
 enum hed_kind {
   /* numbers.txt: kind c */
   HED_KIND_OTHER = 0, /* None of these. No event has this kind. */
-  HED_KIND_KEY = 1, /* A key: of a hed_parser one that was pressed, and of an extended parser a key report. */
+  HED_KIND_KEY = 1, /* A key: it was typed, or reported with what happened to it. */
   HED_KIND_MOUSE = 2, /* The mouse was moved, one of its buttons was pressed or released, or a wheel was turned. */
   HED_KIND_PASTE = 3, /* Text was pasted, in bracketed paste mode. */
   HED_KIND_FOCUS_GAINED = 5, /* The terminal's window gained the focus (mode 1004). */
@@ -105,84 +145,198 @@ enum hed_kind {
   /* numbers.txt: end */
 };
 
-/* An event. What its kind has no use for is 0. */
-typedef struct hed_event {
-  uint8_t kind; /* an enum hed_kind */
-  uint8_t buttons; /* HED_KIND_MOUSE: a set of HED_BUTTON_.., empty after a release and for a move with no button down */
-  uint16_t modifiers; /* HED_KIND_KEY, HED_KIND_MOUSE: a set of HED_TERMWIZ_MOD_.. */
-  uint16_t key; /* HED_KIND_KEY: an enum hed_key */
-  uint16_t x; /* HED_KIND_MOUSE: the column, as the terminal sent it: the leftmost is 1 */
-  uint16_t y; /* HED_KIND_MOUSE: the row, as the terminal sent it: the topmost is 1 */
-  uint32_t detail; /* HED_KIND_KEY: the code point with HED_KEY_CHAR, the number with HED_KEY_FUNCTION (1 for F1) */
-  size_t paste_len; /* HED_KIND_PASTE, HED_KIND_PASTE_PART: the number of bytes of the text, which hed_parser_paste copies */
-} hed_event;
-
-/* What hed_parser_next, hed_parser_flush_escape, hed_parser_take_paste, hed_parser_end_paste and hed_parser_expire return. */
-enum hed_next {
-  /* numbers.txt: next c */
-  HED_NEXT_NONE = 0, /* There is no such event. Nothing changed. */
-  HED_NEXT_EVENT = 1, /* An event was written, and its bytes were consumed. */
-  HED_NEXT_NO_MEMORY = 2, /* Memory was refused. Nothing changed, and the call may be made again. */
-  HED_NEXT_NO_PARSER = 3 /* There is no parser: it wasn't made yet, or it was freed. */
+/* What happened to a key: the field key_event_kind of a hed_event. */
+enum hed_key_event_kind {
+  /* numbers.txt: key_event_kind c */
+  HED_KEY_EVENT_KIND_PRESS = 1, /* It was pressed. */
+  HED_KEY_EVENT_KIND_REPEAT = 2, /* It was held down so long that it repeats. */
+  HED_KEY_EVENT_KIND_RELEASE = 3 /* It was released. */
   /* numbers.txt: end */
 };
 
-/* Makes a parser with an empty buffer. If there was one, it is freed. The caller owes a hed_parser_free.
+/* What happened to the mouse: the field mouse_kind of a hed_event. */
+enum hed_mouse_kind {
+  /* numbers.txt: mouse_kind c */
+  HED_MOUSE_KIND_PRESS = 1, /* A button was pressed. */
+  HED_MOUSE_KIND_RELEASE = 2, /* A button was released. Only SGR reports (mode 1006) tell which. */
+  HED_MOUSE_KIND_DRAG = 3, /* The mouse was moved while a button was down. */
+  HED_MOUSE_KIND_MOVE = 4, /* The mouse was moved, and no button is down. */
+  HED_MOUSE_KIND_WHEEL = 5 /* A wheel was turned. */
+  /* numbers.txt: end */
+};
+
+/* The modifiers by Kitty's bits, as a set: the field modifiers of a hed_event, and held of a hed_key_press. Only hed_encode has others, those
+ * of enum hed_termwiz_mod. */
+enum hed_kitty_mod {
+  /* numbers.txt: kitty_mod c */
+  HED_KITTY_MOD_NONE = 0, /* No modifier. */
+  HED_KITTY_MOD_SHIFT = 1, /* Shift. */
+  HED_KITTY_MOD_ALT = 2, /* Alt. */
+  HED_KITTY_MOD_CTRL = 4, /* Ctrl. */
+  HED_KITTY_MOD_SUPER = 8, /* Super: the key with the Windows logo, or Command. */
+  HED_KITTY_MOD_HYPER = 16, /* Hyper. */
+  HED_KITTY_MOD_META = 32, /* Meta. */
+  HED_KITTY_MOD_CAPS_LOCK = 64, /* Caps Lock is on. */
+  HED_KITTY_MOD_NUM_LOCK = 128 /* Num Lock is on. */
+  /* numbers.txt: end */
+};
+
+/* The code point in shifted and base of a hed_event, if the terminal didn't report one. */
+#define HED_NO_CODE 0xffffffffu
+
+/* An event. What its kind doesn't have is 0. The mouse's buttons have numbers: 1 to 3 are the left, middle and right one, 4 to 7 a wheel that is
+ * turned up, down, left and right, and 8 to 11 side buttons. */
+typedef struct hed_event {
+  uint8_t kind; /* an enum hed_kind */
+  uint8_t modifiers; /* HED_KIND_KEY, HED_KIND_MOUSE: a set of HED_KITTY_MOD_.. */
+  uint8_t key_event_kind; /* HED_KIND_KEY: an enum hed_key_event_kind */
+  uint8_t mouse_kind; /* HED_KIND_MOUSE: an enum hed_mouse_kind */
+  uint8_t button; /* HED_KIND_MOUSE: the number of the button that the report names, 0 if it names none */
+  uint8_t buttons; /* HED_KIND_MOUSE: those that are down, a set of HED_BUTTON_..: none after a release, for a move and a side button */
+  uint8_t flags; /* HED_KIND_KEYBOARD_FLAGS: a set of HED_KITTY_FLAG_.. */
+  uint8_t string_kind; /* HED_KIND_STRING_PART, HED_KIND_STRING_CUT: HED_KIND_OSC, _DCS or _APC */
+  uint16_t key; /* HED_KIND_KEY: an enum hed_key, or 0 for a key that has no name there, or for text that no key typed */
+  uint16_t x; /* HED_KIND_MOUSE: the column, as the terminal sent it: the leftmost is 1 */
+  uint16_t y; /* HED_KIND_MOUSE: the row, as the terminal sent it: the topmost is 1 */
+  uint16_t row; /* HED_KIND_CURSOR_POSITION: the row, as the terminal sent it: the topmost is 1 */
+  uint16_t column; /* HED_KIND_CURSOR_POSITION: the column, as the terminal sent it: the leftmost is 1 */
+  uint16_t rows; /* HED_KIND_RESIZE: the number of rows */
+  uint16_t columns; /* HED_KIND_RESIZE: the number of columns */
+  uint16_t height; /* HED_KIND_RESIZE: the height in pixels */
+  uint16_t width; /* HED_KIND_RESIZE: the width in pixels */
+  uint32_t detail; /* HED_KIND_KEY: HED_KEY_CHAR's code point, HED_KEY_FUNCTION's number (1 for F1), key 0's in Kitty's table; else 0 */
+  uint32_t shifted; /* HED_KIND_KEY: the code point that the key types with Shift, or HED_NO_CODE */
+  uint32_t base; /* HED_KIND_KEY: the code point that the key at this place types on the standard layout (PC-101), or HED_NO_CODE */
+  size_t text_len; /* the number of bytes that the event brought, which hed_parser_text copies: see there */
+} hed_event;
+
+/* Makes a parser with an empty buffer. If there was one, it is freed. The caller owes a hed_parser_free. Pass HED_DIALECT_EXTENDED, whatever
+ * the terminal is and whatever protocol or mode the program turns on.
  *
  * A parser takes some half a millisecond to make, and some 170 KB, most of it a table of sequences. So make one and keep it:
  * hed_parser_reset empties its buffer, and further parsers share its table by hed_parser_init_sharing.
  *
- * Returns false if memory is refused: then the parser is unchanged. */
-bool hed_parser_init(hed_parser *parser);
+ * Returns HED_OK, HED_NO_MEMORY, or HED_BAD_NUMBER if dialect is no enum hed_dialect. */
+hed_status hed_parser_init(hed_parser *parser, uint32_t dialect);
 
-/* Makes a parser with an empty buffer that shares the table of another. If there was one, it is freed. The caller owes a hed_parser_free.
+/* Makes a parser with an empty buffer that shares the table of another. If there was one, it is freed. The caller owes a hed_parser_free. The
+ * two may have different dialects.
  *
  * It is for programs with many sessions, such as a server: make one parser by hed_parser_init, and the others from that one or from each
- * other. Each takes some hundred bytes beside its buffer. The table is freed with the last parser that has it, in whatever order they are
+ * other. Each takes some two hundred bytes beside its buffer. The table is freed with the last parser that has it, in whatever order they are
  * freed. Threads may make parsers of one idle parser, but one at a time: this is a call on the other parser too.
  *
- * Returns false if memory is refused or there is no other parser. Then the parser is unchanged. The other is unchanged in any case. */
-bool hed_parser_init_sharing(hed_parser *parser, const hed_parser *other);
+ * Returns what hed_parser_init does, or HED_NOT_INITIALIZED if there is no other parser. The other is unchanged. */
+hed_status hed_parser_init_sharing(hed_parser *parser, uint32_t dialect, const hed_parser *other);
 
 /* Frees what the parser owns, and leaves HED_PARSER_NONE. If there is no parser, it does nothing, so it may be called twice. */
 void hed_parser_free(hed_parser *parser);
 
-/* Appends len bytes to the buffer. They are copied.
+/* Says that these bytes came now: appends len bytes to the buffer. They are copied. Then call hed_parser_next until it returns HED_NONE.
  *
- * Returns false if memory is refused: then none of them is buffered, and the call may be made again. It also returns false if there is
- * no parser. A call without bytes needs no memory. */
-bool hed_parser_feed(hed_parser *parser, const uint8_t *bytes, size_t len);
-
-/* Consumes the item at the front of the buffer, and writes its event to *event. The caller calls this until it returns HED_NEXT_NONE.
+ * now is in milliseconds, of a clock that nobody sets, such as CLOCK_MONOTONIC. If it is before the time of an earlier call, no time has passed.
  *
- * Pass more as true while more bytes may come: then bytes that may still become a longer sequence or a character, such as a lone ESC,
- * stay buffered. After a pause call hed_parser_expire instead. Pass more as false at the end of the input: then only an open paste
- * stays. Before the end this breaks a sequence or a character of which the rest is still to come.
+ * Returns HED_OK; HED_NO_MEMORY: then none of the bytes is buffered, and the call may be made again; HED_BUSY while a flush that began isn't
+ * over: call hed_parser_next until it returns HED_NONE, and then make the call again; or HED_NOT_INITIALIZED. A call without bytes needs no
+ * memory. */
+hed_status hed_parser_feed(hed_parser *parser, uint64_t now, const uint8_t *bytes, size_t len);
+
+/* Writes the next event to *event, and consumes its bytes. The caller calls this until it returns HED_NONE: then all is told, and what stays
+ * buffered may become a longer sequence or a character, such as a lone ESC.
  *
- * Returns an enum hed_next. *event is written only with HED_NEXT_EVENT. With HED_NEXT_NO_MEMORY, which only a paste can meet, nothing
- * changed. */
-uint32_t hed_parser_next(hed_parser *parser, bool more, hed_event *event);
-
-/* Copies the text of the last HED_KIND_PASTE or HED_KIND_PASTE_PART to out, at most len bytes of it. The text is UTF-8 without a final 0.
- * The rest of out is unchanged.
+ * A paste is one event, or with hed_parser_set_parts several. A string is one event if it has its end and less than 65535 bytes before that. Of a
+ * longer one come some HED_KIND_STRING_PART first, and then an event with the rest. The bytes of each begin with those of the string's opening,
+ * such as 52; after ESC ]: a program that joins them leaves these out of all but the first. If a flush cuts a string off, or ESC without a \
+ * after it, then its last event is a HED_KIND_STRING_CUT. No byte of a string that comes before a flush becomes a key.
  *
- * Returns the number of bytes of the whole text, as paste_len has it, so a caller whose room was short can call again: the parser keeps the
- * text until the next event of these kinds or hed_parser_drop_paste. Returns 0 if there is no such text, or if there is no parser. */
-size_t hed_parser_paste(const hed_parser *parser, uint8_t *out, size_t len);
+ * Returns HED_OK, HED_NONE, HED_NO_MEMORY, or HED_NOT_INITIALIZED. *event is written only with HED_OK. HED_NO_MEMORY comes only if a paste, a
+ * string or a sequence that isn't of the table is next. Then nothing changed, and the call may be made again. */
+hed_status hed_parser_next(hed_parser *parser, hed_event *event);
 
-/* Frees that text: hed_parser_paste returns 0 until the next. The caller calls it once it has copied a text that
- * is too long to be kept. If there is no text or no parser, it does nothing. */
-void hed_parser_drop_paste(hed_parser *parser);
+/* Makes calls of hed_parser_next one after another, and writes their events to events, at most room of them, and their number to *count.
+ * The bytes that they bring go to text one after another: those of an event begin where those of the event before it end, and are its
+ * text_len bytes. After an event whose bytes don't all fit into the text_room bytes of text no further one is told. So only the bytes of the
+ * last event can be cut off, and hed_parser_text then copies them whole. With text_room 0 the last event alone may bring bytes. What lies
+ * behind the events and the bytes is unchanged.
+ *
+ * Afterwards the parser is what it is after these calls. All of the events are read by one reading. A program that changes the reading by an
+ * event calls hed_parser_next.
+ *
+ * Returns HED_NONE if all is told: the last of the calls returned that. HED_OK says that there is no more room, so there may be further events.
+ * With HED_NO_MEMORY the event after those that were written is still next, and the call may be made again. With HED_NOT_INITIALIZED *count is
+ * 0. With each of them *count events were written. */
+hed_status hed_parser_next_events(hed_parser *parser, hed_event *events, size_t room, uint8_t *text, size_t text_room, size_t *count);
 
-/* Frees memory that holds nothing, of the buffer and of the text of the last paste or part. The buffer keeps its room for min_capacity
- * bytes, if it has that. What is buffered, that text and all later events are unchanged. A session that is quiet after a long paste calls
- * hed_parser_drop_paste, and this with 0. If the smaller memory is refused, the larger is kept. If there is no parser, it does nothing. */
+/* Copies the bytes of the event that was told last to out, at most len of them. A HED_KIND_PASTE or HED_KIND_PASTE_PART brings its text. A
+ * HED_KIND_KEY brings the text that the key types, if the terminal reported it. A HED_KIND_CSI, _OSC, _DCS or _APC brings its bytes after ESC
+ * and the byte that introduces it, without the end of a string. So does a HED_KIND_STRING_PART or _STRING_CUT. The texts are UTF-8, without a
+ * final 0. The rest of out is unchanged.
+ *
+ * Returns the number of all these bytes, as text_len has it, so a caller whose room was short can call again: the parser keeps them until the
+ * next event or hed_parser_drop_text. Returns 0 if there are none, or if there is no parser. */
+size_t hed_parser_text(const hed_parser *parser, uint8_t *out, size_t len);
+
+/* Frees these bytes: hed_parser_text returns 0 until the next event that brings some. The caller calls it once it has copied a text that is too
+ * long to be kept. If there are none or there is no parser, it does nothing. */
+void hed_parser_drop_text(hed_parser *parser);
+
+/* Returns how many milliseconds the program may wait for input, as poll takes it: 0 from a call that can bring events, also such as
+ * hed_parser_set_parts and hed_parser_set_reading, until hed_parser_next returned HED_NONE; else until what is buffered is due. That is 0 if it is
+ * due already, and -1 if it may wait for ever, nothing is buffered, or there is no parser. The parser is unchanged. */
+int32_t hed_parser_timeout(const hed_parser *parser, uint64_t now);
+
+/* Says that nothing more came up to now: the program looked, as by a poll that timed out. If all is told and what is buffered is due, its flush
+ * begins, and hed_parser_next tells it: an Escape key, a sequence that was cut off as its keys, and an open paste as a HED_KIND_PASTE of what came
+ * so far. Else only the time is noted. */
+void hed_parser_idle(hed_parser *parser, uint64_t now);
+
+/* Reads what is buffered with no more to come, told or not: then hed_parser_next tells it. An open paste stays open. It is for a program that
+ * knows by itself that nothing more came, as at its pauses. */
+void hed_parser_flush(hed_parser *parser);
+
+/* Says that nothing will ever come: reads what is buffered as hed_parser_flush does, and an open paste ends where it is. Then call
+ * hed_parser_next until it returns HED_NONE. */
+void hed_parser_end(hed_parser *parser);
+
+/* Says that another program had the terminal up to now. A beginning that is buffered is forgotten, since its rest went there, and so are open
+ * questions. An open paste or string stays, as the rest of it would be typed otherwise. It ends where it is once nothing came for a second: the
+ * other program may have read its end.
+ *
+ * Returns HED_OK, HED_BUSY unless hed_parser_next returned HED_NONE since the last call that can bring events, or HED_NOT_INITIALIZED. */
+hed_status hed_parser_interrupted(hed_parser *parser, uint64_t now);
+
+/* Tells a paste in parts as soon as more than limit bytes of its text are buffered: then hed_parser_next writes a HED_KIND_PASTE_PART, and the
+ * paste stays open. What follows is its further text: none of it becomes a key. The HED_KIND_PASTE that ends it has the rest of the text, maybe
+ * none. So with a limit such as 1 << 20 a paste of any length needs little memory: at most 6 bytes and the limit stay buffered of it, or 11 if the
+ * limit is below 5. With HED_NO_PARTS, as at first, a paste is one event, and is buffered until its end arrives, whatever its length. */
+void hed_parser_set_parts(hed_parser *parser, size_t limit);
+
+/* The limit of parts with which there are none. */
+#define HED_NO_PARTS SIZE_MAX
+
+/* Forgets text of an open paste before its end arrives, and writes the number of these bytes to *count. The paste stays open. To refuse a paste
+ * that is too long, the caller calls it after each read and its events until the HED_KIND_PASTE comes, and ignores that one. No memory is
+ * asked for.
+ *
+ * Returns HED_OK, HED_NONE if no paste is open, or HED_NOT_INITIALIZED. *count is written only with HED_OK. */
+hed_status hed_parser_skip_paste(hed_parser *parser, size_t *count);
+
+/* Forgets all that is buffered, an open paste too, and the questions that are open: the next byte that is fed comes first. The text of the
+ * event that was told last is kept, and no memory is freed. The rest of the reading stays.
+ *
+ * Returns the number of bytes that were buffered, 0 if there is no parser. */
+size_t hed_parser_reset(hed_parser *parser);
+
+/* Frees memory that holds nothing, of the buffer and of the bytes of the event that was told last. The buffer keeps its room for min_capacity
+ * bytes, if it has that. What is buffered, those bytes and all later events are unchanged. A session that is quiet after a long paste calls
+ * hed_parser_drop_text, and this with 0. If the smaller memory is refused, the larger is kept. If there is no parser, it does nothing. */
 void hed_parser_shrink_to(hed_parser *parser, size_t min_capacity);
 
-/* Returns the number of bytes that are buffered, 0 if there is no parser. */
+/* Returns the number of bytes that are buffered, 0 if there is no parser. Once hed_parser_next returned HED_NONE, it is at most 256, or an open
+ * string of at most 65535 bytes, or an open paste. */
 size_t hed_parser_waiting_len(const hed_parser *parser);
 
-/* What stays buffered, as hed_parser_waiting and hed_extended_waiting return it. Only the latter returns HED_WAITING_STRING. */
+/* What stays buffered, as hed_parser_waiting returns it. */
 enum hed_waiting {
   /* numbers.txt: waiting c */
   HED_WAITING_NOTHING = 0, /* Nothing is buffered. */
@@ -194,65 +348,61 @@ enum hed_waiting {
   /* numbers.txt: end */
 };
 
-/* Returns what stays buffered, an enum hed_waiting. The caller calls it after HED_NEXT_NONE: before that, events may still be next.
+/* Returns what stays buffered, an enum hed_waiting. The caller calls it after HED_NONE: before that, events may still be next. The beginning of a
+ * control sequence, of a title or of the opening of a string is a HED_WAITING_SEQUENCE. With HED_WAITING_STRING the opening is whole, and the
+ * string's end is still to come.
  *
  * It tells a program what to show, or to log, of bytes that wait. How long they may wait is what hed_parser_timeout answers.
  *
  * Returns HED_WAITING_NOTHING if there is no parser. */
 uint32_t hed_parser_waiting(const hed_parser *parser);
 
-/* Writes the Escape key to *event if ESC alone is buffered, with HED_TERMWIZ_MOD_ALT if ESC ESC is, and consumes it. The caller calls it
- * if it has limits in time of its own: hed_parser_expire does it when the usual limit has passed. Whatever else is buffered stays. So it
- * breaks only what is cut right after its ESC or ESC ESC: a sequence, the start of a paste, or a key with Alt.
- *
- * Returns HED_NEXT_EVENT, HED_NEXT_NONE if anything else or nothing is buffered, or HED_NEXT_NO_PARSER. *event is written only with
- * HED_NEXT_EVENT. */
-uint32_t hed_parser_flush_escape(hed_parser *parser, hed_event *event);
+/* Which byte the Backspace key sends: the field erase of a hed_reading. A program takes it from its terminal's settings: VERASE of termios is 8
+ * or 127. hedrugal_terminal.c does that. */
+enum hed_erase {
+  /* numbers.txt: erase c */
+  HED_ERASE_DELETE = 0, /* 127, as most terminals send it. Byte 8 is Ctrl-H. */
+  HED_ERASE_BACKSPACE = 1 /* 8. Byte 127 is Ctrl-Backspace. */
+  /* numbers.txt: end */
+};
 
-/* Returns whether the buffer begins with the start of a paste. Such a paste is buffered until its end arrives, whatever its length, unless
- * the caller calls hed_parser_take_paste or hed_parser_skip_paste. Returns false if there is no parser. */
-bool hed_parser_is_paste_open(const hed_parser *parser);
+/* What byte 10 is: the field newline of a hed_reading. It is Enter while the terminal's settings turn CR into LF (ICRNL of termios), or if the
+ * input is no terminal. In raw mode, as hedrugal_terminal.c sets it, it is Ctrl-J. */
+enum hed_newline {
+  /* numbers.txt: newline c */
+  HED_NEWLINE_CTRL_J = 0, /* Ctrl-J. The Enter key sends the byte 13. */
+  HED_NEWLINE_ENTER = 1 /* The Enter key: the terminal's settings turn CR into it (ICRNL), or the input is no terminal. */
+  /* numbers.txt: end */
+};
 
-/* Takes text of an open paste before its end arrives, if more than limit bytes of the text are buffered: writes a HED_KIND_PASTE_PART to
- * *event. hed_parser_paste copies the text, the next part of what is pasted. The paste stays open. What follows is its further text: none
- * of it becomes a key. The HED_KIND_PASTE that ends it has the rest of the text, maybe none.
- *
- * The caller calls it after each read and its events, with a limit such as 1 << 20. So a paste of any length needs little memory: at most 6
- * bytes and limit stay buffered of it, or 11 if limit is below 5. At most 5 bytes of the text are held back, which may begin the end of the
- * paste or a character.
- *
- * Returns HED_NEXT_EVENT, HED_NEXT_NONE if no paste is open, no more than limit bytes of its text are buffered, or all of them are held
- * back, HED_NEXT_NO_MEMORY, or HED_NEXT_NO_PARSER. *event is written only with HED_NEXT_EVENT. With HED_NEXT_NO_MEMORY nothing changed, and
- * the call may be made again. */
-uint32_t hed_parser_take_paste(hed_parser *parser, size_t limit, hed_event *event);
+/* How a parser reads. A new one has its dialect, and the rest is 0: Backspace sends 127, and byte 10 is Ctrl-J. */
+typedef struct hed_reading {
+  uint32_t dialect; /* an enum hed_dialect. With HED_DIALECT_TERMWIZ the other fields say nothing */
+  uint32_t erase; /* an enum hed_erase: which byte the Backspace key sends */
+  uint32_t newline; /* an enum hed_newline: what byte 10 is */
+  bool x10_mouse; /* X10 mouse reports are read: ESC [M and three bytes. Without it ESC [M is a control sequence */
+  uint8_t questions; /* how many questions for the cursor's position are open */
+} hed_reading;
 
-/* Forgets text of an open paste before its end arrives: what hed_parser_take_paste would take with a limit of 0. Writes the number of these
- * bytes to *count. The paste stays open. The text of the last paste or part is kept.
+/* Has the parser read so from now on, also what is buffered. A flush that began goes on. A program that changes one field begins with what
+ * hed_parser_reading wrote.
  *
- * To refuse a paste that is too long, the caller calls it after each read and its events until the HED_KIND_PASTE comes, and ignores that
- * one. No memory is asked for.
- *
- * Returns false if no paste is open or there is no parser: then nothing changed, and *count isn't written. */
-bool hed_parser_skip_paste(hed_parser *parser, size_t *count);
+ * Returns HED_OK, HED_NOT_INITIALIZED, or HED_BAD_NUMBER if dialect is no enum hed_dialect, erase no enum hed_erase or newline no enum
+ * hed_newline. */
+hed_status hed_parser_set_reading(hed_parser *parser, const hed_reading *reading);
 
-/* Ends an open paste where it is: writes a HED_KIND_PASTE to *event, whose text is what came so far, and consumes the whole buffer.
- * hed_parser_paste copies the text. The rest of the paste then arrives as typed keys, Enter included, and its end as
- * HED_KEY_INTERNAL_PASTE_END; if the text ended inside that, the rest of it is typed keys too. So it is for the end of the input. A paste
- * that stalls is given up by a limit in time. For one that is too long call hed_parser_take_paste or hed_parser_skip_paste.
- *
- * Returns HED_NEXT_EVENT, HED_NEXT_NONE if no paste is open, HED_NEXT_NO_MEMORY, or HED_NEXT_NO_PARSER. *event is written only with
- * HED_NEXT_EVENT. With HED_NEXT_NO_MEMORY nothing changed, and the call may be made again. */
-uint32_t hed_parser_end_paste(hed_parser *parser, hed_event *event);
+/* Writes how the parser reads. Returns HED_OK or HED_NOT_INITIALIZED. */
+hed_status hed_parser_reading(const hed_parser *parser, hed_reading *reading);
 
-/* Forgets all that is buffered, an open paste too: the next byte that is fed comes first. The caller calls it where earlier bytes no
- * longer count, as after another program had the terminal, unless a paste is open: its rest would be typed. The text of the last paste or
- * part is kept, and no memory is freed.
- *
- * Returns the number of bytes that were buffered, 0 if there is no parser. */
-size_t hed_parser_reset(hed_parser *parser);
+/* Expects one more reply to a question for the cursor's position, up to 255: call it with each ESC [6n that is written. While a reply is
+ * expected, ESC [1;5R and the like are HED_KIND_CURSOR_POSITION, and not F3 with modifiers; each such event answers one question. */
+void hed_parser_expect_position(hed_parser *parser);
+
+/* Expects no reply any more to such questions: call it when a reply is overdue, or when a later question was answered. */
+void hed_parser_forget_positions(hed_parser *parser);
 
 /* How long each kind of bytes may stay buffered, in milliseconds: then they are due to be flushed. 0 is the usual limit, so a program names
- * only those that it changes; 1 is the least. Negative: forever. */
+ * only those that it changes, as in { .escape = 25 }; 1 is the least, and 2147418111 the most. Negative: for ever. */
 typedef struct hed_policy {
   int32_t escape; /* ESC or ESC ESC, since its last byte */
   int32_t alt_key; /* ESC and one byte that may begin a sequence, since the ESC: unless more follows, the byte's key with Alt */
@@ -266,30 +416,10 @@ typedef struct hed_policy {
 #define HED_POLICY_USUAL \
   { 50, 100, 1000, 5000, -1, -1 }
 
-/* Sets the limits of a parser. They hold from the next hed_parser_timeout or hed_parser_expire on.
+/* Sets the limits of a parser. They hold from now on, also for what is buffered.
  *
- * Returns false if memory is refused or there is no parser: then nothing changed. For limits and timer a parser takes some hundred bytes,
- * once, at the first call of this, of hed_parser_timeout or of hed_parser_expire. */
-bool hed_parser_set_policy(hed_parser *parser, const hed_policy *policy);
-
-/* Tells the parser what time it is. Returns how many milliseconds what is buffered may still wait, as poll takes it. That is 0 if it is due
- * or a flush of it was begun, and -1 if it may wait forever or nothing is buffered. The caller calls it before it waits, once
- * hed_parser_next has returned HED_NEXT_NONE.
- *
- * now is in milliseconds, of a clock that nobody sets, such as CLOCK_MONOTONIC. If it is before the time that was told last, no time
- * has passed. Bytes count as come when the next call tells the time.
- *
- * Returns 0 if memory is refused, and -1 if there is no parser. Then nothing changed. */
-int32_t hed_parser_timeout(hed_parser *parser, uint64_t now);
-
-/* Tells the parser what time it is. If what is buffered is due, writes the next event of a flush to *event, and consumes its bytes. Of an
- * open paste that is what hed_parser_end_paste writes, of anything else what hed_parser_next writes with more as false. If no bytes came for
- * as long as hed_parser_timeout said, the caller calls it until it returns HED_NEXT_NONE. Once an event was taken the rest of the flush is
- * due, whatever the time is, unless bytes are fed.
- *
- * Returns HED_NEXT_EVENT, HED_NEXT_NONE if nothing is due or left, HED_NEXT_NO_MEMORY, or HED_NEXT_NO_PARSER. *event is written only with
- * HED_NEXT_EVENT. With HED_NEXT_NO_MEMORY nothing changed, and the call may be made again. */
-uint32_t hed_parser_expire(hed_parser *parser, uint64_t now, hed_event *event);
+ * Returns HED_OK, HED_NOT_INITIALIZED, or HED_BAD_NUMBER if a limit is above 2147418111, which hed_parser_timeout couldn't tell. */
+hed_status hed_parser_set_policy(hed_parser *parser, const hed_policy *policy);
 
 /* The two ages of what is pending, by which a hed_timer limits it. */
 enum hed_age {
@@ -328,12 +458,12 @@ typedef struct hed_timer {
 
 /* Tells the timer what time it is and what was seen. Both ages grow by the time since the last note. Then HED_AGE_LAST is 0 if something was
  * fed, and HED_AGE_FRONT is 0 if something was taken, or if nothing was pending at the last note. The pause of a chord is limited by
- * HED_AGE_LAST: the caller notes each press, once hed_matcher_next has returned HED_OUTCOME_NONE.
+ * HED_AGE_LAST: the caller notes each press, once hed_matcher_next has returned HED_NONE.
  *
- * now is in milliseconds, as for hed_parser_timeout: if it is before the time of the last note, no time has passed.
+ * now is in milliseconds, as for hed_parser_feed: if it is before the time of the last note, no time has passed.
  *
- * Returns false if by is no enum hed_age, in *seen or in *timer: then the timer is unchanged. */
-bool hed_timer_note(hed_timer *timer, uint64_t now, const hed_seen *seen);
+ * Returns HED_OK, or HED_BAD_NUMBER if by is no enum hed_age, in *seen or in *timer. */
+hed_status hed_timer_note(hed_timer *timer, uint64_t now, const hed_seen *seen);
 
 /* Returns how many milliseconds what is pending may still wait, as poll takes it: 0 if its age has reached the limit, and -1 if it may wait
  * forever. It is also -1 if by is no enum hed_age in *timer. The timer is unchanged.
@@ -342,8 +472,7 @@ bool hed_timer_note(hed_timer *timer, uint64_t now, const hed_seen *seen);
  * hed_matcher_next with maybe_more as false. */
 int32_t hed_timer_timeout(const hed_timer *timer, uint64_t now);
 
-/* The modifiers by termwiz's bits, as a set: the field modifiers of a hed_event, and what hed_encode is given. A hed_key_report has others,
- * those of enum hed_kitty_mod. */
+/* The modifiers by termwiz's bits, as a set: what hed_encode is given. Everything else has those of enum hed_kitty_mod. */
 enum hed_termwiz_mod {
   /* numbers.txt: termwiz_mod c */
   HED_TERMWIZ_MOD_NONE = 0, /* No modifier. */
@@ -509,41 +638,25 @@ typedef struct hed_modes {
   bool has_modify_other_keys; /* modifyOtherKeys is on, at the level above */
 } hed_modes;
 
-/* What the calls return whose names begin with hed_encode. */
-enum hed_encoded {
-  /* numbers.txt: encoded c */
-  HED_ENCODED_TEXT = 0, /* The bytes, of which there may be none. */
-  HED_ENCODED_REFUSED_KEY = 1, /* The key has no text. Of hed_encode it is a function key, since only F1 to F24 have one. */
-  HED_ENCODED_REFUSED_MEMORY = 2, /* Memory was refused. The call may be made again. */
-  HED_ENCODED_BAD_NUMBER = 3, /* A number names nothing. */
-  HED_ENCODED_TOO_LONG = 4, /* The bytes would be more than a sequence or a string may have. */
-  HED_ENCODED_BAD_TEXT = 5, /* The text of a key report or of a paste isn't UTF-8. */
-  HED_ENCODED_TOO_FAR = 6, /* The place of the mouse report is above 223, which its encoding can't tell. */
-  HED_ENCODED_NO_TEXT = 7, /* No bytes are read as the event. */
-  HED_ENCODED_NO_PARSER = 8 /* There is no parser: it wasn't made yet, or it was freed. */
-  /* numbers.txt: end */
-};
-
 /* Writes the text that a terminal in these modes sends for a key to out, and its length to *text_len. The text is UTF-8
  * without a final 0. It is empty for a key that sends nothing, and for every key that is up (is_down is false), which needs no memory.
  *
  * The key is an enum hed_key. detail is its code point if it is HED_KEY_CHAR, its number if it is HED_KEY_FUNCTION, and isn't read for
  * other keys. modifiers is a set of HED_TERMWIZ_MOD_...
  *
- * Returns an enum hed_encoded. With HED_ENCODED_TEXT *text_len is the length of the whole text, and out has as much of it as len bytes
- * hold: if *text_len is above len, call again with more room. The rest of out is unchanged. Otherwise *text_len is 0 and out is unchanged:
- * HED_ENCODED_REFUSED_KEY for a function key, down, that isn't one of F1 to F24; HED_ENCODED_REFUSED_MEMORY if memory was refused;
- * HED_ENCODED_BAD_NUMBER if no key has the number, if detail is no Unicode scalar value or above 255, or if modifiers, encoding or (with
- * HED_ENCODING_KITTY) kitty_flags have a value or a bit without a name. */
-uint32_t hed_encode(uint16_t key, uint32_t detail, uint16_t modifiers, bool is_down, const hed_modes *modes, uint8_t *out, size_t len,
-                    size_t *text_len);
+ * Returns HED_OK: *text_len is the length of the whole text, and out has as much of it as len bytes hold. If *text_len is above len, call again
+ * with more room. The rest of out is unchanged. Otherwise *text_len is 0 and out is unchanged: HED_REFUSED_KEY for a function key, down, that
+ * isn't one of F1 to F24; HED_NO_MEMORY; HED_BAD_NUMBER if no key has the number, if detail is no Unicode scalar value or above 255, or if
+ * modifiers, encoding or (with HED_ENCODING_KITTY) kitty_flags have a value or a bit without a name. */
+hed_status hed_encode(uint16_t key, uint32_t detail, uint16_t modifiers, bool is_down, const hed_modes *modes, uint8_t *out, size_t len,
+                      size_t *text_len);
 
 /* The sequence table, which each parser has: the entries are in the order of their bytes, and the first place is 0. */
 #define HED_ENTRY_COUNT 2937 /* how many entries there are */
 #define HED_ENTRY_MOST 11 /* the length of the longest */
 
-/* Tells the entry at a place: the bytes of a sequence, and its key. Writes as many of the bytes as capacity says, and the key to *event, a
- * HED_KIND_KEY. The start and the end of a paste are entries too, with the keys HED_KEY_INTERNAL_PASTE_START and
+/* Tells the entry at a place: the bytes of a sequence, and its key, as HED_DIALECT_TERMWIZ reads it. Writes as many of the bytes as capacity says,
+ * and the key to *event, a HED_KIND_KEY. The start and the end of a paste are entries too, with the keys HED_KEY_INTERNAL_PASTE_START and
  * HED_KEY_INTERNAL_PASTE_END.
  *
  * Returns how many bytes the entry has, 0 if place isn't below HED_ENTRY_COUNT or there is no parser; then nothing is written. The parser
@@ -554,16 +667,16 @@ size_t hed_parser_entry(const hed_parser *parser, size_t place, uint8_t *bytes, 
 typedef struct hed_entries {
   size_t first; /* the place of the first */
   size_t count; /* how many there are */
-  bool with_alt; /* whether their keys get HED_TERMWIZ_MOD_ALT */
+  bool with_alt; /* whether their keys get HED_KITTY_MOD_ALT */
 } hed_entries;
 
 /* Tells which entries would complete what stays buffered: those that begin with it and are longer. If there are none, those that begin
  * with what follows its ESC, and with_alt is true. Ask while hed_parser_waiting is HED_WAITING_ESCAPE or HED_WAITING_SEQUENCE. A mouse
- * report and a character aren't entries, and after an ESC any character follows as a key with HED_TERMWIZ_MOD_ALT. Only the start of a
+ * report and a character aren't entries, and after an ESC any character follows as a key with HED_KITTY_MOD_ALT. Only the start of a
  * paste gets no modifier after ESC: that ESC is the Escape key.
  *
- * Returns false if there is no parser, and *entries isn't written. The parser is unchanged, and no memory is needed. */
-bool hed_parser_completions(const hed_parser *parser, hed_entries *entries);
+ * Returns HED_OK or HED_NOT_INITIALIZED. The parser is unchanged, and no memory is needed. */
+hed_status hed_parser_completions(const hed_parser *parser, hed_entries *entries);
 
 /* A map from byte strings to numbers, or none. Its fields are the library's, and it may be moved as a hed_parser may. A program keeps its
  * key bindings in one: the bytes of each, and the number of what it does. */
@@ -582,21 +695,10 @@ typedef struct hed_match {
   uint64_t value; /* its value */
 } hed_match;
 
-/* What hed_keymap_lookup returns. */
-enum hed_found {
-  /* numbers.txt: found c */
-  HED_FOUND_NONE = 0, /* No key is a prefix of the text, and the text is a prefix of no key. */
-  HED_FOUND_EXACT = 1, /* The longest key that is a prefix of the text was written to *match. */
-  HED_FOUND_AMBIGUOUS = 2, /* The same, but more may follow, and the text is a prefix of a longer key too. */
-  HED_FOUND_NEED_DATA = 3, /* No key is a prefix of the text, but the text is a prefix of some key. */
-  HED_FOUND_NO_MAP = 4 /* There is no map: it wasn't made yet, or it was freed. */
-  /* numbers.txt: end */
-};
-
 /* Makes an empty map. If there was one, it is freed. The caller owes a hed_keymap_free.
  *
- * Returns false if memory is refused: then the map is unchanged. */
-bool hed_keymap_init(hed_keymap *map);
+ * Returns HED_OK or HED_NO_MEMORY. */
+hed_status hed_keymap_init(hed_keymap *map);
 
 /* Frees what the map owns, and leaves HED_KEYMAP_NONE. If there is no map, it does nothing, so it may be called twice. */
 void hed_keymap_free(hed_keymap *map);
@@ -604,287 +706,20 @@ void hed_keymap_free(hed_keymap *map);
 /* Sets the value of the key that has these len bytes, in place of the one that it has, if any. The bytes are copied. The empty key is a
  * key like any other, and is a prefix of every text.
  *
- * Returns false if memory is refused: then the map is unchanged, and the call may be made again. It also returns false if there is no
- * map. */
-bool hed_keymap_insert(hed_keymap *map, const uint8_t *key, size_t len, uint64_t value);
+ * Returns HED_OK, HED_NO_MEMORY or HED_NOT_INITIALIZED. */
+hed_status hed_keymap_insert(hed_keymap *map, const uint8_t *key, size_t len, uint64_t value);
 
 /* Finds the longest key that is a prefix of a text of len bytes. Pass maybe_more as true while more of the text may come. The caller of
- * a HED_FOUND_EXACT consumes as many bytes as match->len says, and looks up the rest.
+ * a HED_OK consumes as many bytes as match->len says, and looks up the rest.
  *
- * Returns an enum hed_found. *match is written only with HED_FOUND_EXACT and HED_FOUND_AMBIGUOUS. Without maybe_more the longest key is
- * always HED_FOUND_EXACT. The map is unchanged, and no memory is needed. */
-uint32_t hed_keymap_lookup(const hed_keymap *map, const uint8_t *text, size_t len, bool maybe_more, hed_match *match);
+ * Returns HED_OK: the longest key that is a prefix of the text was written to *match. HED_AMBIGUOUS: the same, but the text is a prefix of a
+ * longer key too. HED_NEED_DATA: no key is a prefix of the text, but the text is a prefix of some key. HED_NONE: neither. HED_NOT_INITIALIZED.
+ * *match is written only with the first two. Without maybe_more the longest key is always HED_OK. The map is unchanged, and no memory is
+ * needed. */
+hed_status hed_keymap_lookup(const hed_keymap *map, const uint8_t *text, size_t len, bool maybe_more, hed_match *match);
 
 /* Returns the number of keys, 0 if there is no map. */
 size_t hed_keymap_len(const hed_keymap *map);
-
-/* The extended parser, or none. It reads what a hed_parser reads, and what terminals send beyond the sequence table: replies to questions,
- * focus reports, other mouse reports, control sequences and strings. It reads keys of every protocol, Kitty's and those before it, without
- * being told which the terminal speaks. docs/EXTENDED.md says what bytes mean to it. A program makes it in place of a hed_parser and calls it
- * in the same way. It may be moved as a hed_parser may. */
-typedef struct hed_extended {
-  bool live;
-  bool timed;
-  bool fed;
-  bool taken;
-  bool expiring;
-  void *state;
-  void *timing;
-} hed_extended;
-
-/* The value of a hed_extended that is none. */
-#define HED_EXTENDED_NONE \
-  { false, false, false, false, false, NULL, NULL }
-
-/* By which grammar an extended parser reads: what hed_extended_init is given. Pass HED_DIALECT_EXTENDED: it reads every protocol and mode, so
- * a program never has to know which its terminal speaks. HED_DIALECT_TERMWIZ is for programs that must read just what termwiz reads. */
-enum hed_dialect {
-  /* numbers.txt: dialect c */
-  HED_DIALECT_EXTENDED = 0, /* What terminals send in any mode. For every program. */
-  HED_DIALECT_TERMWIZ = 1 /* What termwiz reads, and nothing else: the other fields of a reading say nothing then. */
-  /* numbers.txt: end */
-};
-
-/* Which byte the Backspace key sends: the field erase of a hed_reading. A program takes it from its terminal's settings: VERASE of termios is 8
- * or 127. hedrugal_terminal.c does that. */
-enum hed_erase {
-  /* numbers.txt: erase c */
-  HED_ERASE_DELETE = 0, /* 127, as most terminals send it. Byte 8 is Ctrl-H. */
-  HED_ERASE_BACKSPACE = 1 /* 8. Byte 127 is Ctrl-Backspace. */
-  /* numbers.txt: end */
-};
-
-/* What byte 10 is: the field newline of a hed_reading. It is Enter while the terminal's settings turn CR into LF (ICRNL of termios), or if the
- * input is no terminal. In raw mode, as hedrugal_terminal.c sets it, it is Ctrl-J. */
-enum hed_newline {
-  /* numbers.txt: newline c */
-  HED_NEWLINE_CTRL_J = 0, /* Ctrl-J. The Enter key sends the byte 13. */
-  HED_NEWLINE_ENTER = 1 /* The Enter key: the terminal's settings turn CR into it (ICRNL), or the input is no terminal. */
-  /* numbers.txt: end */
-};
-
-/* What happened to the mouse: the field kind of a hed_mouse_report. */
-enum hed_mouse_kind {
-  /* numbers.txt: mouse_kind c */
-  HED_MOUSE_KIND_PRESS = 1, /* A button was pressed. */
-  HED_MOUSE_KIND_RELEASE = 2, /* A button was released. Only SGR reports (mode 1006) tell which. */
-  HED_MOUSE_KIND_DRAG = 3, /* The mouse was moved while a button was down. */
-  HED_MOUSE_KIND_MOVE = 4, /* The mouse was moved, and no button is down. */
-  HED_MOUSE_KIND_WHEEL = 5 /* A wheel was turned. */
-  /* numbers.txt: end */
-};
-
-/* What happened to a key: the field kind of a hed_key_report. */
-enum hed_key_event_kind {
-  /* numbers.txt: key_event_kind c */
-  HED_KEY_EVENT_KIND_PRESS = 1, /* It was pressed. */
-  HED_KEY_EVENT_KIND_REPEAT = 2, /* It was held down so long that it repeats. */
-  HED_KEY_EVENT_KIND_RELEASE = 3 /* It was released. */
-  /* numbers.txt: end */
-};
-
-/* The modifiers by Kitty's bits, as a set: the field modifiers of a hed_key_report. A hed_event has others, those of enum
- * hed_termwiz_mod. */
-enum hed_kitty_mod {
-  /* numbers.txt: kitty_mod c */
-  HED_KITTY_MOD_NONE = 0, /* No modifier. */
-  HED_KITTY_MOD_SHIFT = 1, /* Shift. */
-  HED_KITTY_MOD_ALT = 2, /* Alt. */
-  HED_KITTY_MOD_CTRL = 4, /* Ctrl. */
-  HED_KITTY_MOD_SUPER = 8, /* Super: the key with the Windows logo, or Command. */
-  HED_KITTY_MOD_HYPER = 16, /* Hyper. */
-  HED_KITTY_MOD_META = 32, /* Meta. */
-  HED_KITTY_MOD_CAPS_LOCK = 64, /* Caps Lock is on. */
-  HED_KITTY_MOD_NUM_LOCK = 128 /* Num Lock is on. */
-  /* numbers.txt: end */
-};
-
-/* The code point in shifted and base of a hed_key_report, if the terminal didn't report one, and what hed_key_text returns for no text. */
-#define HED_NO_CODE 0xffffffffu
-
-/* A key, what happened to it, and what the terminal reported of it. */
-typedef struct hed_key_report {
-  uint8_t kind; /* an enum hed_key_event_kind */
-  uint8_t modifiers; /* a set of HED_KITTY_MOD_.. */
-  uint16_t key; /* an enum hed_key, or 0 for a key that has no name there, or for text that no key typed */
-  uint32_t detail; /* the code point with HED_KEY_CHAR, the number with HED_KEY_FUNCTION, with key 0 that of Kitty's table of keys, or 0 */
-  uint32_t shifted; /* the code point that the key types with Shift, or HED_NO_CODE */
-  uint32_t base; /* the code point that the key at this place types on the standard layout (PC-101), or HED_NO_CODE */
-} hed_key_report;
-
-/* A mouse report, and what it tells. */
-typedef struct hed_mouse_report {
-  uint8_t kind; /* an enum hed_mouse_kind */
-  uint8_t button; /* the number of the button that the report names, 0 if it names none: 1 to 3 the left, middle and right one, 4 to 7 a
-                   * wheel turned up, down, left and right, 8 to 11 a side button */
-  uint8_t buttons; /* those that are down, a set of HED_BUTTON_..: empty after a release, for a move, and for a side button */
-  uint16_t modifiers; /* a set of HED_TERMWIZ_MOD_.. */
-  uint16_t x; /* the column, as the terminal sent it: the leftmost is 1 */
-  uint16_t y; /* the row, as the terminal sent it: the topmost is 1 */
-} hed_mouse_report;
-
-/* An event of the extended parser. What its kind has no use for is 0. */
-typedef struct hed_extended_event {
-  uint8_t kind; /* an enum hed_kind */
-  uint8_t flags; /* HED_KIND_KEYBOARD_FLAGS: a set of HED_KITTY_FLAG_..; HED_KIND_STRING_PART, _CUT: HED_KIND_OSC, _DCS or _APC */
-  uint16_t row; /* HED_KIND_CURSOR_POSITION: the row, as the terminal sent it: the topmost is 1 */
-  uint16_t column; /* HED_KIND_CURSOR_POSITION: the column, as the terminal sent it: the leftmost is 1 */
-  uint16_t rows; /* HED_KIND_RESIZE: the number of rows */
-  uint16_t columns; /* HED_KIND_RESIZE: the number of columns */
-  uint16_t height; /* HED_KIND_RESIZE: the height in pixels */
-  uint16_t width; /* HED_KIND_RESIZE: the width in pixels */
-  hed_key_report report; /* HED_KIND_KEY: the key, whether it was typed or reported */
-  hed_mouse_report mouse; /* HED_KIND_MOUSE: the report */
-  size_t text_len; /* the number of bytes that the event brought, which hed_extended_text copies: see there */
-} hed_extended_event;
-
-/* Makes an extended parser with an empty buffer. If there was one, it is freed. The caller owes a hed_extended_free. Pass
- * HED_DIALECT_EXTENDED, whatever the terminal is and whatever protocol or mode the program turns on. It costs what a hed_parser costs.
- *
- * Returns false if memory is refused or dialect is no enum hed_dialect: then the parser is unchanged. */
-bool hed_extended_init(hed_extended *parser, uint32_t dialect);
-
-/* Makes an extended parser with an empty buffer that shares the table of another, as hed_parser_init_sharing does. The two may have
- * different dialects.
- *
- * Returns false if memory is refused, dialect is no enum hed_dialect, or there is no other parser. Then the parser is unchanged. The
- * other is unchanged in any case. */
-bool hed_extended_init_sharing(hed_extended *parser, uint32_t dialect, const hed_extended *other);
-
-/* The same from a parser of the other kind: a program with both kinds needs one table. */
-bool hed_extended_init_sharing_parser(hed_extended *parser, uint32_t dialect, const hed_parser *other);
-
-/* Makes a parser that shares the table of an extended parser, as hed_parser_init_sharing does from a parser. */
-bool hed_parser_init_sharing_extended(hed_parser *parser, const hed_extended *other);
-
-/* How an extended parser reads. A new one has its dialect, and the rest is 0: Backspace sends 127, and byte 10 is Ctrl-J. */
-typedef struct hed_reading {
-  uint32_t dialect; /* an enum hed_dialect. With HED_DIALECT_TERMWIZ the other fields say nothing */
-  uint32_t erase; /* an enum hed_erase: which byte the Backspace key sends */
-  uint32_t newline; /* an enum hed_newline: what byte 10 is */
-  bool x10_mouse; /* X10 mouse reports are read: ESC [M and three bytes. Without it ESC [M is a control sequence */
-  uint8_t questions; /* how many questions for the cursor's position are open */
-} hed_reading;
-
-/* Has the parser read so from now on, also what is buffered. A program that changes one field begins with what hed_extended_reading wrote.
- *
- * Returns false if dialect is no enum hed_dialect, erase no enum hed_erase or newline no enum hed_newline, or if there is no parser. Then
- * the parser is unchanged. */
-bool hed_extended_set_reading(hed_extended *parser, const hed_reading *reading);
-
-/* Writes how the parser reads. Returns false if there is no parser: then *reading is unchanged. */
-bool hed_extended_reading(const hed_extended *parser, hed_reading *reading);
-
-/* Expects one more reply to a question for the cursor's position, up to 255: call it with each ESC [6n that is written. While a reply is
- * expected, ESC [1;5R and the like are HED_KIND_CURSOR_POSITION, and not F3 with modifiers; each such event answers one question. */
-void hed_extended_expect_position(hed_extended *parser);
-
-/* Expects no reply any more to such questions: call it when a reply is overdue, or when a later question was answered. */
-void hed_extended_forget_positions(hed_extended *parser);
-
-/* Frees what the parser owns, and leaves HED_EXTENDED_NONE. If there is no parser, it does nothing, so it may be called twice. */
-void hed_extended_free(hed_extended *parser);
-
-/* Appends len bytes to the buffer, as hed_parser_feed does.
- *
- * Returns false if memory is refused: then none of them is buffered, and the call may be made again. It also returns false if there is
- * no parser. A call without bytes needs no memory. */
-bool hed_extended_feed(hed_extended *parser, const uint8_t *bytes, size_t len);
-
-/* Consumes the item at the front of the buffer, and writes its event to *event. The caller calls this until it returns HED_NEXT_NONE, and
- * passes more as to hed_parser_next.
- *
- * A string is one event if it has its end and less than 65535 bytes before that. Of a longer one come some HED_KIND_STRING_PART first, and
- * then an event with the rest. The bytes of each begin with those of the string's opening, such as 52; after ESC ]: a program that joins
- * them leaves these out of all but the first. If a flush cuts a string off, or ESC without a \ after it, then its last event is a
- * HED_KIND_STRING_CUT. No byte of a string that comes before a flush becomes a key.
- *
- * Returns an enum hed_next. *event is written only with HED_NEXT_EVENT. HED_NEXT_NO_MEMORY comes only if a paste, an extra sequence or a
- * string is at the front. Then nothing changed. */
-uint32_t hed_extended_next(hed_extended *parser, bool more, hed_extended_event *event);
-
-/* Makes calls of hed_extended_next one after another, and writes their events to events, at most room of them, and their number to *count.
- * The bytes that they bring go to text one after another: those of an event begin where those of the event before it end, and are its
- * text_len bytes. After an event whose bytes don't all fit into the text_room bytes of text no further one is taken. So only the bytes of the
- * last event can be cut off, and hed_extended_text then copies them whole. With text_room 0 the last event alone may bring bytes. What lies
- * behind the events and the bytes is unchanged.
- *
- * Afterwards the parser is what it is after these calls. All of the events are read by one reading. A program that changes the reading by an
- * event calls hed_extended_next until then.
- *
- * Returns what the last of the calls returned. HED_NEXT_EVENT says that there is no more room, so there may be further events; with room 0 it
- * is this too. HED_NEXT_NONE says that there are none. With HED_NEXT_NO_MEMORY the event after those that were written is still at the front,
- * and the call may be made again. *count is 0 with HED_NEXT_NO_PARSER. */
-uint32_t hed_extended_next_events(hed_extended *parser, bool more, hed_extended_event *events, size_t room, uint8_t *text, size_t text_room,
-                                  size_t *count);
-
-/* Copies the bytes of the last event that brought some to out, at most len of them. A HED_KIND_PASTE or HED_KIND_PASTE_PART brings its
- * text. A HED_KIND_KEY brings the text that the key types, if the terminal reported it. A HED_KIND_CSI, _OSC, _DCS or _APC brings its
- * bytes after ESC and the byte that introduces it, without the end of a string. So does a HED_KIND_STRING_PART or _STRING_CUT. The texts
- * are UTF-8. The rest of out is unchanged.
- *
- * Returns the number of all these bytes, as text_len has it: the parser keeps them until the next event of one of these kinds or
- * hed_extended_drop_text. Returns 0 if there are none, or if there is no parser. */
-size_t hed_extended_text(const hed_extended *parser, uint8_t *out, size_t len);
-
-/* Frees these bytes: hed_extended_text returns 0 until the next event that brings some. If there are none or there is no parser, it does
- * nothing. */
-void hed_extended_drop_text(hed_extended *parser);
-
-/* Frees memory that holds nothing, of the buffer and of these bytes, as hed_parser_shrink_to does. */
-void hed_extended_shrink_to(hed_extended *parser, size_t min_capacity);
-
-/* Returns the number of bytes that are buffered, 0 if there is no parser. Once hed_extended_next returned HED_NEXT_NONE, it is at most
- * 65535, or the buffer begins with the start of a paste. */
-size_t hed_extended_waiting_len(const hed_extended *parser);
-
-/* Returns what stays buffered, an enum hed_waiting, as hed_parser_waiting does. The beginning of a control sequence, of a title or of the
- * opening of a string is a HED_WAITING_SEQUENCE. With HED_WAITING_STRING the opening is whole, and the string's end is still to come. */
-uint32_t hed_extended_waiting(const hed_extended *parser);
-
-/* Writes the Escape key to *event if ESC alone is buffered, with HED_KITTY_MOD_ALT if ESC ESC is, and consumes it, as
- * hed_parser_flush_escape does.
- *
- * Returns HED_NEXT_EVENT, HED_NEXT_NONE if anything else or nothing is buffered, or HED_NEXT_NO_PARSER. *event is written only with
- * HED_NEXT_EVENT. */
-uint32_t hed_extended_flush_escape(hed_extended *parser, hed_extended_event *event);
-
-/* Returns whether the buffer begins with the start of a paste, as hed_parser_is_paste_open does. Returns false if there is no parser. */
-bool hed_extended_is_paste_open(const hed_extended *parser);
-
-/* Takes text of an open paste before its end arrives, as hed_parser_take_paste does: the event is a HED_KIND_PASTE_PART, whose text
- * hed_extended_text copies. The paste stays open.
- *
- * Returns HED_NEXT_EVENT, HED_NEXT_NONE if there is no such text, HED_NEXT_NO_MEMORY, or HED_NEXT_NO_PARSER. *event is written only with
- * HED_NEXT_EVENT. With HED_NEXT_NO_MEMORY nothing changed, and the call may be made again. */
-uint32_t hed_extended_take_paste(hed_extended *parser, size_t limit, hed_extended_event *event);
-
-/* Forgets text of an open paste before its end arrives, as hed_parser_skip_paste does, and writes the number of these bytes to *count.
- *
- * Returns false if no paste is open or there is no parser: then nothing changed, and *count isn't written. */
-bool hed_extended_skip_paste(hed_extended *parser, size_t *count);
-
-/* Ends an open paste where it is, as hed_parser_end_paste does: the event is a HED_KIND_PASTE, whose text is what came so far.
- *
- * Returns HED_NEXT_EVENT, HED_NEXT_NONE if no paste is open, HED_NEXT_NO_MEMORY, or HED_NEXT_NO_PARSER. *event is written only with
- * HED_NEXT_EVENT. With HED_NEXT_NO_MEMORY nothing changed, and the call may be made again. */
-uint32_t hed_extended_end_paste(hed_extended *parser, hed_extended_event *event);
-
-/* Forgets all that is buffered, an open paste too, and the questions that are open. The bytes of the last event are kept, and no memory is
- * freed. The rest of the reading stays.
- *
- * Returns the number of bytes that were buffered, 0 if there is no parser. */
-size_t hed_extended_reset(hed_extended *parser);
-
-/* Sets the limits of an extended parser, as hed_parser_set_policy does. */
-bool hed_extended_set_policy(hed_extended *parser, const hed_policy *policy);
-
-/* Tells an extended parser what time it is, and returns how long what is buffered may still wait, as hed_parser_timeout does. */
-int32_t hed_extended_timeout(hed_extended *parser, uint64_t now);
-
-/* Tells an extended parser what time it is, and writes the next event of what is due to *event, as hed_parser_expire does. With
- * HED_NEXT_NO_MEMORY nothing changed. */
-uint32_t hed_extended_expire(hed_extended *parser, uint64_t now, hed_extended_event *event);
 
 /* Writes what a terminal sends for a key to out, and the number of these bytes to *sent_len, if the program asked for these flags of
  * Kitty's keyboard protocol: the other way from a HED_KIND_KEY. A terminal or a multiplexer calls it. The bytes are UTF-8 without a
@@ -894,19 +729,18 @@ uint32_t hed_extended_expire(hed_extended *parser, uint64_t now, hed_extended_ev
  * HED_KITTY_FLAG_REPORT_ALL_KEYS_AS_ESCAPE_CODES, that is what terminals sent before the protocol: a control character for a letter with
  * HED_KITTY_MOD_CTRL, and the key's report for what has no such text.
  *
- * report has the key as hed_extended_next writes it, and detail isn't read for a key that has none. text is what the key types, text_len
- * bytes of UTF-8, or nothing if that isn't known; a text with control characters counts as none. flags is a set of HED_KITTY_FLAG_... What
- * no flag asks for isn't sent.
+ * event is a HED_KIND_KEY as hed_parser_next writes it, and detail isn't read for a key that has none. text is what the key types, text_len
+ * bytes of UTF-8, or nothing if that isn't known; a text with control characters counts as none. Of event only the fields of a key are read, and
+ * text_len isn't. flags is a set of HED_KITTY_FLAG_... What no flag asks for isn't sent.
  *
- * Returns an enum hed_encoded. With HED_ENCODED_TEXT *sent_len is the number of all these bytes, and out has as many of them as len says:
- * if *sent_len is above len, call again with more room. The rest of out is unchanged. A sequence has at most 256 bytes; a key that is sent
- * as its text alone may have more. Otherwise *sent_len is 0 and out is unchanged: HED_ENCODED_REFUSED_KEY if the key's report would be sent
- * and the protocol has no number for the key; HED_ENCODED_REFUSED_MEMORY if memory was refused; HED_ENCODED_TOO_LONG if the sequence would
- * have more than 256 bytes; HED_ENCODED_BAD_TEXT if the text isn't UTF-8; HED_ENCODED_BAD_NUMBER if kind is no enum hed_key_event_kind, no
- * key has the number, detail, shifted or base is no Unicode scalar value, a function key's number is above 255, or a bit of flags has no
- * name. */
-uint32_t hed_encode_kitty(const hed_key_report *report, const uint8_t *text, size_t text_len, uint8_t flags, uint8_t *out, size_t len,
-                          size_t *sent_len);
+ * Returns HED_OK: *sent_len is the number of all these bytes, and out has as many of them as len says. If *sent_len is above len, call again with
+ * more room. The rest of out is unchanged. A sequence has at most 256 bytes; a key that is sent as its text alone may have more. Otherwise
+ * *sent_len is 0 and out is unchanged: HED_REFUSED_KEY if the key's report would be sent and the protocol has no number for the key;
+ * HED_NO_MEMORY; HED_TOO_LONG if the sequence would have more than 256 bytes; HED_BAD_TEXT if the text isn't UTF-8; HED_BAD_NUMBER if event is no
+ * HED_KIND_KEY, key_event_kind is no enum hed_key_event_kind, no key has the number, detail, shifted or base is no Unicode scalar value, a
+ * function key's number is above 255, or a bit of flags has no name. */
+hed_status hed_encode_kitty(const hed_event *event, const uint8_t *text, size_t text_len, uint8_t flags, uint8_t *out, size_t len,
+                            size_t *sent_len);
 
 /* Writes what a terminal sends for a pasted text to out, and the number of these bytes to *sent_len: the other way from a HED_KIND_PASTE.
  * A terminal or a multiplexer calls it. text is any text_len bytes, read as UTF-8, with U+FFFD for each piece that is none. The text is made
@@ -915,10 +749,9 @@ uint32_t hed_encode_kitty(const hed_key_report *report, const uint8_t *text, siz
  * (mode 2004): ESC [200~ comes before the text, and ESC [201~ after it. Since no ESC is left in the text, no text can end its paste. The bytes
  * are UTF-8 without a final 0, at most three for each byte of the text and twelve more.
  *
- * Returns an enum hed_encoded. With HED_ENCODED_TEXT *sent_len is the number of all these bytes, and out has as many of them as len says:
- * if *sent_len is above len, call again with more room. The rest of out is unchanged. The only other answer is HED_ENCODED_REFUSED_MEMORY.
- * Then *sent_len is 0 and out is unchanged. */
-uint32_t hed_encode_paste(const uint8_t *text, size_t text_len, bool bracketed, uint8_t *out, size_t len, size_t *sent_len);
+ * Returns HED_OK: *sent_len is the number of all these bytes, and out has as many of them as len says. If *sent_len is above len, call again with
+ * more room. The rest of out is unchanged. The only other answer is HED_NO_MEMORY. Then *sent_len is 0 and out is unchanged. */
+hed_status hed_encode_paste(const uint8_t *text, size_t text_len, bool bracketed, uint8_t *out, size_t len, size_t *sent_len);
 
 /* What a mouse report that is sent says: the field button of a hed_sent_mouse. */
 enum hed_mouse {
@@ -967,24 +800,24 @@ enum hed_mouse_encoding {
 typedef struct hed_sent_mouse {
   uint16_t x; /* the column: the leftmost is 1; in mode 1016 the distance from the left in pixels */
   uint16_t y; /* the row: the topmost is 1; in mode 1016 the distance from the top in pixels */
-  uint16_t modifiers; /* a set of HED_TERMWIZ_MOD_.. */
+  uint8_t modifiers; /* a set of HED_KITTY_MOD_.., of which only SHIFT, ALT, CTRL and SUPER are allowed */
   uint8_t button; /* an enum hed_mouse */
 } hed_sent_mouse;
 
 /* Writes what a terminal sends for a mouse report to out, and the number of these bytes to *sent_len: the other way from a HED_KIND_MOUSE.
  * tracking, an enum hed_mouse_tracking, is which reports the program asked for: there are no bytes for one that it doesn't get. encoding is
- * an enum hed_mouse_encoding. Of the modifiers HED_TERMWIZ_MOD_SHIFT, ALT and CTRL are sent, and with HED_MOUSE_TRACKING_X10 none. Without
+ * an enum hed_mouse_encoding. Of the modifiers HED_KITTY_MOD_SHIFT, ALT and CTRL are sent, and with HED_MOUSE_TRACKING_X10 none. Without
  * HED_MOUSE_ENCODING_SGR the report of a release doesn't tell its button.
  *
- * Returns an enum hed_encoded. With HED_ENCODED_TEXT *sent_len is the number of all these bytes, and out has as many of them as len says:
- * if *sent_len is above len, call again with more room. The rest of out is unchanged. Otherwise *sent_len is 0 and out is unchanged:
- * HED_ENCODED_TOO_FAR if the program gets the report, and x or y is above 223 with HED_MOUSE_ENCODING_DEFAULT; HED_ENCODED_REFUSED_MEMORY
- * if memory was refused; HED_ENCODED_BAD_NUMBER if button, tracking or encoding names nothing, or a bit of modifiers has no name. */
-uint32_t hed_encode_mouse(const hed_sent_mouse *report, uint32_t tracking, uint32_t encoding, uint8_t *out, size_t len, size_t *sent_len);
+ * Returns HED_OK: *sent_len is the number of all these bytes, and out has as many of them as len says. If *sent_len is above len, call again with
+ * more room. The rest of out is unchanged. Otherwise *sent_len is 0 and out is unchanged: HED_TOO_FAR if the program gets the report, and x or y
+ * is above 223 with HED_MOUSE_ENCODING_DEFAULT; HED_NO_MEMORY; HED_BAD_NUMBER if button, tracking or encoding names nothing, or modifiers has
+ * another bit. */
+hed_status hed_encode_mouse(const hed_sent_mouse *report, uint32_t tracking, uint32_t encoding, uint8_t *out, size_t len, size_t *sent_len);
 
 /* Writes the bytes that the parser reads as the event to out, and the number of these bytes to *sent_len: the other way from
- * hed_extended_next, whatever the terminal sent. A multiplexer passes replies on by it, and a test or a recorder writes what it feeds
- * to a parser. event and text, text_len bytes, are as hed_extended_next and hed_extended_text give them. Of event only the fields are read that
+ * hed_parser_next, whatever the terminal sent. A multiplexer passes replies on by it, and a test or a recorder writes what it feeds
+ * to a parser. event and text, text_len bytes, are as hed_parser_next and hed_parser_text give them. Of event only the fields are read that
  * its kind has, and text is read for a paste, a key, a control sequence and a string. The parser says how the bytes are read, by its
  * reading and its sequence table. It is unchanged, and what it has buffered doesn't matter.
  *
@@ -993,40 +826,39 @@ uint32_t hed_encode_mouse(const hed_sent_mouse *report, uint32_t tracking, uint3
  * sequence table, or in the form of Kitty's protocol: the first of these that is read as this very event. A mouse report is written in SGR's
  * form. But a release that names no button is written in urxvt's, since SGR's always names one.
  *
- * Returns an enum hed_encoded. With HED_ENCODED_TEXT *sent_len is the number of all these bytes, and out has as many of them as len says:
- * if *sent_len is above len, call again with more room. The rest of out is unchanged. Otherwise *sent_len is 0 and out is unchanged:
+ * Returns HED_OK: *sent_len is the number of all these bytes, and out has as many of them as len says. If *sent_len is above len, call again with
+ * more room. The rest of out is unchanged. Otherwise *sent_len is 0 and out is unchanged:
  *
- * - HED_ENCODED_NO_TEXT if no bytes are read as the event. Such are HED_KIND_STRING_PART, HED_KIND_STRING_CUT, and a paste that has ESC [201~
+ * - HED_NO_TEXT if no bytes are read as the event. Such are HED_KIND_STRING_PART, HED_KIND_STRING_CUT, and a paste that has ESC [201~
  *   in it. Such is also an event that no parser makes, as a position with a 0.
- * - HED_ENCODED_NO_PARSER.
- * - HED_ENCODED_TOO_LONG if the sequence would have more than 256 bytes, or the string 65535 before its end.
- * - HED_ENCODED_BAD_TEXT if the text of a paste or a key isn't UTF-8.
- * - HED_ENCODED_REFUSED_MEMORY if memory was refused.
- * - HED_ENCODED_BAD_NUMBER if a number names nothing, as the kind HED_KIND_PASTE_PART does here, or a bit of a mouse report's modifiers has no
- *   name. */
-uint32_t hed_encode_event(const hed_extended_event *event, const uint8_t *text, size_t text_len, const hed_extended *parser, uint8_t *out,
-                          size_t len, size_t *sent_len);
+ * - HED_NOT_INITIALIZED.
+ * - HED_TOO_LONG if the sequence would have more than 256 bytes, or the string 65535 before its end.
+ * - HED_BAD_TEXT if the text of a paste or a key isn't UTF-8.
+ * - HED_NO_MEMORY.
+ * - HED_BAD_NUMBER if a number names nothing, as the kind HED_KIND_PASTE_PART does here, or a mouse report has modifiers but SHIFT, ALT, CTRL and
+ *   SUPER. */
+hed_status hed_encode_event(const hed_event *event, const uint8_t *text, size_t text_len, const hed_parser *parser, uint8_t *out,
+                            size_t len, size_t *sent_len);
 
 /* Writes what a terminal replies to a question for the position of its cursor to out, and the number of these bytes to *sent_len: ESC [, the
  * row, a semicolon, the column and R. private_reply says that the question was ESC [?6n, not ESC [6n: then ? comes before the row. The first row
  * and the first column are 1: a parser reads a reply with a 0 as a HED_KIND_CSI. Without the ? a reply for row 1 and the columns 1 to 256 has
  * the bytes of F3 with modifiers.
  *
- * Returns HED_ENCODED_TEXT or HED_ENCODED_REFUSED_MEMORY, as hed_encode_paste does. */
-uint32_t hed_encode_cursor_position(uint16_t row, uint16_t column, bool private_reply, uint8_t *out, size_t len, size_t *sent_len);
+ * Returns HED_OK or HED_NO_MEMORY, as hed_encode_paste does. */
+hed_status hed_encode_cursor_position(uint16_t row, uint16_t column, bool private_reply, uint8_t *out, size_t len, size_t *sent_len);
 
 /* Writes what a terminal sends when its colours change, and replies to ESC [?996n, to out, and the number of these bytes to *sent_len:
  * ESC [?997;1n if its colours are dark, and else ESC [?997;2n.
  *
- * Returns HED_ENCODED_TEXT or HED_ENCODED_REFUSED_MEMORY, as hed_encode_paste does. */
-uint32_t hed_encode_colour_scheme(bool dark, uint8_t *out, size_t len, size_t *sent_len);
+ * Returns HED_OK or HED_NO_MEMORY, as hed_encode_paste does. */
+hed_status hed_encode_colour_scheme(bool dark, uint8_t *out, size_t len, size_t *sent_len);
 
 /* Writes what a terminal replies to the question for its attributes (ESC [c) to out, and the number of these bytes to *sent_len: ESC [?, the
  * count numbers parted by semicolons, and c. The first number is the terminal's class, such as 62.
  *
- * Returns HED_ENCODED_TEXT or HED_ENCODED_REFUSED_MEMORY, as hed_encode_paste does, and HED_ENCODED_TOO_LONG if the reply would have more than
- * 256 bytes. */
-uint32_t hed_encode_device_attributes(const uint16_t *numbers, size_t count, uint8_t *out, size_t len, size_t *sent_len);
+ * Returns HED_OK or HED_NO_MEMORY, as hed_encode_paste does, and HED_TOO_LONG if the reply would have more than 256 bytes. */
+hed_status hed_encode_device_attributes(const uint16_t *numbers, size_t count, uint8_t *out, size_t len, size_t *sent_len);
 
 /* The press of a key: the key and the modifiers held with it, the same however the terminal reports the key. A program compares presses,
  * field by field, and looks up by them what a key does.
@@ -1038,30 +870,22 @@ uint32_t hed_encode_device_attributes(const uint16_t *numbers, size_t count, uin
 typedef struct hed_key_press {
   uint16_t key; /* an enum hed_key, or 0 for a key that has no name there */
   uint8_t held; /* a set of HED_KITTY_MOD_.., without the locks */
-  uint32_t detail; /* as in a hed_key_report; 0 for a key that has none */
+  uint32_t detail; /* as in a hed_event; 0 for a key that has none */
 } hed_key_press;
 
-/* Writes the press of an event of a hed_parser to *press; of an extended parser's pass the report to hed_key_of_report. Which of two keys is
- * held doesn't count, and neither does HED_TERMWIZ_MOD_LEADER.
- *
- * Returns false, and *press isn't written, if the event has none: it is no HED_KIND_KEY, or its key is a modifier or a lock by itself or
- * the mark of a paste. So it does if a number names nothing. No memory is needed, here and in the next two calls. */
-bool hed_key_of_event(const hed_event *event, hed_key_press *press);
-
-/* Writes the press of a key report to *press. text is what the key types, text_len bytes of UTF-8, as hed_extended_text copies them, or
- * nothing; a text with control characters counts as none. Pass the report of a hed_extended_event whose kind is HED_KIND_KEY. A
- * repeat counts as a press.
+/* Writes the press of the event that hed_parser_next told last to *press. event is that event. A repeat counts as a press. Only programs that ask
+ * pay for it. Ask before hed_parser_drop_text, since the press is by the text that the key types.
  *
  * A program that turns Kitty's protocol on asks for HED_KITTY_FLAG_DISAMBIGUATE_ESCAPE_CODES and HED_KITTY_FLAG_REPORT_ALTERNATE_KEYS, and
  * with HED_KITTY_FLAG_REPORT_ALL_KEYS_AS_ESCAPE_CODES for HED_KITTY_FLAG_REPORT_ASSOCIATED_TEXT too. Otherwise Ctrl, Shift and 1 is 1 with
  * HED_KITTY_MOD_CTRL and HED_KITTY_MOD_SHIFT, and not !.
  *
- * Returns false, and *press isn't written, if the report has none: it is a release, its key is a modifier or a lock by itself or no key of
- * Kitty's table, or it types several characters, which a program inserts as it inserts a paste. So it does if a number names nothing, or
- * the text isn't UTF-8. */
-bool hed_key_of_report(const hed_key_report *report, const uint8_t *text, size_t text_len, hed_key_press *press);
+ * Returns HED_OK. Otherwise *press isn't written: HED_NONE if the event has none, since it is no HED_KIND_KEY or a release, its key is a modifier or
+ * a lock by itself, the mark of a paste or no key of Kitty's table, or it types several characters, which a program inserts as it inserts a paste;
+ * HED_BAD_NUMBER if a number names nothing; HED_BAD_TEXT if its text isn't UTF-8, which the parser's own is; or HED_NOT_INITIALIZED. */
+hed_status hed_parser_press(const hed_parser *parser, const hed_event *event, hed_key_press *press);
 
-/* Writes a second press of a key report to *press, for a program in which the first one leads nowhere. It is the first of these:
+/* Writes a second press of that event to *press, for a program in which the first one leads nowhere. It is the first of these:
  *
  * - With ALT, CTRL, SUPER, HYPER or META, a character that isn't of ASCII, and base told: the key at the same place of a PC-101 keyboard, with
  *   the same modifiers. So Ctrl with a Cyrillic letter is tried as Ctrl with a Latin one.
@@ -1069,36 +893,37 @@ bool hed_key_of_report(const hed_key_report *report, const uint8_t *text, size_t
  *   with Shift. So Ctrl with ! is tried as Ctrl, Shift and 1.
  * - U+0008 and U+000A, which are the bytes 8 and 10: Backspace with CTRL, and Enter, with what else is held. Some terminals send these keys so.
  *
- * Returns false, and *press isn't written, if there is none. Call it for a report that has a press. */
-bool hed_key_second(const hed_key_report *report, hed_key_press *press);
+ * Returns what hed_parser_press does, HED_NONE if there is none. Call it for an event that has a press. */
+hed_status hed_parser_second(const hed_parser *parser, const hed_event *event, hed_key_press *press);
 
-/* Returns the code point of the character that a press types, if it does: nothing is held, or HED_KITTY_MOD_SHIFT with the space alone. A
- * program inserts it if the press does nothing else. Enter and Tab type none.
+/* Writes the press of any event to *press, such as one that hed_parser_next_events wrote. text is what the key types, text_len bytes of UTF-8; a
+ * text with control characters counts as none.
  *
- * Returns HED_NO_CODE if it types none, or its numbers are those of no press. No memory is needed. */
-uint32_t hed_key_text(const hed_key_press *press);
+ * Returns what hed_parser_press does. No memory is needed, here and in the next three calls. */
+hed_status hed_event_press(const hed_event *event, const uint8_t *text, size_t text_len, hed_key_press *press);
+
+/* Writes the second press of any event to *press, as hed_parser_second does. */
+hed_status hed_event_second(const hed_event *event, hed_key_press *press);
+
+/* Copies the character that a press types to out, at most len bytes of it: in UTF-8, which has 1 to 4 bytes. If a byte more fits, a final 0 follows.
+ * The rest of out is unchanged. A program inserts it if the press does nothing else. A press types one if nothing is held, or HED_KITTY_MOD_SHIFT
+ * with the space alone. Enter and Tab type none.
+ *
+ * Returns the number of its bytes without the 0. For a press that types none, or numbers that are those of no press, it returns 0, and out is
+ * unchanged. */
+size_t hed_press_text(const hed_key_press *press, uint8_t *out, size_t len);
+
+/* Writes the name of a press to out, and its length to *name_len: what hed_key_print writes for a chord of it alone. If a byte more fits, a final 0
+ * follows, so with 64 bytes every name is a string.
+ *
+ * Returns what hed_key_print does. */
+hed_status hed_press_print(const hed_key_press *press, uint8_t *out, size_t len, size_t *name_len);
 
 /* The most presses that a chord has: a list of presses, to which a program binds a command, as Ctrl-X and then Ctrl-S. */
 #define HED_CHORD_MOST 32
 
-/* What hed_key_read returns: HED_NAMED_KEYS, or what is wrong with the text. */
-enum hed_named {
-  /* numbers.txt: named c */
-  HED_NAMED_KEYS = 0, /* The text is the name of a chord, and nothing is wrong with it. */
-  HED_NAMED_CONTROL_CHARACTER = 1, /* A control character but the tab is in the text. */
-  HED_NAMED_MODIFIER_TWICE = 2, /* A modifier is there twice, as in `M-A-x`. */
-  HED_NAMED_UNKNOWN_MODIFIER = 3, /* A word before `+` or `-` is no modifier, as in `foo+x`. */
-  HED_NAMED_MISSING_KEY = 4, /* No key stands behind the modifiers, as in `ctrl+`. */
-  HED_NAMED_BAD_NUMBER = 5, /* A number names no key, as in `f256`, `f01`, `kitty1` or `U+D800`. */
-  HED_NAMED_UNKNOWN_NAME = 6, /* No key has this name. */
-  HED_NAMED_AMBIGUOUS = 7, /* `DEL` in capitals is Backspace to Emacs, and Delete to others: write `backspace` or `delete`. */
-  HED_NAMED_NOT_A_KEY = 8, /* The key makes no press by itself, as a modifier or a lock. */
-  HED_NAMED_SHIFTED_CHARACTER = 9, /* Shift with a sign that shows it, as in `shift+!`: write the sign alone. */
-  HED_NAMED_TOO_LONG = 10, /* A chord has at most 32 keys, and this is the 33rd. */
-  HED_NAMED_EMPTY = 11, /* No key is in the text. */
-  HED_NAMED_BAD_TEXT = 12 /* The text isn't UTF-8. */
-  /* numbers.txt: end */
-};
+/* The bytes and the length of a string literal, for the calls that take both: hed_key_read(HED_TEXT("ctrl+x"), ..). */
+#define HED_TEXT(literal) (const uint8_t *)("" literal), sizeof(literal) - 1
 
 /* Reads the name of a chord: 1 to HED_CHORD_MOST keys, parted by spaces and tabs, in text_len bytes of UTF-8. A key is a character, a word
  * as up, f5, pageup or space, or a number as U+0441. Modifiers stand before it, in any of three ways, and words in any case:
@@ -1107,32 +932,22 @@ enum hed_named {
  * C-x, C-M-<f5>: Emacs's letters, C ctrl, M or A alt, S shift, s super, H hyper
  * <C-W>, <c-s-Up>: Vim's letters, c ctrl, s shift, m or a alt, d super, t meta
  *
- * The presses are those that hed_key_of_report tells, whichever way they are written. With CTRL a letter is the same in any case, as in
+ * The presses are those that hed_parser_press tells, whichever way they are written. With CTRL a letter is the same in any case, as in
  * Emacs and Vim. "Names" of crates/termwiz_bindings/README.md has all words and rules.
  *
- * Returns an enum hed_named. With HED_NAMED_KEYS *count is the number of the presses, keys has as many of them as room says, and *at is 0. A
- * keys with room for HED_CHORD_MOST has room for all. Otherwise *count is 0, keys is unchanged, and *at is the byte of the text at which the
- * part that is wrong starts, for a message to the user. No memory is needed. */
-uint32_t hed_key_read(const uint8_t *text, size_t text_len, hed_key_press *keys, size_t room, size_t *count, size_t *at);
-
-/* What hed_key_print returns. */
-enum hed_printed {
-  /* numbers.txt: printed c */
-  HED_PRINTED_NAME = 0, /* The name of the keys. */
-  HED_PRINTED_NO_MEMORY = 1, /* Memory was refused. The call may be made again. */
-  HED_PRINTED_BAD_NUMBER = 2 /* The numbers of a key are those of no press, or there are no keys, or more than 32. */
-  /* numbers.txt: end */
-};
+ * Returns HED_OK: *count is the number of the presses, keys has as many of them as room says, and *at is 0. A keys with room for HED_CHORD_MOST has
+ * room for all. Otherwise it is one of HED_NAME_.., or HED_BAD_TEXT if the text isn't UTF-8. Then *count is 0, keys is unchanged, and *at is the
+ * byte of the text at which the part that is wrong starts, for a message to the user. No memory is needed. */
+hed_status hed_key_read(const uint8_t *text, size_t text_len, hed_key_press *keys, size_t room, size_t *count, size_t *at);
 
 /* Writes the name of a chord to out, and its length to *name_len: of count presses, 1 to HED_CHORD_MOST, as the calls above write them. The
  * name is UTF-8 without a final 0. Its keys are parted by a space, and their modifiers are in the order super+, hyper+, meta+, ctrl+, alt+,
  * shift+: ctrl+x ctrl+s, alt+<, shift+f5, U+200B. hed_key_read reads the same presses from it.
  *
- * Returns an enum hed_printed. With HED_PRINTED_NAME *name_len is the length of the whole name, and out has as many of its bytes as len says:
- * if *name_len is above len, call again with more room. The rest of out is unchanged. Otherwise *name_len is 0 and out is unchanged:
- * HED_PRINTED_NO_MEMORY if memory was refused, and HED_PRINTED_BAD_NUMBER if the numbers of a key are those of no press, or count isn't 1 to
- * HED_CHORD_MOST. */
-uint32_t hed_key_print(const hed_key_press *keys, size_t count, uint8_t *out, size_t len, size_t *name_len);
+ * Returns HED_OK: *name_len is the length of the whole name, and out has as many of its bytes as len says. If *name_len is above len, call again
+ * with more room. The rest of out is unchanged. Otherwise *name_len is 0 and out is unchanged: HED_NO_MEMORY, or HED_BAD_NUMBER if the numbers of a
+ * key are those of no press, or count isn't 1 to HED_CHORD_MOST. */
+hed_status hed_key_print(const hed_key_press *keys, size_t count, uint8_t *out, size_t len, size_t *name_len);
 
 /* Bindings, or none: a map from chords to numbers, by which a program tells what it does at which keys. One chord may begin another one. Its
  * fields are the library's, and it may be moved as a hed_parser may. */
@@ -1145,44 +960,39 @@ typedef struct hed_bindings {
 #define HED_BINDINGS_NONE \
   { false, NULL }
 
-/* What the calls of bindings return. */
-enum hed_bound {
-  /* numbers.txt: bound c */
-  HED_BOUND_NONE = 0, /* There is no such chord. */
-  HED_BOUND_VALUE = 1, /* The chord has a value: it was set, written or taken away. */
-  HED_BOUND_NO_MEMORY = 2, /* Memory was refused. Nothing changed, and the call may be made again. */
-  HED_BOUND_BAD_NUMBER = 3, /* The numbers of a key are those of no press, there are more than 32 keys, or a chord has none. */
-  HED_BOUND_NO_BINDINGS = 4 /* There are no bindings: they weren't made yet, or they were freed. */
-  /* numbers.txt: end */
-};
-
 /* Makes bindings of no chord. If there were some, they are freed. The caller owes a hed_bindings_free.
  *
- * Returns false if memory is refused: then the bindings are unchanged. */
-bool hed_bindings_init(hed_bindings *bindings);
+ * Returns HED_OK or HED_NO_MEMORY. */
+hed_status hed_bindings_init(hed_bindings *bindings);
 
 /* Frees what the bindings own, and leaves HED_BINDINGS_NONE. If there are none, it does nothing, so it may be called twice. */
 void hed_bindings_free(hed_bindings *bindings);
 
 /* Sets the value of a chord of count presses, 1 to HED_CHORD_MOST, in place of the one that it has, if any. The presses are those that
- * hed_key_read reads, or that hed_key_of_event and hed_key_of_report tell, and are copied. Every other chord keeps its value, also one that
- * begins with this one.
+ * hed_key_read reads, or that hed_parser_press tells, and are copied. Every other chord keeps its value, also one that begins with this one.
  *
- * Returns HED_BOUND_VALUE. Otherwise the bindings are unchanged: HED_BOUND_NO_MEMORY if memory is refused, HED_BOUND_BAD_NUMBER if the
- * numbers of a press are those of none, or count isn't 1 to HED_CHORD_MOST, and HED_BOUND_NO_BINDINGS if there are no bindings. */
-uint32_t hed_bindings_bind(hed_bindings *bindings, const hed_key_press *keys, size_t count, uint64_t value);
+ * Returns HED_OK, HED_NO_MEMORY, HED_BAD_NUMBER if the numbers of a press are those of none, or count isn't 1 to HED_CHORD_MOST, or
+ * HED_NOT_INITIALIZED. */
+hed_status hed_bindings_bind(hed_bindings *bindings, const hed_key_press *keys, size_t count, uint64_t value);
+
+/* Sets the value of the chord that has this name, text_len bytes of UTF-8, as hed_key_read reads it:
+ * hed_bindings_bind_name(&bindings, HED_TEXT("ctrl+x ctrl+s"), SAVE, &at).
+ *
+ * Returns HED_OK, and *at is 0. Otherwise the bindings are unchanged: what hed_key_read returns of the text, which *at then belongs to; HED_NO_MEMORY
+ * or HED_NOT_INITIALIZED, with *at 0. */
+hed_status hed_bindings_bind_name(hed_bindings *bindings, const uint8_t *text, size_t text_len, uint64_t value, size_t *at);
 
 /* Takes the value of a chord away. Every other chord keeps its value. No memory is needed, here and in the next four calls.
  *
- * Returns HED_BOUND_VALUE, and *value is the value that it had. Otherwise *value isn't written and the bindings are unchanged: HED_BOUND_NONE
- * if the chord has no value, HED_BOUND_BAD_NUMBER and HED_BOUND_NO_BINDINGS as above. */
-uint32_t hed_bindings_unbind(hed_bindings *bindings, const hed_key_press *keys, size_t count, uint64_t *value);
+ * Returns HED_OK, and *value is the value that it had. Otherwise *value isn't written: HED_NONE if the chord has no value, HED_BAD_NUMBER and
+ * HED_NOT_INITIALIZED as above. */
+hed_status hed_bindings_unbind(hed_bindings *bindings, const hed_key_press *keys, size_t count, uint64_t *value);
 
 /* Finds the value of a chord. A program that reads keys as chords takes a hed_matcher.
  *
- * Returns HED_BOUND_VALUE, and *value is the chord's value. Otherwise *value isn't written: HED_BOUND_NONE if the chord has no value,
- * HED_BOUND_BAD_NUMBER and HED_BOUND_NO_BINDINGS as above. */
-uint32_t hed_bindings_lookup(const hed_bindings *bindings, const hed_key_press *keys, size_t count, uint64_t *value);
+ * Returns HED_OK, and *value is the chord's value. Otherwise *value isn't written: HED_NONE if the chord has no value, HED_BAD_NUMBER and
+ * HED_NOT_INITIALIZED as above. */
+hed_status hed_bindings_lookup(const hed_bindings *bindings, const hed_key_press *keys, size_t count, uint64_t *value);
 
 /* Returns the number of chords that have a value, 0 if there are no bindings. */
 size_t hed_bindings_len(const hed_bindings *bindings);
@@ -1190,23 +1000,23 @@ size_t hed_bindings_len(const hed_bindings *bindings);
 /* Shows the chord at a place and its value. The places are 0 up to hed_bindings_len. Chords are ordered by their presses, and a press by its
  * key, its detail and held: one that begins another comes before it. A call that binds or unbinds moves them.
  *
- * Returns HED_BOUND_VALUE: *count is the number of the chord's presses, keys has as many of them as room says, and *value is its value. A
- * keys with room for HED_CHORD_MOST has room for all. Otherwise *count is 0, and keys and *value aren't written: HED_BOUND_NONE if the place
- * is past the last chord, and HED_BOUND_NO_BINDINGS if there are no bindings. */
-uint32_t hed_bindings_entry(const hed_bindings *bindings, size_t place, hed_key_press *keys, size_t room, size_t *count, uint64_t *value);
+ * Returns HED_OK: *count is the number of the chord's presses, keys has as many of them as room says, and *value is its value. A keys with room
+ * for HED_CHORD_MOST has room for all. Otherwise *count is 0, and keys and *value aren't written: HED_NONE if the place is past the last chord, or
+ * HED_NOT_INITIALIZED. */
+hed_status hed_bindings_entry(const hed_bindings *bindings, size_t place, hed_key_press *keys, size_t room, size_t *count, uint64_t *value);
 
 /* Tells which chords begin with count presses, at most HED_CHORD_MOST, and are longer, as for a menu of the keys that may follow. They stand
  * next to each other: at the places from *first up to, but without, *end. For count 0 they are all chords.
  *
- * Returns HED_BOUND_VALUE if there are such chords. Otherwise *first and *end are 0: HED_BOUND_NONE if there are none, HED_BOUND_BAD_NUMBER if
- * the numbers of a press are those of none, or there are more, and HED_BOUND_NO_BINDINGS if there are no bindings. */
-uint32_t hed_bindings_continuations(const hed_bindings *bindings, const hed_key_press *keys, size_t count, size_t *first, size_t *end);
+ * Returns HED_OK if there are such chords. Otherwise *first and *end are 0: HED_NONE if there are none, HED_BAD_NUMBER if the numbers of a press
+ * are those of none, or there are more, or HED_NOT_INITIALIZED. */
+hed_status hed_bindings_continuations(const hed_bindings *bindings, const hed_key_press *keys, size_t count, size_t *first, size_t *end);
 
 /* A matcher: it reads presses as chords and as single keys, and holds those that aren't decided yet. All zero, as HED_MATCHER_NONE, it holds
  * none. It owns no memory, and may be copied.
  *
  * The bindings are passed to each call. So a program may keep several, as for its modes, and change them at any time: what is pending is read
- * by those of the call. For each key a program calls hed_matcher_press, and then hed_matcher_next until that returns HED_OUTCOME_NONE. */
+ * by those of the call. For each key a program calls hed_matcher_press, and then hed_matcher_next until that returns HED_NONE. */
 typedef struct hed_matcher {
   size_t count; /* the number of presses that are pending */
   hed_key_press keys[HED_CHORD_MOST]; /* these presses; what is behind them doesn't count */
@@ -1220,60 +1030,47 @@ typedef struct hed_matcher {
     }                    \
   }
 
+/* The kinds of outcomes: the field kind of a hed_outcome. */
+enum hed_outcome_kind {
+  /* numbers.txt: outcome c */
+  HED_OUTCOME_BOUND = 1, /* A chord was pressed. */
+  HED_OUTCOME_UNBOUND = 2 /* The first press begins no chord that was pressed. */
+  /* numbers.txt: end */
+};
+
 /* What the first of the pending presses do. What an outcome has no use for is 0. */
 typedef struct hed_outcome {
   size_t keys; /* how many presses it takes: 1 with HED_OUTCOME_UNBOUND */
   uint64_t value; /* HED_OUTCOME_BOUND: the value of the chord */
   hed_key_press press; /* HED_OUTCOME_UNBOUND: the press, whose text a program may insert */
+  uint32_t kind; /* an enum hed_outcome_kind */
 } hed_outcome;
-
-/* What hed_matcher_press and hed_matcher_press_either return. */
-enum hed_pressed {
-  /* numbers.txt: pressed c */
-  HED_PRESSED_KEY = 0, /* The press is pending. */
-  HED_PRESSED_FULL = 1, /* 32 presses are pending, and the press isn't. Nothing changed. */
-  HED_PRESSED_BAD_NUMBER = 2, /* The numbers are those of no press, or those of the matcher are. Nothing changed. */
-  HED_PRESSED_NO_BINDINGS = 3 /* There are no bindings: they weren't made yet, or they were freed. Nothing changed. */
-  /* numbers.txt: end */
-};
-
-/* What hed_matcher_next and hed_matcher_on_pause return. */
-enum hed_outcome_kind {
-  /* numbers.txt: outcome c */
-  HED_OUTCOME_NONE = 0, /* Nothing is pending, or more may come, and the presses may become a longer chord. */
-  HED_OUTCOME_BOUND = 1, /* A chord was pressed. */
-  HED_OUTCOME_UNBOUND = 2, /* The first press begins no chord that was pressed. */
-  HED_OUTCOME_BAD_NUMBER = 3, /* The numbers of the matcher are those of no presses. */
-  HED_OUTCOME_NO_BINDINGS = 4 /* There are no bindings: they weren't made yet, or they were freed. */
-  /* numbers.txt: end */
-};
 
 /* Puts a press behind those that are pending. No memory is needed, here and in all calls of a matcher.
  *
- * Returns HED_PRESSED_KEY. Otherwise the matcher is unchanged: HED_PRESSED_FULL if HED_CHORD_MOST are pending, which isn't so after
- * hed_matcher_next returned HED_OUTCOME_NONE, and HED_PRESSED_BAD_NUMBER if the numbers are those of no press, or the matcher has such. */
-uint32_t hed_matcher_press(hed_matcher *matcher, const hed_key_press *press);
+ * Returns HED_OK, HED_FULL if HED_CHORD_MOST are pending, which isn't so after hed_matcher_next returned HED_NONE, or HED_BAD_NUMBER if the numbers
+ * are those of no press, or the matcher has such. */
+hed_status hed_matcher_press(hed_matcher *matcher, const hed_key_press *press);
 
 /* Puts one of two presses behind those that are pending: the second if only that leads on, and else the first. A press leads on if some chord
  * begins with what is pending and it. If neither does, the same is asked as if nothing were pending. presses has the press that
- * hed_key_of_report wrote, and behind it that of hed_key_second, if there is one: count is 1 or 2. So Ctrl with a Cyrillic letter runs the
+ * hed_parser_press wrote, and behind it that of hed_parser_second, if there is one: count is 1 or 2. So Ctrl with a Cyrillic letter runs the
  * command of the Latin letter at its place, unless it has one of its own.
  *
- * Returns what hed_matcher_press does, also HED_PRESSED_BAD_NUMBER for another count, or HED_PRESSED_NO_BINDINGS if there are no bindings. */
-uint32_t hed_matcher_press_either(hed_matcher *matcher, const hed_bindings *bindings, const hed_key_press *presses, size_t count);
+ * Returns what hed_matcher_press does, also HED_BAD_NUMBER for another count, or HED_NOT_INITIALIZED if there are no bindings. */
+hed_status hed_matcher_press_either(hed_matcher *matcher, const hed_bindings *bindings, const hed_key_press *presses, size_t count);
 
 /* Takes what comes first of the presses that are pending: the longest chord that they begin with, or else the first press. Pass maybe_more as
  * true while more presses may come: then it waits while the presses may become a longer chord. A program whose user paused for long enough,
- * as a hed_timer tells, gives up: it calls it with false until it returns HED_OUTCOME_NONE.
+ * as a hed_timer tells, gives up: it calls it with false until it returns HED_NONE.
  *
- * Returns HED_OUTCOME_BOUND or HED_OUTCOME_UNBOUND, and *outcome tells which chord or which press. Otherwise *outcome isn't written, and the
- * matcher is unchanged: HED_OUTCOME_NONE if nothing is pending, or it waits, HED_OUTCOME_BAD_NUMBER if the numbers of the matcher are those of
- * no presses, and HED_OUTCOME_NO_BINDINGS if there are no bindings. */
-uint32_t hed_matcher_next(hed_matcher *matcher, const hed_bindings *bindings, bool maybe_more, hed_outcome *outcome);
+ * Returns HED_OK, and *outcome tells which chord or which press. Otherwise *outcome isn't written: HED_NONE if nothing is pending, or it waits,
+ * HED_BAD_NUMBER if the numbers of the matcher are those of no presses, or HED_NOT_INITIALIZED if there are no bindings. */
+hed_status hed_matcher_next(hed_matcher *matcher, const hed_bindings *bindings, bool maybe_more, hed_outcome *outcome);
 
 /* Tells what giving up would decide first: what hed_matcher_next without maybe_more would write and return. It takes nothing. While that is
  * HED_OUTCOME_UNBOUND, a program may prefer to wait for ever, since the press may still begin a chord. */
-uint32_t hed_matcher_on_pause(const hed_matcher *matcher, const hed_bindings *bindings, hed_outcome *outcome);
+hed_status hed_matcher_on_pause(const hed_matcher *matcher, const hed_bindings *bindings, hed_outcome *outcome);
 
 /* Returns whether what is pending is a mistake of several presses: no chord begins with them, and they begin with no chord. A program that
  * takes ctrl+x z as one mistake, as Emacs does, asks this after hed_matcher_press, and calls hed_matcher_cancel.
@@ -1358,17 +1155,8 @@ typedef struct hed_reply {
   size_t len; /* how many numbers a HED_REPLY_DEVICE_ATTRIBUTES has, or how many bytes a HED_REPLY_VERSION or _CLIPBOARD */
 } hed_reply;
 
-/* What hed_read_reply returns. */
-enum hed_replied {
-  /* numbers.txt: replied c */
-  HED_REPLIED_NONE = 0, /* The event is no reply that is known. */
-  HED_REPLIED_VALUES = 1, /* What the reply says was written. */
-  HED_REPLIED_NO_MEMORY = 2 /* Memory was refused. The call may be made again. */
-  /* numbers.txt: end */
-};
-
-/* Reads what a terminal replied to a question. The caller passes the kind of an event that hed_extended_next wrote, and its bytes, as
- * hed_extended_text copied them. Only a HED_KIND_CSI, a HED_KIND_OSC and a HED_KIND_DCS can be a reply. "Replies" of docs/EXTENDED.md says
+/* Reads what a terminal replied to a question. The caller passes the kind of an event that hed_parser_next wrote, and its bytes, as
+ * hed_parser_text copied them. Only a HED_KIND_CSI, a HED_KIND_OSC and a HED_KIND_DCS can be a reply. "Replies" of docs/EXTENDED.md says
  * which bytes are, and where their rules come from. A position of the cursor, a new size and the flags of Kitty's protocol come as events
  * of their own.
  *
@@ -1377,40 +1165,32 @@ enum hed_replied {
  * number of all of them, which is never more than len: a caller whose room was short can call again. The rest of numbers and out is
  * unchanged.
  *
- * Returns HED_REPLIED_VALUES, HED_REPLIED_NONE if the event is no such reply, or HED_REPLIED_NO_MEMORY if memory was refused, which only a
- * reply with numbers or bytes can meet. With these two nothing is written. */
-uint32_t hed_read_reply(uint8_t kind, const uint8_t *bytes, size_t len, hed_reply *reply, uint32_t *numbers, size_t numbers_capacity,
-                        uint8_t *out, size_t capacity);
+ * Returns HED_OK, HED_NONE if the event is no such reply, or HED_NO_MEMORY, which only a reply with numbers or bytes can meet. */
+hed_status hed_read_reply(uint8_t kind, const uint8_t *bytes, size_t len, hed_reply *reply, uint32_t *numbers, size_t numbers_capacity,
+                          uint8_t *out, size_t capacity);
 
 /* Returns the version of the library that is linked, as HED_VERSION_NUMBER has that of the header. */
 uint32_t hed_version(void);
 
 /* The layouts that the library was proved with. A line that doesn't compile says that this machine has others. */
 #define HED_IS(name, holds) typedef char hed_is_##name[(holds) ? 1 : -1]
-HED_IS(parser, sizeof(hed_parser) == 24 && offsetof(hed_parser, state) == 8 && offsetof(hed_parser, timing) == 16);
-HED_IS(event, sizeof(hed_event) == 24 && offsetof(hed_event, modifiers) == 2 && offsetof(hed_event, y) == 8);
-HED_IS(event_end, offsetof(hed_event, detail) == 12 && offsetof(hed_event, paste_len) == 16);
+HED_IS(parser, sizeof(hed_parser) == 16 && offsetof(hed_parser, state) == 8);
+HED_IS(event, sizeof(hed_event) == 48 && offsetof(hed_event, string_kind) == 7 && offsetof(hed_event, key) == 8);
+HED_IS(event_width, offsetof(hed_event, width) == 24);
+HED_IS(event_end, offsetof(hed_event, detail) == 28 && offsetof(hed_event, base) == 36 && offsetof(hed_event, text_len) == 40);
 HED_IS(keymap, sizeof(hed_keymap) == 16 && offsetof(hed_keymap, state) == 8);
 HED_IS(bindings, sizeof(hed_bindings) == 16 && offsetof(hed_bindings, state) == 8);
 HED_IS(matcher, sizeof(hed_matcher) == 264 && offsetof(hed_matcher, keys) == 8);
-HED_IS(outcome, sizeof(hed_outcome) == 24 && offsetof(hed_outcome, value) == 8 && offsetof(hed_outcome, press) == 16);
+HED_IS(outcome, sizeof(hed_outcome) == 32 && offsetof(hed_outcome, press) == 16 && offsetof(hed_outcome, kind) == 24);
 HED_IS(entries, sizeof(hed_entries) == 24 && offsetof(hed_entries, count) == 8 && offsetof(hed_entries, with_alt) == 16);
 HED_IS(match, sizeof(hed_match) == 16 && offsetof(hed_match, value) == 8);
-HED_IS(extended, sizeof(hed_extended) == 24 && offsetof(hed_extended, state) == 8 && offsetof(hed_extended, timing) == 16);
 HED_IS(policy, sizeof(hed_policy) == 24 && offsetof(hed_policy, string) == 12 && offsetof(hed_policy, paste) == 20);
 HED_IS(seen, sizeof(hed_seen) == 8 && offsetof(hed_seen, by) == 4 && offsetof(hed_seen, empty) == 7);
 HED_IS(timer, sizeof(hed_timer) == 40 && offsetof(hed_timer, millis) == 24 && offsetof(hed_timer, holds) == 35);
-HED_IS(report, sizeof(hed_key_report) == 16 && offsetof(hed_key_report, key) == 2 && offsetof(hed_key_report, base) == 12);
 HED_IS(press, sizeof(hed_key_press) == 8 && offsetof(hed_key_press, held) == 2 && offsetof(hed_key_press, detail) == 4);
-HED_IS(mouse_report, sizeof(hed_mouse_report) == 10 && offsetof(hed_mouse_report, button) == 1);
-HED_IS(mouse_report_end, offsetof(hed_mouse_report, modifiers) == 4 && offsetof(hed_mouse_report, y) == 8);
 HED_IS(reading, sizeof(hed_reading) == 16 && offsetof(hed_reading, erase) == 4 && offsetof(hed_reading, newline) == 8);
 HED_IS(reading_end, offsetof(hed_reading, x10_mouse) == 12 && offsetof(hed_reading, questions) == 13);
-HED_IS(sent_mouse, sizeof(hed_sent_mouse) == 8 && offsetof(hed_sent_mouse, modifiers) == 4 && offsetof(hed_sent_mouse, button) == 6);
-HED_IS(extended_event, sizeof(hed_extended_event) == 56 && offsetof(hed_extended_event, row) == 2);
-HED_IS(extended_width, offsetof(hed_extended_event, width) == 12);
-HED_IS(extended_end, offsetof(hed_extended_event, report) == 16 && offsetof(hed_extended_event, mouse) == 32);
-HED_IS(extended_text, offsetof(hed_extended_event, text_len) == 48);
+HED_IS(sent_mouse, sizeof(hed_sent_mouse) == 6 && offsetof(hed_sent_mouse, modifiers) == 4 && offsetof(hed_sent_mouse, button) == 5);
 HED_IS(reply, sizeof(hed_reply) == 32 && offsetof(hed_reply, is_private) == 3 && offsetof(hed_reply, selection) == 6);
 HED_IS(reply_index, offsetof(hed_reply, index) == 8 && offsetof(hed_reply, columns) == 18);
 HED_IS(reply_end, offsetof(hed_reply, mode) == 20 && offsetof(hed_reply, len) == 24);

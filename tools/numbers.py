@@ -68,15 +68,13 @@ def read_list() -> Numbers:
 # The places of each file: its forms, each with the groups that it has in it.
 PLACES = {
     HEADER: {
-        "c": "kind next waiting age termwiz_mod button key encoding kitty_flag encoded found"
-        " dialect erase newline mouse_kind key_event_kind kitty_mod named printed bound pressed"
-        " outcome replied reply device_attributes mode_state colour_name colour_scheme mouse"
-        " mouse_tracking mouse_encoding"
+        "c": "status kind waiting age termwiz_mod button key encoding kitty_flag dialect erase"
+        " newline mouse_kind key_event_kind kitty_mod outcome reply device_attributes mode_state"
+        " colour_name colour_scheme mouse mouse_tracking mouse_encoding"
     },
     "rust/src/raw.rs": {
-        "const": "next waiting age encoded found kind dialect erase newline mouse_kind"
-        " key_event_kind encoding named printed bound pressed outcome replied reply"
-        " device_attributes mode_state colour_name colour_scheme mouse mouse_tracking"
+        "const": "status waiting age kind dialect erase newline mouse_kind key_event_kind encoding"
+        " outcome reply device_attributes mode_state colour_name colour_scheme mouse mouse_tracking"
         " mouse_encoding"
     },
     "rust/src/input/flags.rs": {"flag": "termwiz_mod button kitty_flag kitty_mod"},
@@ -84,18 +82,18 @@ PLACES = {
     "rust/tests/parser/names.rs": {"named": "termwiz_mod button", "plain": "key"},
     "python/hedrugal/__init__.py": {
         "member": "termwiz_mod button kitty_flag encoding waiting age key",
-        "private": "next encoded found kind key",
+        "private": "status kind key",
     },
     "python/hedrugal/extended.py": {
         "member": "dialect erase newline mouse_kind key_event_kind kitty_mod",
-        "private": "named printed bound pressed outcome",
+        "private": "outcome",
     },
     "python/hedrugal/replies.py": {
         "member": "device_attributes mode_state colour_name colour_scheme",
-        "private": "replied reply",
+        "private": "reply",
     },
     "python/hedrugal/sending.py": {"member": "mouse mouse_tracking mouse_encoding"},
-    "keys/names.c": {"table": "termwiz_mod button kitty_mod"},
+    "keys/names.c": {"table": "button kitty_mod"},
 }
 
 # A place: its first line, those that are written, and its end.
@@ -152,7 +150,7 @@ def lines_of(form: str, it: Number, is_last: bool) -> List[str]:
         **it._asdict(),
         capitals=it.group.upper(),
         snake=snake,
-        in_c=f"HED_{it.group.upper()}_{snake}",
+        in_c=f"HED_{snake}" if it.group == "status" else f"HED_{it.group.upper()}_{snake}",
         comma="" if is_last else ",",
         prefix="NULL" if it.group == "button" else f'"{prefix}-"',
         rust_type=RUST_TYPES.get(it.group, "u32"),
@@ -222,6 +220,7 @@ def variants(enum: str) -> str:
     return rf"^ *(?P<number>\d+) => Some\({enum}::(?P<name>\w+)"
 
 
+STATUS = r"^pub\(crate\) const (?P<name>\w+): u32 = (?P<number>\d+);$"
 FLAG = r"^ *pub const (?P<name>[A-Z0-9_]+): \w+ = \w+\((?P<number>\d+)(?: << (?P<shift>\d+))?\);$"
 KEY_NUMBER = r"^ *KeyCode::(?P<name>\w+)(?:\(_\))? => (?P<number>\d+),?$"
 KEY_NAME = r'^ *KeyCode::(?P<name>\w+)(?:\(_\))? => "(?P<text>\w+)"'
@@ -231,24 +230,17 @@ FLAG_NAME = r'name: "(?P<text>\w+)",\n *value: \w+::(?P<name>\w+),$'
 # What has a group's numbers or the names that are printed of it: files, and a pattern for all.
 PROVED = [
     ("key", "termwiz_bindings/src/numbers.rt", KEY_NUMBER),
-    ("kind", "hedrugal/src/events.rt hedrugal/src/extended_events.rt", constants("KIND")),
-    ("mouse_kind", "hedrugal/src/extended_events.rt", constants("MOUSE_KIND")),
-    ("key_event_kind", "hedrugal/src/extended_events.rt", constants("KEY_EVENT_KIND")),
+    ("status", "hedrugal/src/status.rt", STATUS),
+    ("kind", "hedrugal/src/events.rt", constants("KIND")),
+    ("mouse_kind", "hedrugal/src/events.rt", constants("MOUSE_KIND")),
+    ("key_event_kind", "hedrugal/src/events.rt", constants("KEY_EVENT_KIND")),
     ("encoding", "hedrugal/src/modes.rt", variants("KeyboardEncoding")),
-    ("next", "hedrugal/src/lib.rt", constants("NEXT")),
-    ("encoded", "hedrugal/src/lib.rt", constants("ENCODED")),
-    ("waiting", "hedrugal/src/lib.rt", constants("WAITING")),
+    ("waiting", "hedrugal/src/parser_calls.rt", constants("WAITING")),
     ("age", "hedrugal/src/timer_calls.rt", constants("AGE")),
-    ("found", "hedrugal/src/keymap_calls.rt", constants("FOUND")),
-    ("dialect", "hedrugal/src/extended_calls.rt", constants("DIALECT")),
+    ("dialect", "hedrugal/src/reading_calls.rt", constants("DIALECT")),
     ("erase", "hedrugal/src/reading_calls.rt", constants("ERASE")),
     ("newline", "hedrugal/src/reading_calls.rt", constants("NEWLINE")),
-    ("named", "hedrugal/src/name_calls.rt", constants("NAMED")),
-    ("printed", "hedrugal/src/name_calls.rt", constants("PRINTED")),
-    ("bound", "hedrugal/src/binding_calls.rt", constants("BOUND")),
-    ("pressed", "hedrugal/src/matcher_calls.rt", constants("PRESSED")),
     ("outcome", "hedrugal/src/matcher_calls.rt", constants("OUTCOME")),
-    ("replied", "hedrugal/src/reply_calls.rt", constants("REPLIED")),
     ("reply", "hedrugal/src/replies.rt", constants("REPLY")),
     ("device_attributes", "hedrugal/src/replies.rt", constants("DEVICE_ATTRIBUTES")),
     ("mode_state", "hedrugal/src/replies.rt", constants("MODE_STATE")),

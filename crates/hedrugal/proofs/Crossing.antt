@@ -1,4 +1,4 @@
--- What a parser, an extended parser, a key map and bindings are made of may cross threads, and so may the block of one.
+-- What a parser, a key map and bindings are made of may cross threads, and so may the block of one.
 use Rattle.std.specs.Prelude.{List, [], ◌∷◌, Option, Some, None}
 use base.Shift.{Keyless}
 use mir.Raw.{raw}
@@ -25,14 +25,13 @@ use Rattle.termwiz_input.specs.contracts.input.InputParser as InputParser
 use Rattle.termwiz_input.specs.contracts.sequence_table.Places as Places
 use Rattle.termwiz_input.specs.contracts.sequence_table.SequenceTable as SequenceTable
 use Rattle.termwiz_input.specs.contracts.time.Policy as Policy
-use Rattle.termwiz_input.specs.contracts.time.Timer as Timer
 use Rattle.termwiz_bindings.specs.contracts.bindings.Bindings as ChordMap
 use Rattle.termwiz_input_extended.specs.contracts.input.ExtendedParser as ExtendedParser
+use Rattle.termwiz_timed.specs.contracts.ages.Ages as Ages
+use Rattle.termwiz_timed.specs.contracts.parser.TimedParser as TimedParser
 use Rattle.hedrugal.specs.contracts.bindings.Bindings as Bindings
 use Rattle.hedrugal.specs.contracts.chord_bindings.ChordBindings as ChordBindings
-use Rattle.hedrugal.specs.contracts.extended_and_text.ExtendedAndText as ExtendedAndText
-use Rattle.hedrugal.specs.contracts.parser_and_paste.ParserAndPaste as ParserAndPaste
-use Rattle.hedrugal.specs.contracts.timing.Timing as Timing
+use Rattle.hedrugal.specs.contracts.parser_and_text.ParserAndText as ParserAndText
 use Rattle.hedrugal.specs.Owned.{heap, owned}
 
 -- a fact of the fields of each variant that has some
@@ -121,24 +120,21 @@ extended_send = search (sendable, crosses, parser_send) depth 20
 policy_send : IsSend (Policy.the_field).row
 policy_send = search (sendable, crosses) depth 20
 
-timer_send : IsSend (Timer.the_field).row
-timer_send = search (sendable, crosses) depth 20
+ages_send : IsSend (Ages.the_field).row
+ages_send = search (sendable, crosses) depth 20
+
+timed_send : IsSend TimedParser.the_row
+timed_send = search (sendable, crosses, extended_send, policy_send, ages_send) depth 20
 
 -- what a handle leads to
-pub parser_and_paste_send : IsSend ParserAndPaste.the_row
-parser_and_paste_send = search (sendable, crosses, maps, parser_send) depth 12
-
-pub extended_and_text_send : IsSend ExtendedAndText.the_row
-extended_and_text_send = search (sendable, crosses, extended_send) depth 12
+pub parser_and_text_send : IsSend ParserAndText.the_row
+parser_and_text_send = search (sendable, crosses, timed_send) depth 12
 
 pub bindings_send : IsSend Bindings.the_row
 bindings_send = search (sendable, crosses, map_send) depth 12
 
 pub chord_bindings_send : IsSend ChordBindings.the_row
 chord_bindings_send = search (sendable, crosses, chord_map_send) depth 12
-
-pub timing_send : IsSend Timing.the_row
-timing_send = search (sendable, policy_send, timer_send) depth 20
 
 -- and the pointer to that: what it owns says the same to every thread
 pub pointer_send : IsSend RawPtr

@@ -1,21 +1,18 @@
 -- What numbers of an event stand for.
-use Rattle.std.proofs.Common.{◌≡◌, ◌↔◌, ℕ, List, Option, Some, None}
+use Rattle.std.proofs.Common.{◌≡◌, ℕ, List, Option, Some, None}
 use Rattle.std.specs.Prelude.{IfNone}
 use Rattle.termwiz_extended_events.specs.declared.types.Event.{Event}
 use Rattle.termwiz_extended_events.specs.declared.types.Event.TheVariants.{Key, Mouse, Paste, FocusGained, FocusLost, CursorPosition, Resize, KeyboardFlags, Csi, Osc, Dcs, Apc, StringPart, StringCut}
 use Rattle.termwiz_extended_events.specs.declared.types.MouseReport.{MouseReport}
-use Rattle.hedrugal.specs.declared.extended_events.CExtendedEvent.{CExtendedEvent}
+use Rattle.hedrugal.specs.declared.events.CEvent.{CEvent}
 use Rattle.hedrugal.specs.EventCalls.{StandForEvent, TellsMouse}
-use Rattle.hedrugal.specs.ExtendedEvents.{kind_number}
-
-pub none_by : {A : Type 0} {P : A → Type 0} (o : Option A) → ((x : A) → (o ≡ Some x) ↔ P x) → o ≡ None → (x : A) → ¬ P x
-none_by o which none x p = cc (none, (which x).1 p)
+use Rattle.hedrugal.specs.Events.{kind_number}
 
 pub told_none : {A P : Type 0} (o : Option A) → o ≡ None → IfNone o P → P
 told_none o e h = rw e at h
 
 -- numbers of the kind of a mouse event stand for that kind alone
-pub mouse_only : (n : CExtendedEvent) (bytes : List ℕ) → n.kind ≡ 2 → ((report : MouseReport) → ¬ TellsMouse n.mouse report)
+pub mouse_only : (n : CEvent) (bytes : List ℕ) → n.kind ≡ 2 → ((report : MouseReport) → ¬ TellsMouse n report)
     → (event : Event) → ¬ StandForEvent n bytes event
 unfolding kind_number
 mouse_only n bytes is none (Mouse report) stands = none report stands.1

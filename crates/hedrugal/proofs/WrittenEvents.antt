@@ -1,85 +1,66 @@
 -- Events that are written to an array one after another, with their bytes.
-use Rattle.std.proofs.Common.{◌≡◌, ◌∙◌, ℕ, ◌+◌, ◌-◌, ◌<◌, ◌≤◌, Bool, List, [], ◌∷◌, ◌++◌, length, take, drop, map, Option, Some, None, unwrap_or, inl, inr, refl, sym, ap, subst, arith}
+use Rattle.std.proofs.Common.{◌≡◌, ◌∙◌, ℕ, ◌+◌, ◌-◌, ◌<◌, ◌≤◌, List, [], ◌∷◌, ◌++◌, length, take, drop, map, inl, inr, refl, sym, ap, subst, arith}
 use Rattle.std.specs.List.{slice_set}
 use Rattle.std.proofs.lemmas.List.{append-nil, append_assoc, drop_all, drop_at, length-append, length-drop, take-append-drop, take_all, take_at}
 use borrow.Rule.Slice.PartMut.{mid_of, put_mid}
-use Rattle.termwiz_extended_grammar.specs.ExtendedGrammar.{Steps}
-use Rattle.termwiz_extended_grammar.specs.Readings.{after_event}
-use Rattle.termwiz_extended_grammar.proofs.lemmas.cuts.ExtendedCuts.{after_both, join_steps}
-use Rattle.hedrugal.specs.declared.extended_and_text.ExtendedAndText.{ExtendedAndText}
-use Rattle.hedrugal.specs.declared.extended_events.CExtendedEvent.{CExtendedEvent}
-use Rattle.hedrugal.specs.EventArrays.{AreWritten, TookAll, TookWithBytes, WroteEvents, joined_bytes, text_after_all}
-use Rattle.termwiz_extended_events.specs.declared.types.Event.{Event}
 use Rattle.termwiz_extended_events.specs.declared.types.Event.TheVariants.{Key, Mouse, Paste, FocusGained, FocusLost, CursorPosition, Resize, KeyboardFlags, Csi, Osc, Dcs, Apc, StringPart, StringCut}
-use Rattle.termwiz_extended_events.specs.declared.types.Reading.{Reading}
-use Rattle.hedrugal.specs.Calls.{copied}
-use Rattle.hedrugal.specs.ExtendedCalls.{text_after}
-use Rattle.hedrugal.specs.ExtendedEvents.{bytes_of, c_extended_event, own_bytes}
+use Rattle.termwiz_timed.specs.declared.parser.TimedEvent.{TimedEvent}
+use Rattle.termwiz_timed.specs.declared.parser.TimedEvent.TheVariants.{Whole, PastePart}
+use Rattle.termwiz_timed.specs.Steps.{Step}
+use Rattle.termwiz_timed.specs.Steps.Call.{AllTold, Told}
+use Rattle.termwiz_timed.specs.Timed.{Timed}
+use Rattle.hedrugal.specs.declared.events.CEvent.{CEvent}
+use Rattle.hedrugal.specs.declared.parser_and_text.ParserAndText.{ParserAndText}
+use Rattle.hedrugal.specs.Calls.{MeetsMemory, copied}
+use Rattle.hedrugal.specs.EventArrays.{AreWritten, IsFull, Stops, TellsAll, TookAll, TookWithBytes, WroteEvents, joined_bytes, text_after_all}
+use Rattle.hedrugal.specs.EventArrays.Stops.{all_told, full, refused}
+use Rattle.hedrugal.specs.Events.{brought, c_event, c_told, own_bytes}
 
 -- a copy of no bytes changes nothing
 nothing_copied : (bytes room : List ℕ) → length bytes ≤ 0 → room ≡ copied bytes room
 nothing_copied [] room none = sym (ap (λ (front : List ℕ). front ++ room) (take_all (length room) [] (omega arith)))
 nothing_copied (byte ∷ bytes) room none = let no : ⊥ = omega arith in absurd no
 
--- the same of bytes that may be there
-bytes_are_kept : (own : Option (List ℕ)) (before now : List ℕ) → now ≡ unwrap_or own before → 0 < length (unwrap_or own [])
-    → now ≡ unwrap_or own []
-bytes_are_kept (Some bytes) before now is some = is
-bytes_are_kept None before now is some = let no : ⊥ = omega arith in absurd no
-
--- what is kept after an event that brings bytes are these
-own_bytes_kept : (event : Event) (before now : List ℕ) → now ≡ text_after event before → 0 < length (bytes_of event)
-    → now ≡ bytes_of event
-own_bytes_kept event before now is some = bytes_are_kept (own_bytes event) before now is some
-
 -- an event in numbers tells how many bytes it brings
-told_len : (event : Event) → (c_extended_event event).text_len ≡ length (bytes_of event)
-unfolding c_extended_event
-told_len (Mouse report) = refl
-told_len (Paste text) = refl
-told_len (Key report) = refl
-told_len FocusGained = refl
-told_len FocusLost = refl
-told_len (CursorPosition row column) = refl
-told_len (Resize rows columns height width) = refl
-told_len (KeyboardFlags flags) = refl
-told_len (Csi bytes) = refl
-told_len (Osc bytes) = refl
-told_len (Dcs bytes) = refl
-told_len (Apc bytes) = refl
-told_len (StringPart kind bytes) = refl
-told_len (StringCut kind bytes) = refl
+told_len : (event : TimedEvent) → (c_told event).text_len ≡ length (brought event)
+unfolding c_event own_bytes
+told_len (PastePart text) = refl
+told_len (Whole (Mouse report)) = refl
+told_len (Whole (Paste text)) = refl
+told_len (Whole (Key report)) = refl
+told_len (Whole FocusGained) = refl
+told_len (Whole FocusLost) = refl
+told_len (Whole (CursorPosition row column)) = refl
+told_len (Whole (Resize rows columns height width)) = refl
+told_len (Whole (KeyboardFlags flags)) = refl
+told_len (Whole (Csi bytes)) = refl
+told_len (Whole (Osc bytes)) = refl
+told_len (Whole (Dcs bytes)) = refl
+told_len (Whole (Apc bytes)) = refl
+told_len (Whole (StringPart kind bytes)) = refl
+told_len (Whole (StringCut kind bytes)) = refl
 
 -- the same of numbers that are the event's
-shown_len : (event : Event) (shown : CExtendedEvent) → shown ≡ c_extended_event event → shown.text_len ≡ length (bytes_of event)
-shown_len event shown is = ap (λ (e : CExtendedEvent). e.text_len) is ∙ told_len event
+shown_len : (event : TimedEvent) (c : CEvent) → c ≡ c_told event → c.text_len ≡ length (brought event)
+shown_len event c is = ap (λ (e : CEvent). e.text_len) is ∙ told_len event
 
--- an event is taken, and its bytes, which are kept, are copied
-pub own_bytes_copied : (before after : ExtendedAndText) (more : Bool) (shown : CExtendedEvent) (bytes room room' : List ℕ)
-    → ((event : Event) × Steps before.parser.reading before.parser.text more (event ∷ []) after.parser.text
-    × (shown ≡ c_extended_event event) × (after.text.items ≡ text_after event before.text.items)
-    × (after.parser.reading ≡ after_event before.parser.reading event))
-    → 0 < shown.text_len → bytes ≡ after.text.items → room' ≡ copied bytes room → TookWithBytes before more shown room room' after
-own_bytes_copied before after more shown bytes room room' (event, step, is, text, reading) some kept copy =
-    let own = own_bytes_kept event before.text.items after.text.items text (omega (arith, shown_len event shown is)) in
-    (event, step, is, text, reading, copy ∙ ap (λ (b : List ℕ). copied b room) (kept ∙ own))
+-- an event was told, and its bytes are kept
+abbrev pub Took : ParserAndText → CEvent → ParserAndText → Type 0
+Took before c after = (event : TimedEvent) × Step before.parser (Told event) after.parser × (c ≡ c_told event) × (after.text.items ≡ brought event)
 
--- an event without bytes is taken
-pub no_bytes_copied : (before after : ExtendedAndText) (more : Bool) (shown : CExtendedEvent) (room : List ℕ)
-    → ((event : Event) × Steps before.parser.reading before.parser.text more (event ∷ []) after.parser.text
-    × (shown ≡ c_extended_event event) × (after.text.items ≡ text_after event before.text.items)
-    × (after.parser.reading ≡ after_event before.parser.reading event))
-    → shown.text_len ≤ 0 → TookWithBytes before more shown room room after
-no_bytes_copied before after more shown room (event, step, is, text, reading) none =
-    (event, step, is, text, reading, nothing_copied (bytes_of event) room (omega (arith, shown_len event shown is)))
+-- and it brings none
+pub no_bytes_copied : (before after : ParserAndText) (c : CEvent) (room : List ℕ) → Took before c after → c.text_len ≤ 0
+    → TookWithBytes before c room room after
+no_bytes_copied before after c room (event, step, is, text) none =
+    (event, step, is, text, nothing_copied (brought event) room (omega (arith, shown_len event c is)))
 
 -- Events are written, all of their bytes too: there are so many events, and so many bytes.
-pub record AreWhole (events : List Event) (count used : ℕ) (array array' : List CExtendedEvent) (room room' : List ℕ) : Type 0 where
+pub record AreWhole (events : List TimedEvent) (count used : ℕ) (array array' : List CEvent) (room room' : List ℕ) : Type 0 where
   pub counted : count ≡ length events
   pub measured : used ≡ length (joined_bytes events)
   pub inside : length events ≤ length array
   pub fits : length (joined_bytes events) ≤ length room
-  pub shown : array' ≡ map c_extended_event events ++ drop (length events) array
+  pub shown_there : array' ≡ map c_told events ++ drop (length events) array
   pub bytes : room' ≡ joined_bytes events ++ drop (length (joined_bytes events)) room
 
 -- the end of a list, from a place on, and a list with another end
@@ -103,59 +84,60 @@ copied_whole : (bytes room : List ℕ) → length bytes ≤ length room → byte
 copied_whole bytes room fits = ap (λ (front : List ℕ). front ++ drop (length bytes) room) (sym (take_all (length room) bytes fits))
 
 -- one more event is written to the array
-one_more_shown : (events : List Event) (event : Event) (array : List CExtendedEvent) → length events < length array
-    → slice_set (map c_extended_event events ++ drop (length events) array) (length events) (c_extended_event event)
-    ≡ map c_extended_event (events ++ event ∷ []) ++ drop (length (events ++ event ∷ [])) array
+one_more_shown : (events : List TimedEvent) (event : TimedEvent) (array : List CEvent) → length events < length array
+    → slice_set (map c_told events ++ drop (length events) array) (length events) (c_told event)
+    ≡ map c_told (events ++ event ∷ []) ++ drop (length (events ++ event ∷ [])) array
 one_more_shown events event [] inside = let no : ⊥ = omega arith in absurd no
 one_more_shown [] event (first ∷ array) inside = refl
 one_more_shown (e ∷ events) event (first ∷ array) inside =
-    ap (λ (more : List CExtendedEvent). c_extended_event e ∷ more) (one_more_shown events event array (omega arith))
+    ap (λ (more : List CEvent). c_told e ∷ more) (one_more_shown events event array (omega arith))
 
 -- the bytes of two lists of events
-joined_both : (events more : List Event) → joined_bytes (events ++ more) ≡ joined_bytes events ++ joined_bytes more
+joined_both : (events more : List TimedEvent) → joined_bytes (events ++ more) ≡ joined_bytes events ++ joined_bytes more
 joined_both [] more = refl
 joined_both (event ∷ events) more =
-    ap (λ (rest : List ℕ). bytes_of event ++ rest) (joined_both events more) ∙ sym (append_assoc (bytes_of event) _ _)
+    ap (λ (rest : List ℕ). brought event ++ rest) (joined_both events more) ∙ sym (append_assoc (brought event) _ _)
 
--- what is kept after two lists of events
-text_after_both : (events more : List Event) (before : List ℕ)
-    → text_after_all (events ++ more) before ≡ text_after_all more (text_after_all events before)
-text_after_both [] more before = refl
-text_after_both (event ∷ events) more before = text_after_both events more (text_after event before)
+-- what is kept after one event more
+text_after_more : (events : List TimedEvent) (event : TimedEvent) (before : List ℕ) → text_after_all (events ++ event ∷ []) before ≡ brought event
+text_after_more [] event before = refl
+text_after_more (first ∷ events) event before = text_after_more events event (brought first)
 
--- one more event is taken
-one_more_taken : (before here next : ExtendedAndText) (more : Bool) (events : List Event) (event : Event)
-    → TookAll before more events here → Steps here.parser.reading here.parser.text more (event ∷ []) next.parser.text
-    → next.text.items ≡ text_after event here.text.items → next.parser.reading ≡ after_event here.parser.reading event
-    → TookAll before more (events ++ event ∷ []) next
-one_more_taken before here next more events event taken step text reading = record {
-  steps = join_steps before.parser.reading events (event ∷ []) before.parser.text here.parser.text next.parser.text more taken.steps
-      (subst (λ (r : Reading). Steps r here.parser.text more (event ∷ []) next.parser.text) taken.reading step);
-  reading = reading ∙ ap (λ (r : Reading). after_event r event) taken.reading ∙ sym (after_both before.parser.reading events (event ∷ []));
-  text = text ∙ ap (λ (kept : List ℕ). text_after event kept) taken.text ∙ sym (text_after_both events (event ∷ []) before.text.items);
+-- one event more is told
+one_more_told : (before here next : Timed) (events : List TimedEvent) (event : TimedEvent) → TellsAll before events here
+    → Step here (Told event) next → TellsAll before (events ++ event ∷ []) next
+one_more_told before here next [] event same step = (next, subst (λ (p : Timed). Step p (Told event) next) same step, refl)
+one_more_told before here next (first ∷ events) event (between, told, rest) step =
+    (between, told, one_more_told between here next events event rest step)
+
+one_more_taken : (before here next : ParserAndText) (events : List TimedEvent) (event : TimedEvent) → TookAll before events here
+    → Step here.parser (Told event) next.parser → next.text.items ≡ brought event → TookAll before (events ++ event ∷ []) next
+one_more_taken before here next events event taken step text = record {
+  steps = one_more_told before.parser here.parser next.parser events event taken.steps step;
+  text = text ∙ sym (text_after_more events event before.text.items);
 }
 
 -- the bytes of the first events are no more than those of all
-few_bytes : (events : List Event) (count : ℕ) → length (joined_bytes (take count events)) ≤ length (joined_bytes events)
+few_bytes : (events : List TimedEvent) (count : ℕ) → length (joined_bytes (take count events)) ≤ length (joined_bytes events)
 few_bytes events count =
     let all : joined_bytes events ≡ joined_bytes (take count events) ++ joined_bytes (drop count events) =
-    ap (λ (es : List Event). joined_bytes es) (sym (take-append-drop count events)) ∙ joined_both (take count events) (drop count events) in
+    ap (λ (es : List TimedEvent). joined_bytes es) (sym (take-append-drop count events)) ∙ joined_both (take count events) (drop count events) in
     omega (arith, ap length all, length-append {A = ℕ})
 
 -- what is written whole is written
-whole_are_written : (events : List Event) (count used : ℕ) (array array' : List CExtendedEvent) (room room' : List ℕ)
+whole_are_written : (events : List TimedEvent) (count used : ℕ) (array array' : List CEvent) (room room' : List ℕ)
     → AreWhole events count used array array' room room' → AreWritten events array array' room room'
 whole_are_written events count used array array' room room' whole = record {
   inside = whole.inside;
-  shown = whole.shown;
+  shown_there = whole.shown_there;
   bytes = whole.bytes ∙ copied_whole (joined_bytes events) room whole.fits;
   whole = let few = few_bytes events (length events - 1) in omega (arith, few, whole.fits);
 }
 
 -- the bytes of one event more
-joined_more : (events : List Event) (event : Event) → joined_bytes (events ++ event ∷ []) ≡ joined_bytes events ++ bytes_of event
+joined_more : (events : List TimedEvent) (event : TimedEvent) → joined_bytes (events ++ event ∷ []) ≡ joined_bytes events ++ brought event
 joined_more events event =
-    joined_both events (event ∷ []) ∙ ap (λ (bytes : List ℕ). joined_bytes events ++ bytes) (append-nil {A = ℕ} (bytes_of event))
+    joined_both events (event ∷ []) ∙ ap (λ (bytes : List ℕ). joined_bytes events ++ bytes) (append-nil {A = ℕ} (brought event))
 
 -- a copy behind other bytes, in a list that has a room behind them
 bytes_behind : (front bytes room : List ℕ) (now : List ℕ) (used k : ℕ) → used ≡ length front → length front ≤ length room
@@ -168,43 +150,43 @@ bytes_behind front bytes room now used k measured fits is many =
     (copied_behind front bytes room fits)
 
 -- one more event is written, and as many of its bytes as there is room for
-one_more_written : (events : List Event) (count used : ℕ) (array array' : List CExtendedEvent) (room room' : List ℕ)
-    (event : Event) (shown : CExtendedEvent) (part : List ℕ) → AreWhole events count used array array' room room'
-    → count < length array → shown ≡ c_extended_event event → part ≡ copied (bytes_of event) (mid_of used (length room' - used) room')
-    → AreWritten (events ++ event ∷ []) array (slice_set array' count shown) room (put_mid used (length room' - used) room' part)
-one_more_written events count used array array' room room' event shown part whole more is copy = record {
+one_more_written : (events : List TimedEvent) (count used : ℕ) (array array' : List CEvent) (room room' : List ℕ)
+    (event : TimedEvent) (c : CEvent) (part : List ℕ) → AreWhole events count used array array' room room'
+    → count < length array → c ≡ c_told event → part ≡ copied (brought event) (mid_of used (length room' - used) room')
+    → AreWritten (events ++ event ∷ []) array (slice_set array' count c) room (put_mid used (length room' - used) room' part)
+one_more_written events count used array array' room room' event c part whole more is copy = record {
   inside = omega (arith, length-append events (event ∷ []), whole.counted);
-  shown = let one = one_more_shown events event array (omega (arith, whole.counted)) in
-      let counted = whole.counted in let before = whole.shown in cc (one, counted, before);
+  shown_there = let one = one_more_shown events event array (omega (arith, whole.counted)) in
+      let counted = whole.counted in let before = whole.shown_there in cc (one, counted, before);
   bytes = rw (copy, joined_more events event)
-      (bytes_behind (joined_bytes events) (bytes_of event) room room' used (length room' - used) whole.measured whole.fits whole.bytes (omega arith));
+      (bytes_behind (joined_bytes events) (brought event) room room' used (length room' - used) whole.measured whole.fits whole.bytes (omega arith));
   whole = let count_now : length (events ++ event ∷ []) - 1 ≡ length events = omega (arith, length-append events (event ∷ [])) in
       rw (count_now, take_at events (event ∷ []) (length events) refl) whole.fits;
 }
 
 -- there is one event more
-one_more_counted : (events : List Event) (event : Event) (count : ℕ) → count ≡ length events → count + 1 ≡ length (events ++ event ∷ [])
+one_more_counted : (events : List TimedEvent) (event : TimedEvent) (count : ℕ) → count ≡ length events → count + 1 ≡ length (events ++ event ∷ [])
 one_more_counted events event count is = omega (arith, is, length-append events (event ∷ []))
 
 -- so many bytes there was room for
-room_len : (events : List Event) (count used : ℕ) (array array' : List CExtendedEvent) (room room' : List ℕ)
+room_len : (events : List TimedEvent) (count used : ℕ) (array array' : List CEvent) (room room' : List ℕ)
     → AreWhole events count used array array' room room' → length room' ≡ length room
 room_len events count used array array' room room' whole =
     omega (arith, ap length whole.bytes, whole.fits, length-append (joined_bytes events) (drop (length (joined_bytes events)) room), length-drop (length (joined_bytes events)) room)
 
 -- the bytes of one event more are so many
-more_bytes : (events : List Event) (event : Event) (used : ℕ) (shown : CExtendedEvent) → used ≡ length (joined_bytes events)
-    → shown ≡ c_extended_event event → length (joined_bytes (events ++ event ∷ [])) ≡ used + shown.text_len
-more_bytes events event used shown measured is =
-    let len : shown.text_len ≡ length (bytes_of event) = ap (λ (e : CExtendedEvent). e.text_len) is ∙ told_len event in
-    omega (arith, ap length (joined_more events event), length-append (joined_bytes events) (bytes_of event), len, measured)
+more_bytes : (events : List TimedEvent) (event : TimedEvent) (used : ℕ) (c : CEvent) → used ≡ length (joined_bytes events)
+    → c ≡ c_told event → length (joined_bytes (events ++ event ∷ [])) ≡ used + c.text_len
+more_bytes events event used c measured is =
+    let len : c.text_len ≡ length (brought event) = ap (λ (e : CEvent). e.text_len) is ∙ told_len event in
+    omega (arith, ap length (joined_more events event), length-append (joined_bytes events) (brought event), len, measured)
 
 -- the bytes that have no room are more than there is room for
-many_bytes : (events : List Event) (count used : ℕ) (array array' : List CExtendedEvent) (room room' : List ℕ)
-    (event : Event) (shown : CExtendedEvent) → AreWhole events count used array array' room room' → shown ≡ c_extended_event event
-    → length room' - used < shown.text_len → length room < length (joined_bytes (events ++ event ∷ []))
-many_bytes events count used array array' room room' event shown whole is many =
-    omega (arith, more_bytes events event used shown whole.measured is, room_len events count used array array' room room' whole, many)
+many_bytes : (events : List TimedEvent) (count used : ℕ) (array array' : List CEvent) (room room' : List ℕ)
+    (event : TimedEvent) (c : CEvent) → AreWhole events count used array array' room room' → c ≡ c_told event
+    → length room' - used < c.text_len → length room < length (joined_bytes (events ++ event ∷ []))
+many_bytes events count used array array' room room' event c whole is many =
+    omega (arith, more_bytes events event used c whole.measured is, room_len events count used array array' room room' whole, many)
 
 -- the end of a list that is put back
 put_back : (used : ℕ) (room : List ℕ) → put_mid used (length room - used) room (mid_of used (length room - used) room) ≡ room
@@ -212,13 +194,13 @@ put_back used room =
     ap (λ (l : List ℕ). take used room ++ l) (take-append-drop (length room - used) (drop used room)) ∙ take-append-drop used room
 
 -- if there is room for all of them, all are written
-one_more_whole : (events : List Event) (count used : ℕ) (array array' : List CExtendedEvent) (room room' : List ℕ)
-    (event : Event) (shown : CExtendedEvent) (array'' : List CExtendedEvent) (room'' : List ℕ)
+one_more_whole : (events : List TimedEvent) (count used : ℕ) (array array' : List CEvent) (room room' : List ℕ)
+    (event : TimedEvent) (c : CEvent) (array'' : List CEvent) (room'' : List ℕ)
     → AreWhole events count used array array' room room' → AreWritten (events ++ event ∷ []) array array'' room room''
-    → shown ≡ c_extended_event event → shown.text_len ≤ length room' - used
-    → AreWhole (events ++ event ∷ []) (count + 1) (used + shown.text_len) array array'' room room''
-one_more_whole events count used array array' room room' event shown array'' room'' whole written is few =
-    let all = more_bytes events event used shown whole.measured is in
+    → c ≡ c_told event → c.text_len ≤ length room' - used
+    → AreWhole (events ++ event ∷ []) (count + 1) (used + c.text_len) array array'' room room''
+one_more_whole events count used array array' room room' event c array'' room'' whole written is few =
+    let all = more_bytes events event used c whole.measured is in
     let fits : length (joined_bytes (events ++ event ∷ [])) ≤ length room =
     omega (arith, all, room_len events count used array array' room room' whole, whole.measured, whole.fits, few) in
     record {
@@ -226,60 +208,72 @@ one_more_whole events count used array array' room room' event shown array'' roo
       measured = sym all;
       inside = written.inside;
       fits = fits;
-      shown = written.shown;
+      shown_there = written.shown_there;
       bytes = written.bytes ∙ sym (copied_whole (joined_bytes (events ++ event ∷ [])) room fits);
     }
 
-module _ (before : ExtendedAndText) (more : Bool) (array : List CExtendedEvent) (room : List ℕ) where
-  -- events were taken, and all of them are written with all of their bytes
-  abbrev pub WroteWhole : ℕ → ℕ → List CExtendedEvent → List ℕ → ExtendedAndText → Type 0
+module _ (before : ParserAndText) (array : List CEvent) (room : List ℕ) where
+  -- events were told, and all of them are written with all of their bytes
+  abbrev pub WroteWhole : ℕ → ℕ → List CEvent → List ℕ → ParserAndText → Type 0
   WroteWhole count used array' room' here =
-      (events : List Event) × TookAll before more events here × AreWhole events count used array array' room room'
+      (events : List TimedEvent) × TookAll before events here × AreWhole events count used array array' room room'
 
-  module _ (count used : ℕ) (array' : List CExtendedEvent) (room' : List ℕ) (here : ExtendedAndText) (wrote : WroteWhole count used array' room' here) where
+  module _ (count used : ℕ) (array' : List CEvent) (room' : List ℕ) (here : ParserAndText) (wrote : WroteWhole count used array' room' here) where
     -- it stops there
-    pub stopped : (answer : ℕ) → (answer ≡ 1 → length array ≤ count) → WroteEvents before more array array' room room' count answer here
-    stopped answer full =
-        let (events, took, whole) = wrote in
-        let counted = whole.counted in
-        let inside = whole.inside in (
+    stopped : (answer : ℕ) (after : ParserAndText) → ((events : List TimedEvent) → count ≡ length events → length events ≤ length array
+        → Stops events array room here answer after) → WroteEvents before array array' room room' count answer after
+    stopped answer after stops =
+        let (events, took, whole) = wrote in (
           events,
+          here,
           took,
-          counted,
+          whole.counted,
           whole_are_written events count used array array' room room' whole,
-          λ is. inl (let no_more = full is in omega arith),
+          stops events whole.counted whole.inside,
         )
 
-    -- it stops where no event is
-    pub stopped_there : (answer : ℕ) (next : ExtendedAndText) (part : List ℕ) → next ≡ here
-        → part ≡ mid_of used (length room' - used) room' → (answer ≡ 1 → length array ≤ count)
-        → WroteEvents before more array array' room (put_mid used (length room' - used) room' part) count answer next
-    stopped_there answer next part same same_part full =
-        rw (same, same_part, put_back used room') (stopped answer full)
+    -- since the array is full
+    pub stopped_full : length array ≤ count → WroteEvents before array array' room room' count 0 here
+    stopped_full no_more = stopped 0 here (λ events counted inside. full (inl (omega arith)))
 
-    module _ (shown : CExtendedEvent) (next : ExtendedAndText) (part : List ℕ) (inside : count < length array)
-        (took : TookWithBytes here more shown (mid_of used (length room' - used) room') part next) where
+    -- since all is told
+    pub stopped_told : (next : ParserAndText) (part : List ℕ) → Step here.parser AllTold next.parser → next.text ≡ here.text
+        → part ≡ mid_of used (length room' - used) room'
+        → WroteEvents before array array' room (put_mid used (length room' - used) room' part) count 1 next
+    stopped_told next part told text same =
+        rw (same, put_back used room') (stopped 1 next (λ events counted inside. all_told next told (ap (λ t. t.items) text)))
+
+    -- since memory is refused
+    pub stopped_refused : (next : ParserAndText) (part : List ℕ) → MeetsMemory here.parser → next ≡ here
+        → part ≡ mid_of used (length room' - used) room'
+        → WroteEvents before array array' room (put_mid used (length room' - used) room' part) count 2 next
+    stopped_refused next part meets same same_part =
+        rw (same, same_part, put_back used room') (stopped 2 here (λ events counted inside. refused meets))
+
+    module _ (c : CEvent) (next : ParserAndText) (part : List ℕ) (inside : count < length array)
+        (took : TookWithBytes here c (mid_of used (length room' - used) room') part next) where
       -- one more event
-      pub one_more_wrote : shown.text_len ≤ length room' - used
-          → WroteWhole (count + 1) (used + shown.text_len) (slice_set array' count shown) (put_mid used (length room' - used) room' part) next
+      pub one_more_wrote : c.text_len ≤ length room' - used
+          → WroteWhole (count + 1) (used + c.text_len) (slice_set array' count c) (put_mid used (length room' - used) room' part) next
       one_more_wrote few =
           let (events, taken, whole) = wrote in
-          let (event, step, is, text, reading, copy) = took in
-          let written = one_more_written events count used array array' room room' event shown part whole inside is copy in (
+          let (event, step, is, text, copy) = took in
+          let written = one_more_written events count used array array' room room' event c part whole inside is copy in (
             events ++ event ∷ [],
-            one_more_taken before here next more events event taken step text reading,
-            one_more_whole events count used array array' room room' event shown _ _ whole written is few,
+            one_more_taken before here next events event taken step text,
+            one_more_whole events count used array array' room room' event c _ _ whole written is few,
           )
 
       -- the last event, whose bytes are cut off
-      pub last_wrote : (answer : ℕ) → length room' - used < shown.text_len
-          → WroteEvents before more array (slice_set array' count shown) room (put_mid used (length room' - used) room' part) (count + 1) answer next
-      last_wrote answer many =
+      pub last_wrote : length room' - used < c.text_len
+          → WroteEvents before array (slice_set array' count c) room (put_mid used (length room' - used) room' part) (count + 1) 0 next
+      last_wrote many =
           let (events, taken, whole) = wrote in
-          let (event, step, is, text, reading, copy) = took in (
+          let (event, step, is, text, copy) = took in (
             events ++ event ∷ [],
-            one_more_taken before here next more events event taken step text reading,
+            next,
+            one_more_taken before here next events event taken step text,
             one_more_counted events event count whole.counted,
-            one_more_written events count used array array' room room' event shown part whole inside is copy,
-            λ _. inr (many_bytes events count used array array' room room' event shown whole is many),
+            one_more_written events count used array array' room room' event c part whole inside is copy,
+            full (inr (many_bytes events count used array array' room room' event c whole is many)),
           )

@@ -1,5 +1,5 @@
 -- What the calls do to bindings that C holds: to the map that their handle leads to, if there is one.
-use Rattle.std.specs.Prelude.{◌≡◌, ◌≤◌, ◌<◌, ℕ, List, length, Option, Some, None}
+use Rattle.std.specs.Prelude.{◌≡◌, ◌≢◌, ◌⊎◌, ◌≤◌, ◌<◌, ℕ, List, length, Option, Some, None}
 use Rattle.std.specs.FinMap as map
 use Rattle.termwiz_bindings.specs.declared.press.KeyPress.{KeyPress}
 use Rattle.termwiz_bindings.specs.Bindings.{AreContinuations, IsBindingAt, bound, find, unbound}
@@ -7,6 +7,7 @@ use Rattle.termwiz_bindings.specs.Matching.{IsContinued}
 use Rattle.hedrugal.specs.declared.chord_bindings.ChordBindings.{ChordBindings}
 use Rattle.hedrugal.specs.declared.press_calls.CKeyPress.{CKeyPress}
 use Rattle.hedrugal.specs.Chords.{AreOfChord, AreOfPresses, with_presses}
+use Rattle.hedrugal.specs.NameCalls.{HasChord, IsNoName}
 
 -- there are bindings, of no chord
 abbrev pub BindNothing : Option ChordBindings → Type 0
@@ -18,6 +19,16 @@ abbrev pub Binds : Option ChordBindings → List CKeyPress → ℕ → Option Ch
 Binds (Some before) keys value (Some after) =
     (ps : List KeyPress) × AreOfChord keys ps × (after.chords ≡ bound before.chords ps value)
 Binds _ keys value _ = ⊥
+
+-- the text is the name of a chord, which has this value, and each other chord the one that it had
+abbrev pub BindsName : Option ChordBindings → List ℕ → ℕ → Option ChordBindings → Type 0
+BindsName (Some before) text value (Some after) =
+    (ps : List KeyPress) × HasChord text ps × (after.chords ≡ bound before.chords ps value)
+BindsName _ text value _ = ⊥
+
+-- Why no chord has it: the text is no name, as the status and the place of what is wrong say; there are no bindings; or memory was refused.
+abbrev pub IsUnbound : Option ChordBindings → List ℕ → ℕ → ℕ → Type 0
+IsUnbound held text status at = IsNoName text status at ⊎ (((status ≡ 5) × (at ≡ 0) × (held ≡ None)) ⊎ ((status ≡ 2) × (at ≡ 0) × (held ≢ None)))
 
 -- the chord with these numbers has no value, and each other chord the one that it had
 abbrev pub Unbinds : Option ChordBindings → List CKeyPress → Option ChordBindings → Type 0

@@ -1,138 +1,112 @@
--- What the calls do to a parser that C holds: to the parser that its handle leads to, if there is one.
-use Rattle.std.specs.Prelude.{◌≡◌, ℕ, Bool, false, List, [], ◌∷◌, ◌++◌, take, drop, length, Option, Some, None, string_bytes}
-use Rattle.termwiz_input.specs.InputEvent.{InputEvent}
-use Rattle.termwiz_input.specs.InputEvent.TheVariants.{Paste}
-use Rattle.termwiz_input.specs.Grammar.{HasPaste, IsRest, Means, Steps}
-use Rattle.termwiz_input.specs.PasteParts.{HasPart, IsSkipped, IsTaken}
-use Rattle.termwiz_input.specs.PasteSearch.{IsPasteSoFar}
-use Rattle.termwiz_input.specs.Waiting.{Waiting}
-use Rattle.termwiz_input.specs.Waiting.TheVariants.{Nothing, Escape, Sequence, Character, Paste as OpenPaste}
-use Rattle.termwiz_input.specs.WaitingKinds.{IsKind, IsOneOrTwoEscapes, IsOpenPaste}
-use Rattle.termwiz_input.specs.Bytes.{Begins, START}
-use Rattle.hedrugal.specs.declared.parser_and_paste.ParserAndPaste.{ParserAndPaste}
+-- What the calls do to a parser that C holds: to the parser that its handle leads to, if there is one. Each is a step of a run of
+-- `termwiz_timed`.
+use Rattle.std.specs.Prelude.{◌≡◌, ◌⊎◌, ℕ, ℤ, negsuc, Bool, List, [], ◌++◌, take, drop, length, Option, Some, None}
+use Rattle.termwiz_grammar.specs.PasteParts.{IsSkipped}
+use Rattle.termwiz_grammar.specs.WaitingKinds.{IsOpenPaste}
+use Rattle.termwiz_extended_events.specs.declared.types.Dialect.{Dialect}
+use Rattle.termwiz_extended_grammar.specs.ExtendedGrammar.{IsRest}
+use Rattle.termwiz_extended_grammar.specs.ExtendedKinds.{IsKind}
+use Rattle.termwiz_extended_grammar.specs.declared.waiting.ExtendedWaiting.{ExtendedWaiting}
+use Rattle.termwiz_extended_grammar.specs.declared.waiting.ExtendedWaiting.TheVariants.{Nothing, Escape, Sequence, Character, Paste, String}
+use Rattle.termwiz_input_extended.specs.NextItems.{HasItemThatNeedsMemory}
+use Rattle.termwiz_timed.specs.declared.parser.Stage.TheVariants as stage
+use Rattle.termwiz_timed.specs.declared.parser.TimedEvent.{TimedEvent}
+use Rattle.termwiz_timed.specs.Steps.{Call, Step}
+use Rattle.termwiz_timed.specs.Steps.Call.{Told}
+use Rattle.termwiz_timed.specs.Timed.{Timed, IsFlushing, IsTimeout, more_comes, new_timed}
 use Rattle.hedrugal.specs.declared.events.CEvent.{CEvent}
-use Rattle.hedrugal.specs.Events.{c_event, c_part}
-
--- there is a parser, in which nothing is buffered, and which gave no paste
-abbrev pub IsFresh : Option ParserAndPaste → Type 0
-IsFresh (Some held) = (held.parser ≡ []) × (string_bytes held.pasted ≡ [])
-IsFresh None = ⊥
-
--- how many bytes are buffered; 0 without a parser
-abbrev pub waiting_len : Option ParserAndPaste → ℕ
-waiting_len (Some held) = length held.parser
-waiting_len None = 0
-
--- what is buffered begins with the start of a paste
-abbrev pub HasOpenPaste : Option ParserAndPaste → Type 0
-HasOpenPaste (Some held) = Begins START held.parser
-HasOpenPaste None = ⊥
-
--- the text of the last paste that was given; empty without a parser
-abbrev pub pasted : Option ParserAndPaste → List ℕ
-pasted (Some held) = string_bytes held.pasted
-pasted None = []
-
--- the bytes were buffered behind what was, and the text of the last paste stays
-abbrev pub Took : Option ParserAndPaste → List ℕ → Option ParserAndPaste → Type 0
-Took (Some before) bytes (Some after) =
-    (after.parser ≡ before.parser ++ bytes) × (string_bytes after.pasted ≡ string_bytes before.pasted)
-Took _ bytes _ = ⊥
-
--- the text of the last paste, after this event
-abbrev pub text_after : InputEvent → List ℕ → List ℕ
-text_after (Paste text) before = text
-text_after event before = before
-
--- the item at the front was taken, and this is its event
-abbrev pub Gave : Option ParserAndPaste → Bool → CEvent → Option ParserAndPaste → Type 0
-Gave (Some before) more shown (Some after) =
-    (event : InputEvent) × Steps before.parser more (event ∷ []) after.parser × (shown ≡ c_event event)
-    × (string_bytes after.pasted ≡ text_after event (string_bytes before.pasted))
-Gave _ more shown _ = ⊥
-
--- no item stands at the front of what is buffered
-abbrev pub Rests : Option ParserAndPaste → Bool → Type 0
-Rests (Some held) more = IsRest held.parser more
-Rests None more = ⊥
-
--- a paste stands at the front of what is buffered
-abbrev pub HasPasteNext : Option ParserAndPaste → Bool → Type 0
-HasPasteNext (Some held) more = HasPaste held.parser more
-HasPasteNext None more = ⊥
+use Rattle.hedrugal.specs.declared.parser_and_text.ParserAndText.{ParserAndText}
+use Rattle.hedrugal.specs.Events.{brought, c_told, dialect_number}
+use Rattle.hedrugal.specs.Limits.{c_millis}
 
 -- `out` with as much of the text as it has room for in place of its first bytes
 abbrev pub copied : List ℕ → List ℕ → List ℕ
 copied text out = take (length out) text ++ drop (length text) out
 
--- the number of a kind of what is buffered
-unfoldable pub waiting_number : Waiting → ℕ
+-- there is a new parser of the dialect with this number, and no event brought bytes
+abbrev pub IsFresh : Option ParserAndText → ℕ → Type 0
+IsFresh (Some held) number = (dialect : Dialect) × (dialect_number dialect ≡ number) × (held.parser ≡ new_timed dialect) × (held.text.items ≡ [])
+IsFresh None number = ⊥
+
+-- no dialect has this number
+abbrev pub IsNoDialect : ℕ → Type 0
+IsNoDialect number = (dialect : Dialect) → ¬ (dialect_number dialect ≡ number)
+
+-- If there is a parser, this was called, with this answer. The bytes of the event that was told last stay.
+abbrev pub Calls : Option ParserAndText → Call → Option ParserAndText → Type 0
+Calls (Some before) call (Some after) = Step before.parser call after.parser × (after.text.items ≡ before.text.items)
+Calls before call after = after ≡ before
+
+-- an event was told, which is this in numbers, and its bytes are kept
+abbrev pub Tells : Option ParserAndText → CEvent → Option ParserAndText → Type 0
+Tells (Some before) c (Some after) =
+    (event : TimedEvent) × Step before.parser (Told event) after.parser × (c ≡ c_told event) × (after.text.items ≡ brought event)
+Tells _ c _ = ⊥
+
+-- what is next may need memory: an open paste, or an item whose event holds some
+abbrev pub MeetsMemory : Timed → Type 0
+MeetsMemory parser = IsOpenPaste parser.text ⊎ HasItemThatNeedsMemory parser.reading parser.text (more_comes parser.stage)
+
+abbrev pub NeedsMemory : Option ParserAndText → Type 0
+NeedsMemory (Some held) = MeetsMemory held.parser
+NeedsMemory None = ⊥
+
+-- a flush isn't over
+abbrev pub HasFlush : Option ParserAndText → Type 0
+HasFlush (Some held) = IsFlushing held.parser.stage
+HasFlush None = ⊥
+
+-- all is told
+abbrev pub HasTold : Option ParserAndText → Type 0
+HasTold (Some held) = held.parser.stage ≡ stage.AllTold
+HasTold None = ⊥
+
+-- so many milliseconds may be waited, and -1 is for ever
+abbrev pub IsMillis : Option ParserAndText → ℕ → ℤ → Type 0
+IsMillis (Some held) now answer = (left : Option ℕ) × IsTimeout held.parser now left × (answer ≡ c_millis left)
+IsMillis None now answer = answer ≡ negsuc 0
+
+-- how many bytes are buffered; 0 without a parser
+abbrev pub waiting_len : Option ParserAndText → ℕ
+waiting_len (Some held) = length held.parser.text
+waiting_len None = 0
+
+-- the bytes of the event that was told last; none without a parser
+abbrev pub kept : Option ParserAndText → List ℕ
+kept (Some held) = held.text.items
+kept None = []
+
+-- a paste without an end is buffered, and no more than it
+abbrev pub HasOpenPaste : Option ParserAndText → Type 0
+HasOpenPaste (Some held) = IsOpenPaste held.parser.text
+HasOpenPaste None = ⊥
+
+-- so many bytes of the open paste are forgotten
+abbrev pub HasSkipped : Option ParserAndText → ℕ → Option ParserAndText → Type 0
+HasSkipped (Some before) count (Some after) = IsSkipped before.parser.text count after.parser.text
+HasSkipped _ count _ = ⊥
+
+-- the number of a kind of what stays buffered
+unfoldable pub waiting_number : ExtendedWaiting → ℕ
 waiting_number Nothing = 0
 waiting_number Escape = 1
 waiting_number Sequence = 2
 waiting_number Character = 3
-waiting_number OpenPaste = 4
+waiting_number Paste = 4
+waiting_number String = 5
 
 -- a rest that is buffered is of the kind with this number; 0 without a parser
-abbrev pub HasKind : Option ParserAndPaste → ℕ → Type 0
-HasKind (Some held) number = (kind : Waiting) × (number ≡ waiting_number kind)
-    × ((more : Bool) → IsRest held.parser more → IsKind held.parser more kind)
+abbrev pub HasKind : Option ParserAndText → ℕ → Type 0
+HasKind (Some held) number = (kind : ExtendedWaiting) × (number ≡ waiting_number kind) × ((more : Bool)
+    → IsRest held.parser.reading held.parser.text more → IsKind held.parser.reading held.parser.text more kind)
 HasKind None number = number ≡ 0
 
--- ESC or ESC ESC is buffered
-abbrev pub HasEscape : Option ParserAndPaste → Type 0
-HasEscape (Some held) = IsOneOrTwoEscapes held.parser
-HasEscape None = ⊥
+-- the bytes of the event that was told last are forgotten, and nothing else changed
+abbrev pub HasDroppedText : Option ParserAndText → Option ParserAndText → Type 0
+HasDroppedText (Some before) (Some after) = (after.parser ≡ before.parser) × (after.text.items ≡ [])
+HasDroppedText before after = after ≡ before
 
--- what was buffered is this event, with no more to come
-abbrev pub Flushed : Option ParserAndPaste → CEvent → Option ParserAndPaste → Type 0
-Flushed (Some before) shown (Some after) =
-    (event : InputEvent) × Means before.parser false (event ∷ []) after.parser × (shown ≡ c_event event)
-    × (string_bytes after.pasted ≡ string_bytes before.pasted)
-Flushed _ shown _ = ⊥
-
--- a paste without an end is buffered, and no more than it
-abbrev pub HasEndlessPaste : Option ParserAndPaste → Type 0
-HasEndlessPaste (Some held) = IsOpenPaste held.parser
-HasEndlessPaste None = ⊥
-
--- the open paste was ended, and this is its event
-abbrev pub Ended : Option ParserAndPaste → CEvent → Option ParserAndPaste → Type 0
-Ended (Some before) shown (Some after) =
-    (event : InputEvent) × IsPasteSoFar before.parser event × (after.parser ≡ []) × (shown ≡ c_event event)
-    × (string_bytes after.pasted ≡ text_after event (string_bytes before.pasted))
-Ended _ shown _ = ⊥
-
--- an open paste is buffered, of which a part can be taken under this limit
-abbrev pub HasPartOfPaste : Option ParserAndPaste → ℕ → Type 0
-HasPartOfPaste (Some held) limit = HasPart held.parser limit
-HasPartOfPaste None limit = ⊥
-
--- that part was taken, this is its event, and its text is kept
-abbrev pub TookPart : Option ParserAndPaste → ℕ → CEvent → Option ParserAndPaste → Type 0
-TookPart (Some before) limit shown (Some after) =
-    (text : List ℕ) × IsTaken before.parser limit text after.parser × (shown ≡ c_part text)
-    × (string_bytes after.pasted ≡ text)
-TookPart _ limit shown _ = ⊥
-
--- so many bytes of the open paste are forgotten, and the text of the last paste stays
-abbrev pub Skipped : Option ParserAndPaste → ℕ → Option ParserAndPaste → Type 0
-Skipped (Some before) count (Some after) =
-    IsSkipped before.parser count after.parser × (string_bytes after.pasted ≡ string_bytes before.pasted)
-Skipped _ count _ = ⊥
-
--- what was buffered is forgotten, and the text of the last paste stays
-abbrev pub IsReset : Option ParserAndPaste → Option ParserAndPaste → Type 0
-IsReset (Some before) (Some after) = (after.parser ≡ []) × (string_bytes after.pasted ≡ string_bytes before.pasted)
-IsReset before after = after ≡ before
-
--- the text of the last paste is forgotten, and what is buffered stays
-abbrev pub HasDroppedPaste : Option ParserAndPaste → Option ParserAndPaste → Type 0
-HasDroppedPaste (Some before) (Some after) = (after.parser ≡ before.parser) × (string_bytes after.pasted ≡ [])
-HasDroppedPaste before after = after ≡ before
-
--- what is buffered and the text of the last paste are as they were
-abbrev pub IsUnchanged : Option ParserAndPaste → Option ParserAndPaste → Type 0
-IsUnchanged (Some before) (Some after) =
-    (after.parser ≡ before.parser) × (string_bytes after.pasted ≡ string_bytes before.pasted)
+-- the parser and those bytes are as they were
+abbrev pub IsUnchanged : Option ParserAndText → Option ParserAndText → Type 0
+IsUnchanged (Some before) (Some after) = (after.parser ≡ before.parser) × (after.text.items ≡ before.text.items)
 IsUnchanged before after = after ≡ before

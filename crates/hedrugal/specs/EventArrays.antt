@@ -1,56 +1,65 @@
--- What the call that writes events to an array does to an extended parser that C holds.
-use Rattle.std.specs.Prelude.{◌≡◌, ◌⊎◌, ◌≤◌, ◌<◌, ◌-◌, ℕ, Bool, List, [], ◌∷◌, ◌++◌, length, take, drop, map, Option, Some}
-use Rattle.termwiz_extended_events.specs.declared.types.Event.{Event}
-use Rattle.termwiz_extended_grammar.specs.ExtendedGrammar.{Steps}
-use Rattle.termwiz_extended_grammar.specs.Readings.{after_event, after_events}
-use Rattle.hedrugal.specs.declared.extended_and_text.ExtendedAndText.{ExtendedAndText}
-use Rattle.hedrugal.specs.declared.extended_events.CExtendedEvent.{CExtendedEvent}
-use Rattle.hedrugal.specs.Calls.{copied}
-use Rattle.hedrugal.specs.ExtendedCalls.{text_after}
-use Rattle.hedrugal.specs.ExtendedEvents.{bytes_of, c_extended_event}
+-- What the call that writes events to an array does to a parser that C holds.
+use Rattle.std.specs.Prelude.{◌≡◌, ◌⊎◌, ◌≤◌, ◌<◌, ◌-◌, ℕ, List, [], ◌∷◌, ◌++◌, length, take, drop, map, Option, Some}
+use Rattle.termwiz_timed.specs.declared.parser.TimedEvent.{TimedEvent}
+use Rattle.termwiz_timed.specs.Steps.{Step}
+use Rattle.termwiz_timed.specs.Steps.Call.{AllTold, Told}
+use Rattle.termwiz_timed.specs.Timed.{Timed}
+use Rattle.hedrugal.specs.declared.events.CEvent.{CEvent}
+use Rattle.hedrugal.specs.declared.parser_and_text.ParserAndText.{ParserAndText}
+use Rattle.hedrugal.specs.Calls.{MeetsMemory, copied}
+use Rattle.hedrugal.specs.Events.{brought, c_told}
+
+-- these events were told, one after another
+abbrev pub TellsAll : Timed → List TimedEvent → Timed → Type 0
+TellsAll before [] after = after ≡ before
+TellsAll before (event ∷ events) after = (between : Timed) × Step before (Told event) between × TellsAll between events after
 
 -- the bytes that events bring, one after another
-abbrev pub joined_bytes : List Event → List ℕ
+abbrev pub joined_bytes : List TimedEvent → List ℕ
 joined_bytes [] = []
-joined_bytes (event ∷ events) = bytes_of event ++ joined_bytes events
+joined_bytes (event ∷ events) = brought event ++ joined_bytes events
 
--- the bytes of the last event that brought bytes, after these events
-abbrev pub text_after_all : List Event → List ℕ → List ℕ
+-- the bytes of the event that was told last, after these events
+abbrev pub text_after_all : List TimedEvent → List ℕ → List ℕ
 text_after_all [] before = before
-text_after_all (event ∷ events) before = text_after_all events (text_after event before)
+text_after_all (event ∷ events) before = text_after_all events (brought event)
 
--- The items of these events were taken, one after another. The parser is what it is once each was taken by itself.
-pub record TookAll (before : ExtendedAndText) (more : Bool) (events : List Event) (after : ExtendedAndText) : Type 0 where
-  pub steps : Steps before.parser.reading before.parser.text more events after.parser.text
-  pub reading : after.parser.reading ≡ after_events before.parser.reading events
+-- These events were told, and the parser is what it is once each was told by itself.
+pub record TookAll (before : ParserAndText) (events : List TimedEvent) (after : ParserAndText) : Type 0 where
+  pub steps : TellsAll before.parser events after.parser
   pub text : after.text.items ≡ text_after_all events before.text.items
 
 -- The events stand at the front of the array, and their bytes, one after another, at the front of the room for them: all bytes of all events
 -- but the last, and of the last as many as there is room for.
-pub record AreWritten (events : List Event) (array array' : List CExtendedEvent) (room room' : List ℕ) : Type 0 where
+pub record AreWritten (events : List TimedEvent) (array array' : List CEvent) (room room' : List ℕ) : Type 0 where
   pub inside : length events ≤ length array
-  pub shown : array' ≡ map c_extended_event events ++ drop (length events) array
+  pub shown_there : array' ≡ map c_told events ++ drop (length events) array
   pub bytes : room' ≡ copied (joined_bytes events) room
   pub whole : length (joined_bytes (take (length events - 1) events)) ≤ length room
 
 -- the array is full, or bytes of the last event have no room
-abbrev pub IsFull : List Event → List CExtendedEvent → List ℕ → Type 0
+abbrev pub IsFull : List TimedEvent → List CEvent → List ℕ → Type 0
 IsFull events array room = (length events ≡ length array) ⊎ (length room < length (joined_bytes events))
 
--- one event was taken, this is it in numbers, and as many of its bytes were copied as there was room for
-abbrev pub TookWithBytes : ExtendedAndText → Bool → CExtendedEvent → List ℕ → List ℕ → ExtendedAndText → Type 0
-TookWithBytes before more shown room room' after = (event : Event)
-    × Steps before.parser.reading before.parser.text more (event ∷ []) after.parser.text × (shown ≡ c_extended_event event)
-    × (after.text.items ≡ text_after event before.text.items) × (after.parser.reading ≡ after_event before.parser.reading event)
-    × (room' ≡ copied (bytes_of event) room)
+-- After these events, with this answer: there is no room for a further one; all is told; or memory was refused for the next one.
+pub data Stops (events : List TimedEvent) (array : List CEvent) (room : List ℕ) (last : ParserAndText) : ℕ → ParserAndText → Type 0 where
+  full : IsFull events array room → Stops events array room last 0 last
+  all_told : (after : ParserAndText) → Step last.parser AllTold after.parser → after.text.items ≡ last.text.items
+      → Stops events array room last 1 after
+  refused : MeetsMemory last.parser → Stops events array room last 2 last
 
--- So many events were taken and written. The answer is 1 only if there is no room for a further one.
-abbrev pub WroteEvents : ExtendedAndText → Bool → List CExtendedEvent → List CExtendedEvent → List ℕ → List ℕ → ℕ → ℕ → ExtendedAndText → Type 0
-WroteEvents before more array array' room room' count answer after = (events : List Event) × TookAll before more events after
-    × (count ≡ length events) × AreWritten events array array' room room' × (answer ≡ 1 → IsFull events array room)
+-- one event was told, this is it in numbers, and as many of its bytes were copied as there was room for
+abbrev pub TookWithBytes : ParserAndText → CEvent → List ℕ → List ℕ → ParserAndText → Type 0
+TookWithBytes before c room room' after = (event : TimedEvent) × Step before.parser (Told event) after.parser × (c ≡ c_told event)
+    × (after.text.items ≡ brought event) × (room' ≡ copied (brought event) room)
+
+-- so many events were told and written, and then it stops
+abbrev pub WroteEvents : ParserAndText → List CEvent → List CEvent → List ℕ → List ℕ → ℕ → ℕ → ParserAndText → Type 0
+WroteEvents before array array' room room' count answer after = (events : List TimedEvent) × (last : ParserAndText)
+    × TookAll before events last × (count ≡ length events) × AreWritten events array array' room room'
+    × Stops events array room last answer after
 
 -- the same of a parser that C holds
-abbrev pub Wrote : Option ExtendedAndText → Bool → List CExtendedEvent → List CExtendedEvent → List ℕ → List ℕ → ℕ → ℕ
-    → Option ExtendedAndText → Type 0
-Wrote (Some before) more array array' room room' count answer (Some after) = WroteEvents before more array array' room room' count answer after
-Wrote _ more array array' room room' count answer _ = ⊥
+abbrev pub Wrote : Option ParserAndText → List CEvent → List CEvent → List ℕ → List ℕ → ℕ → ℕ → Option ParserAndText → Type 0
+Wrote (Some before) array array' room room' count answer (Some after) = WroteEvents before array array' room room' count answer after
+Wrote _ array array' room room' count answer _ = ⊥

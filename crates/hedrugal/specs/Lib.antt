@@ -5,9 +5,6 @@ pub mod EntryCalls
 pub mod EventArrays
 pub mod EventCalls
 pub mod Events
-pub mod ExtendedCalls
-pub mod ExtendedEvents
-pub mod ExtendedTimings
 pub mod KeymapCalls
 pub mod Keys
 pub mod KittyCalls
@@ -23,5 +20,4 @@ pub mod ReadingCalls
 pub mod Replies
 pub mod SenderCalls
 pub mod TimerCalls
-pub mod Timings
 pub mod Views

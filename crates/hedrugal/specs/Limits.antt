@@ -1,19 +1,9 @@
--- Limits in time as C has them.
+-- Limits in time, and that of parts, as C has them.
 use Rattle.std.specs.Ordering.{int_eq}
-use Rattle.std.specs.Prelude.{ℕ, ℤ, pos, negsuc, min, int_lt, unsigned_abs, not, ◌&&◌, Bool, false, Option, Some, None, if◌then◌else◌}
+use Rattle.std.specs.Prelude.{ℕ, ℤ, ◌==◌, ◌||◌, pos, negsuc, min, int_lt, unsigned_abs, Bool, Option, Some, None, if◌then◌else◌}
 use Rattle.termwiz_input.specs.declared.time.Policy.{Policy}
-use Rattle.termwiz_input.specs.Time.{new_timer, usual}
-use Rattle.hedrugal.specs.declared.timing.CPolicy.{CPolicy}
-use Rattle.hedrugal.specs.declared.timing.Since.{Since}
-use Rattle.hedrugal.specs.declared.timing.Timing.{Timing}
-
--- the usual limits, and a timer that was told nothing
-abbrev pub fresh : Timing
-fresh = record { policy = usual; timer = new_timer }
-
--- nothing happened since the last note
-abbrev pub nothing_since : Since
-nothing_since = record { fed = false; taken = false; expiring = false }
+use Rattle.termwiz_input.specs.Time.{usual}
+use Rattle.hedrugal.specs.declared.policy.CPolicy.{CPolicy}
 
 -- a limit in milliseconds; none for a negative number
 abbrev pub limit_in : ℤ → Option ℕ
@@ -34,11 +24,19 @@ limits_in numbers = record {
   paste = limit_or_usual numbers.paste usual.paste;
 }
 
+-- the limit, with a millisecond for each byte of a string, may have more than 31 bits
+abbrev pub is_long : ℤ → Bool
+is_long millis = int_lt (pos 2147418111) millis
+
+abbrev pub has_long_limit : CPolicy → Bool
+has_long_limit numbers = is_long numbers.escape || (is_long numbers.alt_key || (is_long numbers.sequence || (is_long numbers.string
+    || (is_long numbers.character || is_long numbers.paste))))
+
 -- milliseconds for poll: at most those of 31 bits, and -1 for ever
 abbrev pub c_millis : Option ℕ → ℤ
 c_millis (Some millis) = pos (min millis 0x7FFF_FFFF)
 c_millis None = negsuc 0
 
--- milliseconds that what is buffered may still wait: none while a flush goes on and something is buffered, else what is left of its limit
-abbrev pub millis_left : (expiring empty : Bool) → Option ℕ → ℤ
-millis_left expiring empty left = if expiring && not empty then pos 0 else c_millis left
+-- the limit of parts with this number; none for the largest
+abbrev pub parts_in : ℕ → Option ℕ
+parts_in limit = if limit == 0xFFFF_FFFF_FFFF_FFFF then None else Some limit

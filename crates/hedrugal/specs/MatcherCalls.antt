@@ -54,8 +54,8 @@ PressedEither None before keys after = ⊥
 
 -- an outcome in numbers
 abbrev pub c_outcome : Outcome ℕ → COutcome
-c_outcome (Bound keys value) = record { keys = keys; value = value; press = record { key = 0; held = 0; detail = 0 } }
-c_outcome (Unbound p) = record { keys = 1; value = 0; press = c_press p }
+c_outcome (Bound keys value) = record { keys = keys; value = value; press = record { key = 0; held = 0; detail = 0 }; kind = 1 }
+c_outcome (Unbound p) = record { keys = 1; value = 0; press = c_press p; kind = 2 }
 
 -- the item at the front was taken, and this is its outcome
 abbrev pub Takes : Option ChordBindings → Bool → CMatcher → Outcome ℕ → CMatcher → Type 0
@@ -64,15 +64,9 @@ Takes (Some held) more before outcome after =
     × Steps (find held.chords) more ps (outcome ∷ []) left
 Takes None more before outcome after = ⊥
 
--- a chord was pressed
-abbrev pub TakesBound : Option ChordBindings → Bool → CMatcher → COutcome → CMatcher → Type 0
-TakesBound held more before out after =
-    (keys value : ℕ) × Takes held more before (Bound keys value) after × (out ≡ c_outcome (Bound keys value))
-
--- a press begins no chord
-abbrev pub TakesUnbound : Option ChordBindings → Bool → CMatcher → COutcome → CMatcher → Type 0
-TakesUnbound held more before out after =
-    (p : KeyPress) × Takes held more before (Unbound p) after × (out ≡ c_outcome (Unbound p))
+-- it was taken, and this is its outcome in numbers
+abbrev pub TakesFirst : Option ChordBindings → Bool → CMatcher → COutcome → CMatcher → Type 0
+TakesFirst held more before out after = (outcome : Outcome ℕ) × Takes held more before outcome after × (out ≡ c_outcome outcome)
 
 -- what is pending is nothing, or more may come and it may yet become a longer chord
 abbrev pub Waits : Option ChordBindings → Bool → CMatcher → Type 0
@@ -85,11 +79,9 @@ Decides (Some held) m outcome =
     (ps left : List KeyPress) × Holds m ps × Steps (find held.chords) false ps (outcome ∷ []) left
 Decides None m outcome = ⊥
 
-abbrev pub DecidesBound : Option ChordBindings → CMatcher → COutcome → Type 0
-DecidesBound held m out = (keys value : ℕ) × Decides held m (Bound keys value) × (out ≡ c_outcome (Bound keys value))
-
-abbrev pub DecidesUnbound : Option ChordBindings → CMatcher → COutcome → Type 0
-DecidesUnbound held m out = (p : KeyPress) × Decides held m (Unbound p) × (out ≡ c_outcome (Unbound p))
+-- and this is it in numbers
+abbrev pub DecidesFirst : Option ChordBindings → CMatcher → COutcome → Type 0
+DecidesFirst held m out = (outcome : Outcome ℕ) × Decides held m outcome × (out ≡ c_outcome outcome)
 
 -- there are bindings, and what is pending is a mistake of several presses
 abbrev pub HasDeadEnd : Option ChordBindings → CMatcher → Type 0

@@ -1,7 +1,5 @@
 -- What the numbers of a mouse report stand for, and what a terminal sends for it and for a pasted text.
-use Rattle.std.specs.Prelude.{◌≡◌, ℕ, ◌==◌, Bool, List, length, Option, Some, None, option_map, option_and_then, if◌then◌else◌}
-use Rattle.std.specs.Int.RustNames.{bit_and}
-use Rattle.termwiz_base.specs.Modifiers as modifiers
+use Rattle.std.specs.Prelude.{◌≡◌, ℕ, ◌==◌, ◌*◌, nat_le, Bool, List, length, Option, Some, None, option_map, option_and_then, if◌then◌else◌}
 use Rattle.termwiz_base.specs.declared.modifiers.Modifiers.{Modifiers}
 use Rattle.termwiz_base.specs.declared.mouse.MouseButton.{MouseButton}
 use Rattle.termwiz_base.specs.declared.mouse.MouseButton.TheVariants as button
@@ -13,7 +11,7 @@ use Rattle.termwiz_senders.specs.declared.mouse.MouseEncoding.TheVariants.{Defau
 use Rattle.termwiz_senders.specs.declared.mouse.MouseTracking.{MouseTracking}
 use Rattle.termwiz_senders.specs.declared.mouse.MouseTracking.TheVariants.{X10, Normal, Button, Any}
 use Rattle.hedrugal.specs.declared.sender_calls.Asked.{Asked}
-use Rattle.hedrugal.specs.declared.sender_calls.CMouseReport.{CMouseReport}
+use Rattle.hedrugal.specs.declared.sender_calls.CSentMouse.{CSentMouse}
 use Rattle.hedrugal.specs.Calls.{copied}
 
 -- what happened to which button, by its number
@@ -39,9 +37,9 @@ button_in number =
     else (if number == 17 then Some button.Button3Drag
     else None)))))))))))))))))
 
--- the modifiers of these bits; none if a bit has no name
+-- the modifiers of these bits of Kitty's, of which those of the port are twice; none if there are others than SHIFT, ALT, CTRL and SUPER
 abbrev pub modifiers_in : ℕ → Option Modifiers
-modifiers_in bits = if bit_and modifiers.every_flag bits == bits then Some (record { 0 = bits }) else None
+modifiers_in bits = if nat_le bits 15 then Some (record { 0 = 2 * bits }) else None
 
 -- which reports a program asked for, by its number
 abbrev pub tracking_in : ℕ → Option MouseTracking
@@ -61,7 +59,7 @@ encoding_in number =
     else None))
 
 -- what numbers ask to be sent; none if one of them names nothing
-abbrev pub asked_in : CMouseReport → ℕ → ℕ → Option Asked
+abbrev pub asked_in : CSentMouse → ℕ → ℕ → Option Asked
 asked_in numbers tracking encoding =
     option_and_then (λ b. option_and_then (λ held. option_and_then (λ by. option_map (λ how. record {
       report = SGR1006 numbers.x numbers.y b held;
@@ -74,13 +72,13 @@ abbrev pub asked_text : Asked → Option (List ℕ)
 asked_text asked = mouse_text asked.report asked.tracking asked.encoding
 
 -- the report is sent so: `out` has as much of the bytes as it has room for, and `len` is how many they are
-abbrev pub WroteMouse : CMouseReport → ℕ → ℕ → List ℕ → List ℕ → ℕ → Type 0
+abbrev pub WroteMouse : CSentMouse → ℕ → ℕ → List ℕ → List ℕ → ℕ → Type 0
 WroteMouse numbers tracking encoding before after len =
     (asked : Asked) × (sent : List ℕ) × (asked_in numbers tracking encoding ≡ Some asked) × (asked_text asked ≡ Some sent)
     × (len ≡ length sent) × (after ≡ copied sent before)
 
 -- the encoding can't tell the place
-abbrev pub IsTooFar : CMouseReport → ℕ → ℕ → Type 0
+abbrev pub IsTooFar : CSentMouse → ℕ → ℕ → Type 0
 IsTooFar numbers tracking encoding =
     (asked : Asked) × (asked_in numbers tracking encoding ≡ Some asked) × (asked_text asked ≡ None)
 

@@ -1,15 +1,17 @@
 // The calls that show the sequence table.
-ghost use Rattle.std.specs.Prelude.{◌≡◌, ◌≢◌, ◌↔◌, ℕ, List, length, true, false, None};
-ghost use Rattle.termwiz_input.specs.InputEvent.TheVariants.{Key};
+ghost use Rattle.std.specs.Prelude.{◌≡◌, ◌≢◌, ◌↔◌, ◌⊎◌, ℕ, List, length, None};
 ghost use Rattle.termwiz_input.specs.KeyEvent.{KeyEvent};
-ghost use Rattle.termwiz_input.specs.RowsInOrder.{IsRowAt};
+ghost use Rattle.termwiz_grammar.specs.RowsInOrder.{IsRowAt};
+ghost use Rattle.termwiz_extended_events.specs.declared.types.Event.TheVariants.{Key};
+ghost use Rattle.termwiz_extended_events.specs.PortEvents.{pressed_key};
 ghost use Rattle.hedrugal.specs.Calls.{copied};
 ghost use Rattle.hedrugal.specs.Events.{c_event};
 ghost use Rattle.hedrugal.specs.EntryCalls.{AreToComplete, IsNoRow};
-ghost use Rattle.hedrugal.specs.Timings.{KeepsTime};
 
 use crate::events::CEvent;
 use crate::handles::ParserHandle;
+use crate::status::{NOT_INITIALIZED, OK};
+use std::alloc::Global;
 
 /// `hed_entries`: some rows of the sequence table, one after another.
 #[repr(C)]
@@ -27,6 +29,7 @@ pub struct CEntries {
 /// returns how many bytes the row has. From the number of rows on, or if there is no parser, the answer is 0 and nothing changes.
 #[unsafe(no_mangle)]
 pub extern "C" fn hed_parser_entry(
+    alloc: Global,
     parser: &mut ParserHandle,
     place: usize,
     bytes: &mut [u8],
@@ -37,32 +40,31 @@ pub extern "C" fn hed_parser_entry(
     ensures bytes { (row : List ℕ) (key : KeyEvent) → parser.old.state.held ≢ None → IsRowAt place row key
         → bytes.new ≡ copied row bytes.old }
     ensures event { (row : List ℕ) (key : KeyEvent) → parser.old.state.held ≢ None → IsRowAt place row key
-        → event.new ≡ c_event (Key key) }
+        → event.new ≡ c_event (Key (pressed_key key)) }
     ensures none { IsNoRow parser.old.state.held place → result ≡ 0 }
     ensures bytes_same { IsNoRow parser.old.state.held place → bytes.new ≡ bytes.old }
     ensures event_same { IsNoRow parser.old.state.held place → event.new ≡ event.old }
-    ensures time { KeepsTime parser.old parser.new }
 {
     let Some(held) = parser.get_mut() else {
         return 0;
     };
-    held.copy_row(place, bytes, event)
+    held.copy_row(alloc, place, bytes, event)
 }
 
 /// Tells which rows would complete what is buffered: those that begin with it and are longer. If there are none, those that begin with
 /// what follows its ESC, and their keys get ALT. Only the start of a paste gets none: it opens a paste, and the ESC before it is the Escape
-/// key. If there is no parser, the answer is false and `rows` is unchanged.
+/// key.
 #[unsafe(no_mangle)]
-pub extern "C" fn hed_parser_completions(parser: &mut ParserHandle, rows: &mut CEntries) -> bool
+pub extern "C" fn hed_parser_completions(parser: &mut ParserHandle, rows: &mut CEntries) -> u32
+    ensures answers { (result ≡ OK) ⊎ (result ≡ NOT_INITIALIZED) }
+    ensures some { result ≡ OK → AreToComplete parser.old.state.held rows.new }
+    ensures no_parser { result ≡ NOT_INITIALIZED ↔ (parser.old.state.held ≡ None) }
+    ensures rows_same { result ≢ OK → rows.new ≡ rows.old }
     ensures same { parser.new.state ≡ parser.old.state }
-    ensures some { result ≡ true → AreToComplete parser.old.state.held rows.new }
-    ensures no_parser { result ≡ false ↔ (parser.old.state.held ≡ None) }
-    ensures rows_same { result ≡ false → rows.new ≡ rows.old }
-    ensures time { KeepsTime parser.old parser.new }
 {
     let Some(held) = parser.get_mut() else {
-        return false;
+        return NOT_INITIALIZED;
     };
     *rows = held.completions();
-    true
+    OK
 }

@@ -1,18 +1,15 @@
-// The call that writes events of the extended parser to an array, and their bytes to one place.
-ghost use Rattle.std.specs.Prelude.{◌≡◌, ◌≢◌, ◌≤◌, ◌<◌, ◌↔◌, None, IfOk, IfSome, IfNone, OnErr};
-ghost use Rattle.termwiz_extended_grammar.specs.ExtendedGrammar.{IsRest};
-ghost use Rattle.termwiz_input_extended.specs.NextItems.{HasItemThatNeedsMemory};
+// The call that writes events to an array, and their bytes to one place.
+ghost use Rattle.std.specs.Prelude.{◌≡◌, ◌≢◌, ◌≤◌, ◌↔◌, ◌⊎◌, None, IfOk, IfSome, IfNone, OnErr};
+ghost use Rattle.termwiz_timed.specs.Steps.{Step};
+ghost use Rattle.termwiz_timed.specs.Steps.Call.{AllTold};
+ghost use Rattle.hedrugal.specs.Calls.{MeetsMemory};
 ghost use Rattle.hedrugal.specs.EventArrays.{TookWithBytes, Wrote, WroteEvents};
-ghost use Rattle.hedrugal.specs.ExtendedCalls.{NeedsMemoryNext, Rests};
-ghost use Rattle.hedrugal.specs.ExtendedTimings.{KeepsTime, TakesEvent};
-ghost use Rattle.hedrugal.specs.Timings.{after_event};
 
 use crate::copying::copy_prefix;
-use crate::extended_and_text::ExtendedAndText;
-use crate::extended_events::CExtendedEvent;
-use crate::handles::ExtendedHandle;
-use crate::timing::Since;
-use crate::{NEXT_EVENT, NEXT_NO_MEMORY, NEXT_NO_PARSER, NEXT_NONE};
+use crate::events::{CEvent, NO_EVENT};
+use crate::handles::ParserHandle;
+use crate::parser_and_text::ParserAndText;
+use crate::status::{NO_MEMORY, NONE, NOT_INITIALIZED, OK};
 use std::alloc::AllocError;
 
 // How many events were written, and the answer to the last that was asked for.
@@ -23,22 +20,19 @@ struct Written {
 }
 
 // The next event, as C has it. As many of its bytes are copied as `room` has room for.
-fn next_with_bytes(
-    held: &mut ExtendedAndText,
-    more: bool,
-    room: &mut [u8],
-) -> Result<Option<CExtendedEvent>, AllocError>
-    ensures event { IfOk result (λ found. IfSome found (λ shown. TookWithBytes held.old more shown room.old room.new held.new)) }
-    ensures none { IfOk result (λ found. IfNone found (IsRest held.old.parser.reading held.old.parser.text more)) }
-    ensures none_same { IfOk result (λ found. IfNone found (held.new ≡ held.old)) }
+fn next_with_bytes(held: &mut ParserAndText, room: &mut [u8]) -> Result<Option<CEvent>, AllocError>
+    ensures event { IfOk result (λ found. IfSome found (λ c. TookWithBytes held.old c room.old room.new held.new)) }
+    ensures all_told { IfOk result (λ found. IfNone found (Step held.old.parser AllTold held.new.parser)) }
+    ensures none_text { IfOk result (λ found. IfNone found (held.new.text ≡ held.old.text)) }
     ensures none_room { IfOk result (λ found. IfNone found (room.new ≡ room.old)) }
-    ensures refused { OnErr result (HasItemThatNeedsMemory held.old.parser.reading held.old.parser.text more) }
+    ensures refused { OnErr result (MeetsMemory held.old.parser) }
     ensures refused_same { OnErr result (held.new ≡ held.old) }
     ensures refused_room { OnErr result (room.new ≡ room.old) }
 {
-    let Some(shown) = held.next(more)? else {
+    let mut shown = NO_EVENT;
+    if !held.next(&mut shown)? {
         return Ok(None);
-    };
+    }
     if shown.text_len > 0 {
         copy_prefix(held.text.as_slice(), room);
     }
@@ -46,95 +40,64 @@ fn next_with_bytes(
 }
 
 // Writes events to the array, and their bytes one after another to `room`, up to the first event whose bytes don't fit.
-fn write_events(
-    held: &mut ExtendedAndText,
-    more: bool,
-    events: &mut [CExtendedEvent],
-    room: &mut [u8],
-) -> Written
+fn write_events(held: &mut ParserAndText, events: &mut [CEvent], room: &mut [u8]) -> Written
     ensures answers { result.answer ≤ 2 }
-    ensures written { WroteEvents held.old more events.old events.new room.old room.new result.count result.answer held.new }
-    ensures none { result.answer ≡ NEXT_NONE → IsRest held.new.parser.reading held.new.parser.text more }
-    ensures refused { result.answer ≡ NEXT_NO_MEMORY → HasItemThatNeedsMemory held.new.parser.reading held.new.parser.text more }
+    ensures written { WroteEvents held.old events.old events.new room.old room.new result.count result.answer held.new }
 {
     let mut count = 0;
     let mut used = 0;
     while count < events.len() {
         let left = room.len() - used;
-        match next_with_bytes(held, more, &mut room[used..]) {
+        match next_with_bytes(held, &mut room[used..]) {
             Ok(Some(shown)) => {
                 events[count] = shown;
                 count += 1;
                 if shown.text_len > left {
-                    return Written {
-                        count,
-                        answer: NEXT_EVENT,
-                    };
+                    return Written { count, answer: OK };
                 }
                 used += shown.text_len;
             }
             Ok(None) => {
                 return Written {
                     count,
-                    answer: NEXT_NONE,
+                    answer: NONE,
                 };
             }
             Err(_) => {
                 return Written {
                     count,
-                    answer: NEXT_NO_MEMORY,
+                    answer: NO_MEMORY,
                 };
             }
         }
     }
-    Written {
-        count,
-        answer: NEXT_EVENT,
-    }
+    Written { count, answer: OK }
 }
 
-// So many events were taken.
-fn after_count(since: Since, count: usize) -> Since
-    ensures none { count ≡ 0 → result ≡ since }
-    ensures some { 0 < count → result ≡ after_event since }
-{
-    if count == 0 {
-        return since;
-    }
-    since.after_event()
-}
-
-/// Takes the items at the front of what is buffered, one after another, and writes their events to `events` and the bytes of these, one after
-/// another, to `text`. It stops where no item stands, where memory is refused, where `events` is full, and after an event whose bytes
-/// don't all fit: so only those of the last event may be cut off. `count` is how many events were written. The answer is that of
-/// `hed_extended_next` to the last event that was asked for: 1 means that there is no room for a further one.
+/// Tells events, one after another, and writes them to `events` and the bytes of these, one after another, to `text`. It stops once all is told,
+/// where memory is refused, where `events` is full, and after an event whose bytes don't all fit: so only those of the last event may be cut
+/// off. `count` is how many events were written.
 #[unsafe(no_mangle)]
-pub extern "C" fn hed_extended_next_events(
-    parser: &mut ExtendedHandle,
-    more: bool,
-    events: &mut [CExtendedEvent],
+pub extern "C" fn hed_parser_next_events(
+    parser: &mut ParserHandle,
+    events: &mut [CEvent],
     text: &mut [u8],
     count: &mut usize,
 ) -> u32
-    ensures answers { result ≤ 3 }
-    ensures written { result ≢ NEXT_NO_PARSER
-        → Wrote parser.old.state.held more events.old events.new text.old text.new count.new result parser.new.state.held }
-    ensures none { result ≡ NEXT_NONE → Rests parser.new.state.held more }
-    ensures refused { result ≡ NEXT_NO_MEMORY → NeedsMemoryNext parser.new.state.held more }
-    ensures no_parser { result ≡ NEXT_NO_PARSER ↔ (parser.old.state.held ≡ None) }
-    ensures no_parser_same { result ≡ NEXT_NO_PARSER → parser.new.state.held ≡ None }
-    ensures no_parser_events { result ≡ NEXT_NO_PARSER → events.new ≡ events.old }
-    ensures no_parser_text { result ≡ NEXT_NO_PARSER → text.new ≡ text.old }
-    ensures no_parser_count { result ≡ NEXT_NO_PARSER → count.new ≡ 0 }
-    ensures no_event_time { count.new ≡ 0 → KeepsTime parser.old parser.new }
-    ensures event_time { 0 < count.new → TakesEvent parser.old parser.new }
+    ensures answers { (result ≤ 2) ⊎ (result ≡ NOT_INITIALIZED) }
+    ensures written { result ≢ NOT_INITIALIZED
+        → Wrote parser.old.state.held events.old events.new text.old text.new count.new result parser.new.state.held }
+    ensures no_parser { result ≡ NOT_INITIALIZED ↔ (parser.old.state.held ≡ None) }
+    ensures no_parser_same { result ≡ NOT_INITIALIZED → parser.new.state.held ≡ None }
+    ensures no_parser_events { result ≡ NOT_INITIALIZED → events.new ≡ events.old }
+    ensures no_parser_text { result ≡ NOT_INITIALIZED → text.new ≡ text.old }
+    ensures no_parser_count { result ≡ NOT_INITIALIZED → count.new ≡ 0 }
 {
     let Some(held) = parser.get_mut() else {
         *count = 0;
-        return NEXT_NO_PARSER;
+        return NOT_INITIALIZED;
     };
-    let written = write_events(held, more, events, text);
+    let written = write_events(held, events, text);
     *count = written.count;
-    parser.since = after_count(parser.since, written.count);
     written.answer
 }

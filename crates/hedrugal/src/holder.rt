@@ -1,4 +1,4 @@
-// A key map or bindings behind a pointer.
+// A parser, a key map or bindings behind a pointer.
 ghost use Rattle.std.specs.Prelude.{◌≡◌, None, Some, is_some, true, false};
 
 use crate::slot::Slot;

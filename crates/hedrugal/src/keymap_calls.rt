@@ -1,22 +1,12 @@
 // The calls of a key map.
-ghost use Rattle.std.specs.Prelude.{◌≡◌, ◌≢◌, ◌≤◌, ◌↔◌, true, false, None};
+ghost use Rattle.std.specs.Prelude.{◌≡◌, ◌≢◌, ◌↔◌, ◌⊎◌, None};
 ghost use Rattle.hedrugal.specs.KeymapCalls.{Finds, Inserted, IsEmpty, keymap_len};
 
 use crate::bindings::Bindings;
 use crate::handles::MapHandle;
+use crate::status::{AMBIGUOUS, NEED_DATA, NO_MEMORY, NONE, NOT_INITIALIZED, OK};
 use std::alloc::Global;
 use termwiz_input::keymap::{Found, KeyMap};
-
-// The answers of `hed_keymap_lookup`.
-const FOUND_NONE: u32 = 0;
-
-const FOUND_EXACT: u32 = 1;
-
-const FOUND_AMBIGUOUS: u32 = 2;
-
-const FOUND_NEED_DATA: u32 = 3;
-
-const FOUND_NO_MAP: u32 = 4;
 
 /// `hed_match`: the key that a lookup found.
 #[repr(C)]
@@ -28,18 +18,21 @@ pub struct CMatch {
     pub value: u64,
 }
 
-/// Makes an empty key map, and frees the one that was there. If memory is refused, the answer is false and nothing changes.
+/// Makes an empty key map, and frees the one that was there.
 #[unsafe(no_mangle)]
-pub extern "C" fn hed_keymap_init(alloc: Global, map: &mut MapHandle) -> bool
-    ensures made { result ≡ true → IsEmpty map.new.state.held }
-    ensures refused { result ≡ false → map.new.state.held ≡ map.old.state.held }
+pub extern "C" fn hed_keymap_init(alloc: Global, map: &mut MapHandle) -> u32
+    ensures answers { (result ≡ OK) ⊎ (result ≡ NO_MEMORY) }
+    ensures made { result ≡ OK → IsEmpty map.new.state.held }
+    ensures same { result ≢ OK → map.new.state.held ≡ map.old.state.held }
 {
-    map.view().replace(
-        alloc,
-        Bindings {
-            map: KeyMap::new(alloc),
-        },
-    )
+    let empty = Bindings {
+        map: KeyMap::new(alloc),
+    };
+    if map.view().replace(alloc, empty) {
+        OK
+    } else {
+        NO_MEMORY
+    }
 }
 
 /// Frees the key map, if there is one, and leaves none.
@@ -50,22 +43,25 @@ pub extern "C" fn hed_keymap_free(alloc: Global, map: &mut MapHandle)
     map.view().free(alloc);
 }
 
-/// Sets the value of a key, in place of the one that it has, if any. If memory is refused, or there is no map, the answer is false and
-/// nothing changes.
+/// Sets the value of a key, in place of the one that it has, if any.
 #[unsafe(no_mangle)]
-pub extern "C" fn hed_keymap_insert(map: &mut MapHandle, key: &[u8], value: u64) -> bool
-    ensures inserted { result ≡ true → Inserted map.old.state.held key.now value map.new.state.held }
-    ensures refused { result ≡ false → map.new.state.held ≡ map.old.state.held }
+pub extern "C" fn hed_keymap_insert(map: &mut MapHandle, key: &[u8], value: u64) -> u32
+    ensures answers { (result ≡ OK) ⊎ ((result ≡ NO_MEMORY) ⊎ (result ≡ NOT_INITIALIZED)) }
+    ensures inserted { result ≡ OK → Inserted map.old.state.held key.now value map.new.state.held }
+    ensures no_map { result ≡ NOT_INITIALIZED ↔ (map.old.state.held ≡ None) }
+    ensures same { result ≢ OK → map.new.state.held ≡ map.old.state.held }
 {
     let Some(held) = map.get_mut() else {
-        return false;
+        return NOT_INITIALIZED;
     };
-    held.map.insert(key, value).is_ok()
+    if held.map.insert(key, value).is_err() {
+        return NO_MEMORY;
+    }
+    OK
 }
 
-/// Finds the longest key that is a prefix of a text. The answer is 1 if `found` is that key's length and value; 2 if more may follow,
-/// and the text is a prefix of a longer key too; 3 if no key is a prefix of the text, but the text is a prefix of a key; 0 if neither
-/// is so; and 4 if there is no map.
+/// Finds the longest key that is a prefix of a text, and sets `found` to its length and value. The text may be a prefix of a longer key too, if more
+/// may follow. If no key is a prefix of it, it may still be a prefix of a key.
 #[unsafe(no_mangle)]
 pub extern "C" fn hed_keymap_lookup(
     map: &mut MapHandle,
@@ -73,29 +69,29 @@ pub extern "C" fn hed_keymap_lookup(
     maybe_more: bool,
     found: &mut CMatch,
 ) -> u32
-    ensures answers { result ≤ 4 }
-    ensures none { result ≡ FOUND_NONE → Finds map.old.state.held text.now maybe_more Found.None }
-    ensures exact { result ≡ FOUND_EXACT → Finds map.old.state.held text.now maybe_more (Found.Exact found.new.len found.new.value) }
-    ensures ambiguous { result ≡ FOUND_AMBIGUOUS → Finds map.old.state.held text.now maybe_more (Found.Ambiguous found.new.len found.new.value) }
-    ensures need_data { result ≡ FOUND_NEED_DATA → Finds map.old.state.held text.now maybe_more Found.NeedData }
-    ensures no_map { result ≡ FOUND_NO_MAP ↔ (map.old.state.held ≡ None) }
+    ensures answers { (result ≡ OK) ⊎ ((result ≡ AMBIGUOUS) ⊎ ((result ≡ NEED_DATA) ⊎ ((result ≡ NONE) ⊎ (result ≡ NOT_INITIALIZED)))) }
+    ensures none { result ≡ NONE → Finds map.old.state.held text.now maybe_more Found.None }
+    ensures exact { result ≡ OK → Finds map.old.state.held text.now maybe_more (Found.Exact found.new.len found.new.value) }
+    ensures ambiguous { result ≡ AMBIGUOUS → Finds map.old.state.held text.now maybe_more (Found.Ambiguous found.new.len found.new.value) }
+    ensures need_data { result ≡ NEED_DATA → Finds map.old.state.held text.now maybe_more Found.NeedData }
+    ensures no_map { result ≡ NOT_INITIALIZED ↔ (map.old.state.held ≡ None) }
     ensures same { map.new.state ≡ map.old.state }
-    ensures match_same { result ≢ FOUND_EXACT → result ≢ FOUND_AMBIGUOUS → found.new ≡ found.old }
+    ensures match_same { result ≢ OK → result ≢ AMBIGUOUS → found.new ≡ found.old }
 {
     let Some(held) = map.get_mut() else {
-        return FOUND_NO_MAP;
+        return NOT_INITIALIZED;
     };
     match held.lookup(text, maybe_more) {
-        Found::None => FOUND_NONE,
+        Found::None => NONE,
         Found::Exact(len, value) => {
             *found = CMatch { len, value };
-            FOUND_EXACT
+            OK
         }
         Found::Ambiguous(len, value) => {
             *found = CMatch { len, value };
-            FOUND_AMBIGUOUS
+            AMBIGUOUS
         }
-        Found::NeedData => FOUND_NEED_DATA,
+        Found::NeedData => NEED_DATA,
     }
 }
 

@@ -1,37 +1,23 @@
 // The calls of a matcher.
-ghost use Rattle.std.specs.Prelude.{◌≡◌, ◌≢◌, ◌≤◌, ◌↔◌, ◌⊎◌, ℕ, [], None, IfSome, IfNone, true, false};
-ghost use Rattle.termwiz_bindings.specs.declared.matcher.Outcome.TheVariants as told;
+ghost use Rattle.std.specs.Prelude.{◌≡◌, ◌≢◌, ◌↔◌, ◌⊎◌, ℕ, [], None, IfSome, IfNone, true, false};
+ghost use Rattle.termwiz_bindings.specs.Matchers.{outcome_copied};
 ghost use Rattle.termwiz_bindings.specs.declared.press.KeyPress.{KeyPress as Pressed};
 ghost use Rattle.hedrugal.specs.MatcherCalls as calls;
-ghost use Rattle.hedrugal.specs.MatcherCalls.{AreOfEither, AreOfNeither, DecidesBound, DecidesUnbound, HasDeadEnd, HasNoDeadEnd, Holds, HoldsNone, IsFull, PressedEither, TakesBound, TakesUnbound, Waits, WrotePending, c_outcome};
+ghost use Rattle.hedrugal.specs.MatcherCalls.{AreOfEither, AreOfNeither, DecidesFirst, HasDeadEnd, HasNoDeadEnd, Holds, HoldsNone, IsFull, PressedEither, TakesFirst, Waits, WrotePending, c_outcome};
 ghost use Rattle.hedrugal.specs.NameCalls.{AreOfNoPress};
 
 use crate::chords::{chord_of, copy_presses, press_of, presses_of};
 use crate::handles::BindingsHandle;
 use crate::press_calls::{CKeyPress, c_press};
+use crate::status::{BAD_NUMBER, FULL, NONE, NOT_INITIALIZED, OK};
 use termwiz_bindings::chord::{Chord, MAX_KEYS};
 use termwiz_bindings::matcher::{Matcher, Outcome};
 use termwiz_bindings::press::KeyPress;
 
-// The answers of `hed_matcher_press` and `hed_matcher_press_either`.
-const PRESSED_KEY: u32 = 0;
-
-const PRESSED_FULL: u32 = 1;
-
-const PRESSED_BAD_NUMBER: u32 = 2;
-
-const PRESSED_NO_BINDINGS: u32 = 3;
-
-// The answers of `hed_matcher_next` and `hed_matcher_on_pause`.
-const OUTCOME_NONE: u32 = 0;
-
+// The kinds of outcomes.
 const OUTCOME_BOUND: u32 = 1;
 
 const OUTCOME_UNBOUND: u32 = 2;
-
-const OUTCOME_BAD_NUMBER: u32 = 3;
-
-const OUTCOME_NO_BINDINGS: u32 = 4;
 
 /// `hed_matcher`: the presses that are pending, in numbers.
 #[repr(C)]
@@ -53,6 +39,8 @@ pub struct COutcome {
     pub value: u64,
     /// The press that begins no chord.
     pub press: CKeyPress,
+    /// 1 for a chord, 2 for a press that begins none.
+    pub kind: u32,
 }
 
 // The matcher with the presses that these numbers have.
@@ -75,53 +63,50 @@ fn write_pending(pending: &Chord, numbers: &mut CMatcher)
     numbers.count = copy_presses(pending, &mut numbers.keys);
 }
 
-// A chord that was pressed, in numbers.
-fn bound_outcome(keys: usize, value: u64) -> COutcome
-    ensures { result ≡ c_outcome (told.Bound keys value) }
+// An outcome in numbers.
+fn c_outcome(outcome: Outcome<&u64>) -> COutcome
+    ensures { result ≡ c_outcome (outcome_copied outcome.entry) }
 {
-    COutcome {
-        keys,
-        value,
-        press: CKeyPress {
-            key: 0,
-            held: 0,
-            detail: 0,
+    match outcome {
+        Outcome::Bound { keys, value } => COutcome {
+            keys,
+            value: *value,
+            press: CKeyPress {
+                key: 0,
+                held: 0,
+                detail: 0,
+            },
+            kind: OUTCOME_BOUND,
+        },
+        Outcome::Unbound(press) => COutcome {
+            keys: 1,
+            value: 0,
+            press: c_press(press),
+            kind: OUTCOME_UNBOUND,
         },
     }
 }
 
-// A press that begins no chord, in numbers.
-fn unbound_outcome(press: KeyPress) -> COutcome
-    ensures { result ≡ c_outcome (told.Unbound press) }
-{
-    COutcome {
-        keys: 1,
-        value: 0,
-        press: c_press(press),
-    }
-}
-
-/// Puts a press behind those that are pending. The answer is 0 if it is there. Otherwise nothing changes: it is 1 if 32 are pending, and
-/// 2 if the numbers are those of no press, or those of the matcher are.
+/// Puts a press behind those that are pending, of which there are at most 32.
 #[unsafe(no_mangle)]
 pub extern "C" fn hed_matcher_press(matcher: &mut CMatcher, press: &CKeyPress) -> u32
-    ensures answers { result ≤ 2 }
-    ensures pressed { result ≡ PRESSED_KEY → calls.Pressed matcher.old press.now matcher.new }
-    ensures full { result ≡ PRESSED_FULL → IsFull matcher.old }
-    ensures bad_number { result ≡ PRESSED_BAD_NUMBER → HoldsNone matcher.old ⊎ AreOfNoPress press.now }
-    ensures same { result ≢ PRESSED_KEY → matcher.new ≡ matcher.old }
+    ensures answers { (result ≡ OK) ⊎ ((result ≡ FULL) ⊎ (result ≡ BAD_NUMBER)) }
+    ensures pressed { result ≡ OK → calls.Pressed matcher.old press.now matcher.new }
+    ensures full { result ≡ FULL → IsFull matcher.old }
+    ensures bad_number { result ≡ BAD_NUMBER → HoldsNone matcher.old ⊎ AreOfNoPress press.now }
+    ensures same { result ≢ OK → matcher.new ≡ matcher.old }
 {
     let Some(mut held) = matcher_of(matcher) else {
-        return PRESSED_BAD_NUMBER;
+        return BAD_NUMBER;
     };
     let Some(told) = press_of(press) else {
-        return PRESSED_BAD_NUMBER;
+        return BAD_NUMBER;
     };
     if !held.press(told) {
-        return PRESSED_FULL;
+        return FULL;
     }
     write_pending(held.pending(), matcher);
-    PRESSED_KEY
+    OK
 }
 
 // The first press, and the second, if there is one.
@@ -141,9 +126,7 @@ fn either_of(keys: &[CKeyPress]) -> Option<(KeyPress, Option<KeyPress>)>
     Some((first, second))
 }
 
-/// Puts the first of the presses behind those that are pending, or the second, if there is one, and only it leads on. The answer is 0 if
-/// it is there. Otherwise nothing changes: it is 1 if 32 are pending, 2 if the numbers are not those of one press or of two, or those of
-/// the matcher are those of no presses, and 3 if there are no bindings.
+/// Puts the first of the presses behind those that are pending, or the second, if there is one, and only it leads on.
 #[tactic(auto, using(crate::proofs::PressNumbers::pressed_either))]
 #[unsafe(no_mangle)]
 pub extern "C" fn hed_matcher_press_either(
@@ -151,33 +134,32 @@ pub extern "C" fn hed_matcher_press_either(
     bindings: &mut BindingsHandle,
     keys: &[CKeyPress],
 ) -> u32
-    ensures answers { result ≤ 3 }
-    ensures pressed { result ≡ PRESSED_KEY → PressedEither bindings.old.state.held matcher.old keys.now matcher.new }
-    ensures full { result ≡ PRESSED_FULL → IsFull matcher.old }
-    ensures bad_number { result ≡ PRESSED_BAD_NUMBER → HoldsNone matcher.old ⊎ AreOfNeither keys.now }
-    ensures no_bindings { result ≡ PRESSED_NO_BINDINGS → bindings.old.state.held ≡ None }
-    ensures same { result ≢ PRESSED_KEY → matcher.new ≡ matcher.old }
+    ensures answers { (result ≡ OK) ⊎ ((result ≡ FULL) ⊎ ((result ≡ BAD_NUMBER) ⊎ (result ≡ NOT_INITIALIZED))) }
+    ensures pressed { result ≡ OK → PressedEither bindings.old.state.held matcher.old keys.now matcher.new }
+    ensures full { result ≡ FULL → IsFull matcher.old }
+    ensures bad_number { result ≡ BAD_NUMBER → HoldsNone matcher.old ⊎ AreOfNeither keys.now }
+    ensures no_bindings { result ≡ NOT_INITIALIZED → bindings.old.state.held ≡ None }
+    ensures same { result ≢ OK → matcher.new ≡ matcher.old }
     ensures bindings_same { bindings.new.state ≡ bindings.old.state }
 {
     let Some(mut pending) = matcher_of(matcher) else {
-        return PRESSED_BAD_NUMBER;
+        return BAD_NUMBER;
     };
     let Some((first, second)) = either_of(keys) else {
-        return PRESSED_BAD_NUMBER;
+        return BAD_NUMBER;
     };
     let Some(held) = bindings.get_mut() else {
-        return PRESSED_NO_BINDINGS;
+        return NOT_INITIALIZED;
     };
     if !pending.press_either(&held.chords, first, second) {
-        return PRESSED_FULL;
+        return FULL;
     }
     write_pending(pending.pending(), matcher);
-    PRESSED_KEY
+    OK
 }
 
-/// Takes what comes first of the presses that are pending. The answer is 1 if that is a chord, 2 if it is a press that begins none, and
-/// `outcome` tells which. Otherwise nothing changes: it is 0 if nothing is pending, or more may come and may make a longer chord; 3 if the
-/// numbers are those of no presses, and 4 if they are, and there are no bindings.
+/// Takes what comes first of the presses that are pending, and sets `outcome` to it: a chord, or a press that begins none. There is none if nothing
+/// is pending, or more may come and may make a longer chord.
 #[unsafe(no_mangle)]
 pub extern "C" fn hed_matcher_next(
     matcher: &mut CMatcher,
@@ -185,74 +167,55 @@ pub extern "C" fn hed_matcher_next(
     maybe_more: bool,
     outcome: &mut COutcome,
 ) -> u32
-    ensures answers { result ≤ 4 }
-    ensures none { result ≡ OUTCOME_NONE → Waits bindings.old.state.held maybe_more matcher.old }
-    ensures bound { result ≡ OUTCOME_BOUND → TakesBound bindings.old.state.held maybe_more matcher.old outcome.new matcher.new }
-    ensures unbound { result ≡ OUTCOME_UNBOUND → TakesUnbound bindings.old.state.held maybe_more matcher.old outcome.new matcher.new }
-    ensures bad_number { result ≡ OUTCOME_BAD_NUMBER ↔ HoldsNone matcher.old }
-    ensures no_bindings { result ≡ OUTCOME_NO_BINDINGS → bindings.old.state.held ≡ None }
-    ensures same { result ≢ OUTCOME_BOUND → result ≢ OUTCOME_UNBOUND → matcher.new ≡ matcher.old }
-    ensures outcome_same { result ≢ OUTCOME_BOUND → result ≢ OUTCOME_UNBOUND → outcome.new ≡ outcome.old }
+    ensures answers { (result ≡ OK) ⊎ ((result ≡ NONE) ⊎ ((result ≡ BAD_NUMBER) ⊎ (result ≡ NOT_INITIALIZED))) }
+    ensures none { result ≡ NONE → Waits bindings.old.state.held maybe_more matcher.old }
+    ensures outcome { result ≡ OK → TakesFirst bindings.old.state.held maybe_more matcher.old outcome.new matcher.new }
+    ensures bad_number { result ≡ BAD_NUMBER ↔ HoldsNone matcher.old }
+    ensures no_bindings { result ≡ NOT_INITIALIZED → bindings.old.state.held ≡ None }
+    ensures same { result ≢ OK → matcher.new ≡ matcher.old }
+    ensures outcome_same { result ≢ OK → outcome.new ≡ outcome.old }
     ensures bindings_same { bindings.new.state ≡ bindings.old.state }
 {
     let Some(mut pending) = matcher_of(matcher) else {
-        return OUTCOME_BAD_NUMBER;
+        return BAD_NUMBER;
     };
     let Some(held) = bindings.get_mut() else {
-        return OUTCOME_NO_BINDINGS;
+        return NOT_INITIALIZED;
     };
     let Some(next) = pending.next(&held.chords, maybe_more) else {
-        return OUTCOME_NONE;
+        return NONE;
     };
     write_pending(pending.pending(), matcher);
-    match next {
-        Outcome::Bound { keys, value } => {
-            *outcome = bound_outcome(keys, *value);
-            OUTCOME_BOUND
-        }
-        Outcome::Unbound(press) => {
-            *outcome = unbound_outcome(press);
-            OUTCOME_UNBOUND
-        }
-    }
+    *outcome = c_outcome(next);
+    OK
 }
 
-/// Tells what giving up would decide first: the outcome of `hed_matcher_next` with no more to come. The answers are the same; it is 0 if
-/// nothing is pending. The matcher is unchanged.
+/// Tells what giving up would decide first: the outcome of `hed_matcher_next` with no more to come. The matcher is unchanged.
 #[unsafe(no_mangle)]
 pub extern "C" fn hed_matcher_on_pause(
     matcher: &CMatcher,
     bindings: &mut BindingsHandle,
     outcome: &mut COutcome,
 ) -> u32
-    ensures answers { result ≤ 4 }
-    ensures none { result ≡ OUTCOME_NONE → Holds matcher.now [] }
-    ensures bound { result ≡ OUTCOME_BOUND → DecidesBound bindings.old.state.held matcher.now outcome.new }
-    ensures unbound { result ≡ OUTCOME_UNBOUND → DecidesUnbound bindings.old.state.held matcher.now outcome.new }
-    ensures bad_number { result ≡ OUTCOME_BAD_NUMBER ↔ HoldsNone matcher.now }
-    ensures no_bindings { result ≡ OUTCOME_NO_BINDINGS → bindings.old.state.held ≡ None }
-    ensures outcome_same { result ≢ OUTCOME_BOUND → result ≢ OUTCOME_UNBOUND → outcome.new ≡ outcome.old }
+    ensures answers { (result ≡ OK) ⊎ ((result ≡ NONE) ⊎ ((result ≡ BAD_NUMBER) ⊎ (result ≡ NOT_INITIALIZED))) }
+    ensures none { result ≡ NONE → Holds matcher.now [] }
+    ensures outcome { result ≡ OK → DecidesFirst bindings.old.state.held matcher.now outcome.new }
+    ensures bad_number { result ≡ BAD_NUMBER ↔ HoldsNone matcher.now }
+    ensures no_bindings { result ≡ NOT_INITIALIZED → bindings.old.state.held ≡ None }
+    ensures outcome_same { result ≢ OK → outcome.new ≡ outcome.old }
     ensures bindings_same { bindings.new.state ≡ bindings.old.state }
 {
     let Some(pending) = matcher_of(matcher) else {
-        return OUTCOME_BAD_NUMBER;
+        return BAD_NUMBER;
     };
     let Some(held) = bindings.get_mut() else {
-        return OUTCOME_NO_BINDINGS;
+        return NOT_INITIALIZED;
     };
     let Some(next) = pending.on_pause(&held.chords) else {
-        return OUTCOME_NONE;
+        return NONE;
     };
-    match next {
-        Outcome::Bound { keys, value } => {
-            *outcome = bound_outcome(keys, *value);
-            OUTCOME_BOUND
-        }
-        Outcome::Unbound(press) => {
-            *outcome = unbound_outcome(press);
-            OUTCOME_UNBOUND
-        }
-    }
+    *outcome = c_outcome(next);
+    OK
 }
 
 /// Whether more than one press is pending, no chord begins with them all, and they begin with no chord. It is false if the numbers are those of

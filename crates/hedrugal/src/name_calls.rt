@@ -1,77 +1,76 @@
 // The calls that read and print the names of keys.
-ghost use Rattle.std.specs.Prelude.{◌≡◌, ◌≢◌, ◌≤◌, ◌↔◌};
+ghost use Rattle.std.specs.Prelude.{◌≡◌, ◌≢◌, ◌≤◌, ◌↔◌, ◌⊎◌, ◌∷◌, [], IfOk, IfErr};
 ghost use Rattle.std.specs.Str.{IsUtf8, IsValidUpTo};
-ghost use Rattle.termwiz_bindings.specs.declared.press.KeyPress.{KeyPress as Pressed};
-ghost use Rattle.hedrugal.specs.Chords.{AreOfPress};
-ghost use Rattle.hedrugal.specs.NameCalls.{AreOfNoChord, AreOfNoPress, IsWrong, PrintedKeys, ReadKeys, error_number, typed_code};
+ghost use Rattle.hedrugal.specs.NameCalls.{AreOfNoChord, AreOfNoPress, HasChord, IsNoName, IsWrong, PrintedKeys, PrintedPress, ReadKeys, WroteText, error_number};
 
 use crate::chords::{chord_of, copy_presses, press_of};
-use crate::copying::copy_prefix;
-use crate::extended_events::NO_CODE;
+use crate::copying::{copy_prefix, copy_with_zero};
 use crate::press_calls::CKeyPress;
+use crate::status::{
+    BAD_NUMBER, BAD_TEXT, NAME_AMBIGUOUS, NAME_BAD_NUMBER, NAME_CONTROL_CHARACTER, NAME_EMPTY,
+    NAME_MISSING_KEY, NAME_MODIFIER_TWICE, NAME_NOT_A_KEY, NAME_SHIFTED_CHARACTER, NAME_TOO_LONG,
+    NAME_UNKNOWN_MODIFIER, NAME_UNKNOWN_NAME, NO_MEMORY, OK,
+};
 use std::alloc::Global;
 use std::str;
+use termwiz_bindings::chord::Chord;
 use termwiz_bindings::names::{ReadErrorKind, print, read};
-
-// The answers of `hed_key_read`.
-const NAMED_KEYS: u32 = 0;
-
-const NAMED_CONTROL_CHARACTER: u32 = 1;
-
-const NAMED_MODIFIER_TWICE: u32 = 2;
-
-const NAMED_UNKNOWN_MODIFIER: u32 = 3;
-
-const NAMED_MISSING_KEY: u32 = 4;
-
-const NAMED_BAD_NUMBER: u32 = 5;
-
-const NAMED_UNKNOWN_NAME: u32 = 6;
-
-const NAMED_AMBIGUOUS: u32 = 7;
-
-const NAMED_NOT_A_KEY: u32 = 8;
-
-const NAMED_SHIFTED_CHARACTER: u32 = 9;
-
-const NAMED_TOO_LONG: u32 = 10;
-
-const NAMED_EMPTY: u32 = 11;
-
-const NAMED_BAD_TEXT: u32 = 12;
-
-// The answers of `hed_key_print`.
-const PRINTED_NAME: u32 = 0;
-
-const PRINTED_NO_MEMORY: u32 = 1;
-
-const PRINTED_BAD_NUMBER: u32 = 2;
 
 // The number of what is wrong with a name.
 #[tactic(auto, unfolding(crate::specs::NameCalls::error_number))]
 fn error_number(kind: ReadErrorKind) -> u32
     ensures number { result ≡ error_number kind }
-    ensures least { 1 ≤ result }
-    ensures most { result ≤ 11 }
+    ensures least { 20 ≤ result }
+    ensures most { result ≤ 30 }
 {
     match kind {
-        ReadErrorKind::ControlCharacter => NAMED_CONTROL_CHARACTER,
-        ReadErrorKind::ModifierTwice => NAMED_MODIFIER_TWICE,
-        ReadErrorKind::UnknownModifier => NAMED_UNKNOWN_MODIFIER,
-        ReadErrorKind::MissingKey => NAMED_MISSING_KEY,
-        ReadErrorKind::BadNumber => NAMED_BAD_NUMBER,
-        ReadErrorKind::UnknownName => NAMED_UNKNOWN_NAME,
-        ReadErrorKind::Ambiguous => NAMED_AMBIGUOUS,
-        ReadErrorKind::NotAKey => NAMED_NOT_A_KEY,
-        ReadErrorKind::ShiftedCharacter => NAMED_SHIFTED_CHARACTER,
-        ReadErrorKind::TooLong => NAMED_TOO_LONG,
-        ReadErrorKind::Empty => NAMED_EMPTY,
+        ReadErrorKind::ControlCharacter => NAME_CONTROL_CHARACTER,
+        ReadErrorKind::ModifierTwice => NAME_MODIFIER_TWICE,
+        ReadErrorKind::UnknownModifier => NAME_UNKNOWN_MODIFIER,
+        ReadErrorKind::MissingKey => NAME_MISSING_KEY,
+        ReadErrorKind::BadNumber => NAME_BAD_NUMBER,
+        ReadErrorKind::UnknownName => NAME_UNKNOWN_NAME,
+        ReadErrorKind::Ambiguous => NAME_AMBIGUOUS,
+        ReadErrorKind::NotAKey => NAME_NOT_A_KEY,
+        ReadErrorKind::ShiftedCharacter => NAME_SHIFTED_CHARACTER,
+        ReadErrorKind::TooLong => NAME_TOO_LONG,
+        ReadErrorKind::Empty => NAME_EMPTY,
     }
 }
 
-/// Reads the name of a chord: 1 to 32 keys, parted by blanks. The answer is 0 if `keys` has as many of its presses as it has room for, and
-/// `count` is how many they are. Otherwise it is what is wrong with the text, `count` is 0, and `at` is the byte where the part that is wrong
-/// starts: 1 to 11 for the kinds of `ReadErrorKind` in their order, and 12 if the text isn't UTF-8.
+// The status of a name that is none, and the byte at which the part that is wrong starts.
+#[derive(Clone, Copy)]
+pub(crate) struct BadName {
+    pub(crate) status: u32,
+    pub(crate) at: usize,
+}
+
+// The chord that has this name.
+pub(crate) fn chord_named(text: &[u8]) -> Result<Chord, BadName>
+    ensures ok { IfOk result (λ chord. HasChord text.now chord) }
+    ensures err { IfErr result (λ bad. IsNoName text.now bad.status bad.at) }
+    ensures not_ok { IfErr result (λ bad. 9 ≤ bad.status) }
+{
+    let name = match str::from_utf8(text) {
+        Ok(name) => name,
+        Err(error) => {
+            return Err(BadName {
+                status: BAD_TEXT,
+                at: error.valid_up_to(),
+            });
+        }
+    };
+    match read(name) {
+        Ok(chord) => Ok(chord),
+        Err(error) => Err(BadName {
+            status: error_number(error.kind),
+            at: error.at,
+        }),
+    }
+}
+
+/// Reads the name of a chord: 1 to 32 keys, parted by blanks. `keys` has as many of its presses as it has room for, and `count` is how many they
+/// are. If the text is no name, the answer says what is wrong with it, `count` is 0, and `at` is the byte where the part that is wrong starts.
 #[unsafe(no_mangle)]
 pub extern "C" fn hed_key_read(
     text: &[u8],
@@ -79,38 +78,27 @@ pub extern "C" fn hed_key_read(
     count: &mut usize,
     at: &mut usize,
 ) -> u32
-    ensures answers { result ≤ 12 }
-    ensures keys { result ≡ NAMED_KEYS → ReadKeys text.now keys.old keys.new count.new }
-    ensures wrong { result ≢ NAMED_KEYS → result ≢ NAMED_BAD_TEXT → IsWrong text.now result at.new }
-    ensures bad_text { result ≡ NAMED_BAD_TEXT ↔ (¬ IsUtf8 text.now) }
-    ensures bad_place { result ≡ NAMED_BAD_TEXT → IsValidUpTo text.now at.new }
-    ensures nothing_wrong { result ≡ NAMED_KEYS → at.new ≡ 0 }
-    ensures none { result ≢ NAMED_KEYS → count.new ≡ 0 }
-    ensures same { result ≢ NAMED_KEYS → keys.new ≡ keys.old }
+    ensures keys { result ≡ OK → ReadKeys text.now keys.old keys.new count.new }
+    ensures wrong { result ≢ OK → IsNoName text.now result at.new }
+    ensures nothing_wrong { result ≡ OK → at.new ≡ 0 }
+    ensures none { result ≢ OK → count.new ≡ 0 }
+    ensures same { result ≢ OK → keys.new ≡ keys.old }
 {
     *count = 0;
     *at = 0;
-    let name = match str::from_utf8(text) {
-        Ok(name) => name,
-        Err(error) => {
-            *at = error.valid_up_to();
-            return NAMED_BAD_TEXT;
-        }
-    };
-    match read(name) {
+    match chord_named(text) {
         Ok(chord) => {
             *count = copy_presses(&chord, keys);
-            NAMED_KEYS
+            OK
         }
-        Err(error) => {
-            *at = error.at;
-            error_number(error.kind)
+        Err(bad) => {
+            *at = bad.at;
+            bad.status
         }
     }
 }
 
-/// Prints the name of a chord: of 1 to 32 presses. The answer is 0 if `out` has as much of the name as it has room for, and `name_len` is its
-/// whole length. It is 1 if memory is refused, and 2 if the numbers are those of no press, or there are none or more than 32; then `name_len`
+/// Prints the name of a chord: of 1 to 32 presses. `out` has as much of the name as it has room for, and `name_len` is its whole length; else that
 /// is 0.
 #[unsafe(no_mangle)]
 pub extern "C" fn hed_key_print(
@@ -119,34 +107,66 @@ pub extern "C" fn hed_key_print(
     out: &mut [u8],
     name_len: &mut usize,
 ) -> u32
-    ensures answers { result ≤ 2 }
-    ensures name { result ≡ PRINTED_NAME → PrintedKeys keys.now out.old out.new name_len.new }
-    ensures bad_number { result ≡ PRINTED_BAD_NUMBER ↔ AreOfNoChord keys.now }
-    ensures none { result ≢ PRINTED_NAME → name_len.new ≡ 0 }
-    ensures same { result ≢ PRINTED_NAME → out.new ≡ out.old }
+    ensures answers { (result ≡ OK) ⊎ ((result ≡ NO_MEMORY) ⊎ (result ≡ BAD_NUMBER)) }
+    ensures name { result ≡ OK → PrintedKeys keys.now out.old out.new name_len.new }
+    ensures bad_number { result ≡ BAD_NUMBER ↔ AreOfNoChord keys.now }
+    ensures none { result ≢ OK → name_len.new ≡ 0 }
+    ensures same { result ≢ OK → out.new ≡ out.old }
 {
     *name_len = 0;
     let Some(chord) = chord_of(keys) else {
-        return PRINTED_BAD_NUMBER;
+        return BAD_NUMBER;
     };
     match print(alloc, &chord) {
         Ok(name) => {
             *name_len = copy_prefix(name.as_bytes(), out);
-            PRINTED_NAME
+            OK
         }
-        Err(_) => PRINTED_NO_MEMORY,
+        Err(_) => NO_MEMORY,
     }
 }
 
-/// Returns the code point of the character that a press types, if it does: nothing but SHIFT is held. Otherwise, or if the numbers are those of
-/// no press, it is 0xffffffff.
+/// Prints the name of a press, and a final zero byte if there is room for it. `name_len` is the length of the name; else that is 0.
 #[unsafe(no_mangle)]
-pub extern "C" fn hed_key_text(press: &CKeyPress) -> u32
-    ensures text { (p : Pressed) → AreOfPress press.now p → result ≡ typed_code p }
-    ensures no_press { AreOfNoPress press.now → result ≡ NO_CODE }
+pub extern "C" fn hed_press_print(
+    alloc: Global,
+    press: &CKeyPress,
+    out: &mut [u8],
+    name_len: &mut usize,
+) -> u32
+    ensures answers { (result ≡ OK) ⊎ ((result ≡ NO_MEMORY) ⊎ (result ≡ BAD_NUMBER)) }
+    ensures name { result ≡ OK → PrintedPress press.now out.old out.new name_len.new }
+    ensures bad_number { result ≡ BAD_NUMBER ↔ AreOfNoChord (press.now ∷ []) }
+    ensures none { result ≢ OK → name_len.new ≡ 0 }
+    ensures same { result ≢ OK → out.new ≡ out.old }
 {
-    match press_of(press) {
-        Some(told) => told.text().map_or(NO_CODE, u32::from),
-        None => NO_CODE,
+    *name_len = 0;
+    let Some(chord) = chord_of(&[*press]) else {
+        return BAD_NUMBER;
+    };
+    match print(alloc, &chord) {
+        Ok(name) => {
+            *name_len = copy_with_zero(name.as_bytes(), out);
+            OK
+        }
+        Err(_) => NO_MEMORY,
     }
+}
+
+/// Copies the character that a press types, in UTF-8, and a final zero byte, as much of both as `out` has room for. Returns how many bytes the
+/// character has. The answer is 0, and `out` unchanged, if it types none, or the numbers are those of no press.
+#[unsafe(no_mangle)]
+pub extern "C" fn hed_press_text(press: &CKeyPress, out: &mut [u8]) -> usize
+    ensures text { WroteText press.now out.old out.new result }
+    ensures no_press { AreOfNoPress press.now → result ≡ 0 }
+    ensures no_press_same { AreOfNoPress press.now → out.new ≡ out.old }
+{
+    let Some(told) = press_of(press) else {
+        return 0;
+    };
+    let Some(typed) = told.text() else {
+        return 0;
+    };
+    let mut bytes = [0; 4];
+    copy_with_zero(typed.encode_utf8(&mut bytes).as_bytes(), out)
 }

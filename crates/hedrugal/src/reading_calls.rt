@@ -1,17 +1,18 @@
-//! The calls that say how an extended parser reads.
-ghost use Rattle.std.specs.Prelude.{◌≡◌, ◌⊎◌, true, false, None, IfSome, IfNone};
+// The calls that say how a parser reads.
+ghost use Rattle.std.specs.Prelude.{◌≡◌, ◌≢◌, ◌↔◌, ◌⊎◌, None, IfSome, IfNone};
 ghost use Rattle.termwiz_extended_events.specs.declared.types.Reading.{Reading as AReading};
 ghost use Rattle.termwiz_extended_events.specs.declared.types.EraseByte.{EraseByte as AnErase};
 ghost use Rattle.termwiz_extended_events.specs.declared.types.NewlineByte.{NewlineByte as ANewline};
-ghost use Rattle.hedrugal.specs.ExtendedEvents.{erase_number, newline_number};
-ghost use Rattle.hedrugal.specs.ExtendedTimings.{KeepsTime};
-ghost use Rattle.hedrugal.specs.ReadingCalls.{HasReading, IsBadReading, ReadsAfter, ReadsBy, StandFor, c_reading, forgotten, one_more};
+ghost use Rattle.termwiz_timed.specs.Steps.Call.{ExpectPosition, ForgetPositions};
+ghost use Rattle.hedrugal.specs.Calls.{Calls, IsNoDialect};
+ghost use Rattle.hedrugal.specs.Events.{dialect_number, erase_number, newline_number};
+ghost use Rattle.hedrugal.specs.ReadingCalls.{HasReading, IsBadReading, ReadsBy, StandFor, c_reading};
 
-use crate::extended_calls::{dialect_at, dialect_number};
-use crate::handles::ExtendedHandle;
-use termwiz_input_extended::types::{EraseByte, NewlineByte, Reading};
+use crate::handles::ParserHandle;
+use crate::status::{BAD_NUMBER, NOT_INITIALIZED, OK};
+use termwiz_input_extended::types::{Dialect, EraseByte, NewlineByte, Reading};
 
-/// `hed_reading`: how an extended parser reads, in numbers.
+/// `hed_reading`: how a parser reads, in numbers.
 #[repr(C)]
 #[derive(Clone, Copy)]
 pub struct CReading {
@@ -27,6 +28,11 @@ pub struct CReading {
     pub questions: u8,
 }
 
+// The dialects.
+const DIALECT_EXTENDED: u32 = 0;
+
+const DIALECT_TERMWIZ: u32 = 1;
+
 // What the Backspace key may send.
 const ERASE_DELETE: u32 = 0;
 
@@ -37,8 +43,32 @@ const NEWLINE_CTRL_J: u32 = 0;
 
 const NEWLINE_ENTER: u32 = 1;
 
+// The dialect that has this number.
+#[tactic(auto, unfolding(crate::specs::Events::dialect_number))]
+pub(crate) fn dialect_at(number: u32) -> Option<Dialect>
+    ensures some { IfSome result (λ dialect. dialect_number dialect ≡ number) }
+    ensures none { IfNone result (IsNoDialect number) }
+{
+    match number {
+        DIALECT_EXTENDED => Some(Dialect::Extended),
+        DIALECT_TERMWIZ => Some(Dialect::Termwiz),
+        _ => None,
+    }
+}
+
+// The number of a dialect.
+#[tactic(auto, unfolding(crate::specs::Events::dialect_number))]
+fn dialect_number(dialect: Dialect) -> u32
+    ensures { result ≡ dialect_number dialect }
+{
+    match dialect {
+        Dialect::Extended => DIALECT_EXTENDED,
+        Dialect::Termwiz => DIALECT_TERMWIZ,
+    }
+}
+
 // The byte of the Backspace key that has this number.
-#[tactic(auto, unfolding(crate::specs::ExtendedEvents::erase_number))]
+#[tactic(auto, unfolding(crate::specs::Events::erase_number))]
 fn erase_at(number: u32) -> Option<EraseByte>
     ensures some { IfSome result (λ erase. erase_number erase ≡ number) }
     ensures none { IfNone result ((erase : AnErase) → ¬ (erase_number erase ≡ number)) }
@@ -51,7 +81,7 @@ fn erase_at(number: u32) -> Option<EraseByte>
 }
 
 // The number of the byte of the Backspace key.
-#[tactic(auto, unfolding(crate::specs::ExtendedEvents::erase_number))]
+#[tactic(auto, unfolding(crate::specs::Events::erase_number))]
 fn erase_number(erase: EraseByte) -> u32
     ensures { result ≡ erase_number erase }
 {
@@ -62,7 +92,7 @@ fn erase_number(erase: EraseByte) -> u32
 }
 
 // What byte 10 is, by its number.
-#[tactic(auto, unfolding(crate::specs::ExtendedEvents::newline_number))]
+#[tactic(auto, unfolding(crate::specs::Events::newline_number))]
 fn newline_at(number: u32) -> Option<NewlineByte>
     ensures some { IfSome result (λ newline. newline_number newline ≡ number) }
     ensures none { IfNone result ((newline : ANewline) → ¬ (newline_number newline ≡ number)) }
@@ -75,7 +105,7 @@ fn newline_at(number: u32) -> Option<NewlineByte>
 }
 
 // The number of what byte 10 is.
-#[tactic(auto, unfolding(crate::specs::ExtendedEvents::newline_number))]
+#[tactic(auto, unfolding(crate::specs::Events::newline_number))]
 fn newline_number(newline: NewlineByte) -> u32
     ensures { result ≡ newline_number newline }
 {
@@ -108,37 +138,37 @@ fn reading_of(numbers: &CReading) -> Option<Reading>
     })
 }
 
-/// Has a parser read so from now on, also what is buffered. The answer is false, and nothing changes, if a number stands for nothing or there
-/// is no parser.
+/// Has a parser read so from now on, also what is buffered.
 #[unsafe(no_mangle)]
-pub extern "C" fn hed_extended_set_reading(parser: &mut ExtendedHandle, reading: &CReading) -> bool
-    ensures set { result ≡ true → ReadsBy parser.old.state.held reading.now parser.new.state.held }
-    ensures refused { result ≡ false → parser.new.state.held ≡ parser.old.state.held }
-    ensures only { result ≡ false → IsBadReading reading.now ⊎ (parser.old.state.held ≡ None) }
-    ensures bad_reading { IsBadReading reading.now → result ≡ false }
-    ensures time { KeepsTime parser.old parser.new }
+pub extern "C" fn hed_parser_set_reading(parser: &mut ParserHandle, reading: &CReading) -> u32
+    ensures answers { (result ≡ OK) ⊎ ((result ≡ BAD_NUMBER) ⊎ (result ≡ NOT_INITIALIZED)) }
+    ensures set { result ≡ OK → ReadsBy parser.old.state.held reading.now parser.new.state.held }
+    ensures bad_number { result ≡ BAD_NUMBER ↔ IsBadReading reading.now }
+    ensures no_parser { result ≡ NOT_INITIALIZED → parser.old.state.held ≡ None }
+    ensures parser { result ≡ OK → parser.old.state.held ≢ None }
+    ensures same { result ≢ OK → parser.new.state.held ≡ parser.old.state.held }
 {
     let Some(reading) = reading_of(reading) else {
-        return false;
+        return BAD_NUMBER;
     };
     let Some(held) = parser.get_mut() else {
-        return false;
+        return NOT_INITIALIZED;
     };
     held.parser.set_reading(reading);
-    true
+    OK
 }
 
-/// How a parser reads. The answer is false if there is no parser, and `reading` is then as it was.
+/// How a parser reads.
 #[unsafe(no_mangle)]
-pub extern "C" fn hed_extended_reading(parser: &mut ExtendedHandle, reading: &mut CReading) -> bool
+pub extern "C" fn hed_parser_reading(parser: &mut ParserHandle, reading: &mut CReading) -> u32
+    ensures answers { (result ≡ OK) ⊎ (result ≡ NOT_INITIALIZED) }
+    ensures reads { result ≡ OK → (now : AReading) × HasReading parser.old.state.held now × (reading.new ≡ c_reading now) }
+    ensures no_parser { result ≡ NOT_INITIALIZED ↔ (parser.old.state.held ≡ None) }
+    ensures none_same { result ≢ OK → reading.new ≡ reading.old }
     ensures same { parser.new.state ≡ parser.old.state }
-    ensures reads { result ≡ true → (now : AReading) × HasReading parser.old.state.held now × (reading.new ≡ c_reading now) }
-    ensures no_parser { result ≡ false → parser.old.state.held ≡ None }
-    ensures none_same { result ≡ false → reading.new ≡ reading.old }
-    ensures time { KeepsTime parser.old parser.new }
 {
     let Some(held) = parser.get_mut() else {
-        return false;
+        return NOT_INITIALIZED;
     };
     let now = held.parser.reading();
     *reading = CReading {
@@ -148,14 +178,13 @@ pub extern "C" fn hed_extended_reading(parser: &mut ExtendedHandle, reading: &mu
         x10_mouse: now.x10_mouse,
         questions: now.questions,
     };
-    true
+    OK
 }
 
 /// Expects one more reply to a question for the cursor's position, up to 255.
 #[unsafe(no_mangle)]
-pub extern "C" fn hed_extended_expect_position(parser: &mut ExtendedHandle)
-    ensures reads { ReadsAfter one_more parser.old.state.held parser.new.state.held }
-    ensures time { KeepsTime parser.old parser.new }
+pub extern "C" fn hed_parser_expect_position(parser: &mut ParserHandle)
+    ensures { Calls parser.old.state.held ExpectPosition parser.new.state.held }
 {
     let Some(held) = parser.get_mut() else {
         return;
@@ -165,9 +194,8 @@ pub extern "C" fn hed_extended_expect_position(parser: &mut ExtendedHandle)
 
 /// Expects no reply any more to questions for the cursor's position.
 #[unsafe(no_mangle)]
-pub extern "C" fn hed_extended_forget_positions(parser: &mut ExtendedHandle)
-    ensures reads { ReadsAfter forgotten parser.old.state.held parser.new.state.held }
-    ensures time { KeepsTime parser.old parser.new }
+pub extern "C" fn hed_parser_forget_positions(parser: &mut ParserHandle)
+    ensures { Calls parser.old.state.held ForgetPositions parser.new.state.held }
 {
     let Some(held) = parser.get_mut() else {
         return;

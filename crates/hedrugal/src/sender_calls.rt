@@ -1,25 +1,25 @@
-//! The calls that write what a terminal sends that is no key: pasted texts and mouse reports.
+// The calls that write what a terminal sends that is no key: pasted texts and mouse reports.
 ghost use Rattle.std.specs.Prelude.{◌≡◌, ◌≢◌, ◌⊎◌, ◌↔◌, None};
 ghost use Rattle.hedrugal.specs.SenderCalls.{IsTooFar, WroteMouse, WrotePaste, asked_in, button_in, encoding_in, modifiers_in, tracking_in};
 
 use crate::copying::copy_prefix;
-use crate::modes::modifiers_of;
-use crate::{ENCODED_BAD_NUMBER, ENCODED_REFUSED_MEMORY, ENCODED_TEXT, ENCODED_TOO_FAR};
+use crate::status::{BAD_NUMBER, NO_MEMORY, OK, TOO_FAR};
+use bitflags::Flags;
 use std::alloc::Global;
 use termwiz_base::{Modifiers, MouseButton, MouseReport};
 use termwiz_senders::mouse::{MouseEncoding, MouseError, MouseTracking, encode_mouse};
 use termwiz_senders::paste::encode_paste;
 
-/// `hed_mouse_report`: a mouse report that a terminal sends.
+/// `hed_sent_mouse`: a mouse report that a terminal sends.
 #[repr(C)]
 #[derive(Clone, Copy)]
-pub struct CMouseReport {
+pub struct CSentMouse {
     /// The column: the leftmost is 1.
     pub x: u16,
     /// The row: the topmost is 1.
     pub y: u16,
-    /// The bits of the modifiers that are held.
-    pub modifiers: u16,
+    /// The modifiers that are held, as Kitty's bits.
+    pub modifiers: u8,
     /// The number of what happened to which button.
     pub button: u8,
 }
@@ -84,15 +84,18 @@ fn encoding_in(number: u32) -> Option<MouseEncoding>
     }
 }
 
-// The modifiers of these bits. `None` if a bit has no name.
-fn modifiers_in(bits: u16) -> Option<Modifiers>
+// The modifiers of these bits of Kitty's. `None` if there are others than SHIFT, ALT, CTRL and SUPER.
+pub(crate) fn modifiers_in(bits: u8) -> Option<Modifiers>
     ensures { result ≡ modifiers_in bits }
 {
-    modifiers_of(bits)
+    if bits > 15 {
+        return None;
+    }
+    Some(Modifiers::from_bits_retain(2 * u16::from(bits)))
 }
 
 // What the numbers ask for. `None` if one of them names nothing.
-fn asked_in(numbers: &CMouseReport, tracking: u32, encoding: u32) -> Option<Asked>
+fn asked_in(numbers: &CSentMouse, tracking: u32, encoding: u32) -> Option<Asked>
     ensures { result ≡ asked_in numbers.now tracking encoding }
 {
     let button = button_in(numbers.button)?;
@@ -111,8 +114,8 @@ fn asked_in(numbers: &CMouseReport, tracking: u32, encoding: u32) -> Option<Aske
     })
 }
 
-/// Writes what a terminal sends for a pasted text, made safe, in brackets if the program asked for them. The answer is 0 if `out` has as much
-/// of the bytes as it has room for, and `sent_len` is how many they are. It is 2 if memory is refused; then `sent_len` is 0.
+/// Writes what a terminal sends for a pasted text, made safe, in brackets if the program asked for them. `out` has as much of the bytes as it has
+/// room for, and `sent_len` is how many they are; else that is 0.
 #[unsafe(no_mangle)]
 pub extern "C" fn hed_encode_paste(
     alloc: Global,
@@ -121,48 +124,46 @@ pub extern "C" fn hed_encode_paste(
     out: &mut [u8],
     sent_len: &mut usize,
 ) -> u32
-    ensures answers { (result ≡ ENCODED_TEXT) ⊎ (result ≡ ENCODED_REFUSED_MEMORY) }
-    ensures text { result ≡ ENCODED_TEXT → WrotePaste text.now bracketed out.old out.new sent_len.new }
-    ensures none { result ≢ ENCODED_TEXT → sent_len.new ≡ 0 }
-    ensures same { result ≢ ENCODED_TEXT → out.new ≡ out.old }
+    ensures answers { (result ≡ OK) ⊎ (result ≡ NO_MEMORY) }
+    ensures text { result ≡ OK → WrotePaste text.now bracketed out.old out.new sent_len.new }
+    ensures none { result ≢ OK → sent_len.new ≡ 0 }
+    ensures same { result ≢ OK → out.new ≡ out.old }
 {
     *sent_len = 0;
     let Ok(sent) = encode_paste(alloc, text, bracketed) else {
-        return ENCODED_REFUSED_MEMORY;
+        return NO_MEMORY;
     };
     *sent_len = copy_prefix(&sent, out);
-    ENCODED_TEXT
+    OK
 }
 
-/// Writes what a terminal sends for a mouse report, if the program asked for these reports in this encoding. The answer is 0 if `out` has as
-/// much of the bytes as it has room for, and `sent_len` is how many they are. It is 2 if memory is refused, 3 if a number names nothing, and
-/// 6 if the encoding can't tell the place; then `sent_len` is 0.
+/// Writes what a terminal sends for a mouse report, if the program asked for these reports in this encoding, as [`hed_encode_paste`] does.
 #[unsafe(no_mangle)]
 pub extern "C" fn hed_encode_mouse(
     alloc: Global,
-    report: &CMouseReport,
+    report: &CSentMouse,
     tracking: u32,
     encoding: u32,
     out: &mut [u8],
     sent_len: &mut usize,
 ) -> u32
-    ensures answers { (result ≡ ENCODED_TEXT) ⊎ ((result ≡ ENCODED_REFUSED_MEMORY) ⊎ ((result ≡ ENCODED_BAD_NUMBER) ⊎ (result ≡ ENCODED_TOO_FAR))) }
-    ensures text { result ≡ ENCODED_TEXT → WroteMouse report.now tracking encoding out.old out.new sent_len.new }
-    ensures bad_number { result ≡ ENCODED_BAD_NUMBER ↔ (asked_in report.now tracking encoding ≡ None) }
-    ensures too_far { result ≡ ENCODED_TOO_FAR ↔ IsTooFar report.now tracking encoding }
-    ensures none { result ≢ ENCODED_TEXT → sent_len.new ≡ 0 }
-    ensures same { result ≢ ENCODED_TEXT → out.new ≡ out.old }
+    ensures answers { (result ≡ OK) ⊎ ((result ≡ NO_MEMORY) ⊎ ((result ≡ BAD_NUMBER) ⊎ (result ≡ TOO_FAR))) }
+    ensures text { result ≡ OK → WroteMouse report.now tracking encoding out.old out.new sent_len.new }
+    ensures bad_number { result ≡ BAD_NUMBER ↔ (asked_in report.now tracking encoding ≡ None) }
+    ensures too_far { result ≡ TOO_FAR ↔ IsTooFar report.now tracking encoding }
+    ensures none { result ≢ OK → sent_len.new ≡ 0 }
+    ensures same { result ≢ OK → out.new ≡ out.old }
 {
     *sent_len = 0;
     let Some(asked) = asked_in(report, tracking, encoding) else {
-        return ENCODED_BAD_NUMBER;
+        return BAD_NUMBER;
     };
     match encode_mouse(alloc, &asked.report, asked.tracking, asked.encoding) {
         Ok(sent) => {
             *sent_len = copy_prefix(&sent, out);
-            ENCODED_TEXT
+            OK
         }
-        Err(MouseError::TooFar) => ENCODED_TOO_FAR,
-        Err(MouseError::Memory) => ENCODED_REFUSED_MEMORY,
+        Err(MouseError::TooFar) => TOO_FAR,
+        Err(MouseError::Memory) => NO_MEMORY,
     }
 }

@@ -1,11 +1,12 @@
-//! The calls of a timer that a program keeps for itself, as for the pause of a chord. It is a `Timer` of `termwiz_input` in numbers, and
-//! owns no memory.
-ghost use Rattle.std.specs.Prelude.{◌≡◌, ◌↔◌, ◌⊎◌, true, false};
+// The calls of a timer that a program keeps for itself, as for the pause of a chord. It is a `Timer` of `termwiz_input` in numbers, and
+// owns no memory.
+ghost use Rattle.std.specs.Prelude.{◌≡◌, ◌↔◌, ◌⊎◌, false};
 ghost use Rattle.termwiz_input.specs.declared.time.Age.{Age as AnAge};
 ghost use Rattle.termwiz_input.specs.Time.{age_at, noted};
 ghost use Rattle.hedrugal.specs.TimerCalls.{IsNoAge, Notes, age_in, poll_millis, seen_by, timer_by};
 
-use crate::timing::{c_millis, limit_in};
+use crate::policy::{c_millis, limit_in};
+use crate::status::{BAD_NUMBER, OK};
 use termwiz_input::time::Age;
 
 // The numbers of the ages.
@@ -101,22 +102,23 @@ impl CTimer {
     }
 }
 
-/// Tells a timer the time and what was seen. The answer is false, and nothing changes, if `by` of either is the number of no age.
+/// Tells a timer the time and what was seen, unless `by` of either is the number of no age.
 #[unsafe(no_mangle)]
-pub extern "C" fn hed_timer_note(timer: &mut CTimer, now: u64, seen: &CSeen) -> bool
-    ensures noted { result ≡ true → Notes timer.old now seen.now timer.new }
-    ensures no_limit { result ≡ true → timer.new.has_limit ≡ false → timer.new.millis ≡ 0 }
-    ensures no_age { (result ≡ false) ↔ (IsNoAge timer.old.by ⊎ IsNoAge seen.now.by) }
-    ensures same { result ≡ false → timer.new ≡ timer.old }
+pub extern "C" fn hed_timer_note(timer: &mut CTimer, now: u64, seen: &CSeen) -> u32
+    ensures answers { (result ≡ OK) ⊎ (result ≡ BAD_NUMBER) }
+    ensures noted { result ≡ OK → Notes timer.old now seen.now timer.new }
+    ensures no_limit { result ≡ OK → timer.new.has_limit ≡ false → timer.new.millis ≡ 0 }
+    ensures no_age { (result ≡ BAD_NUMBER) ↔ (IsNoAge timer.old.by ⊎ IsNoAge seen.now.by) }
+    ensures same { result ≡ BAD_NUMBER → timer.new ≡ timer.old }
 {
     let Some(_) = age_in(timer.by) else {
-        return false;
+        return BAD_NUMBER;
     };
     let Some(_) = age_in(seen.by) else {
-        return false;
+        return BAD_NUMBER;
     };
     *timer = timer.noted(now, seen);
-    true
+    OK
 }
 
 /// How many milliseconds are left of a timer's limit: 0 if it is due, and -1 if it has no limit or its `by` is the number of no age.

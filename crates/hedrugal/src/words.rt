@@ -3,14 +3,10 @@ ghost use Rattle.std.specs.Prelude.{Option};
 ghost use Rattle.std.specs.Coded.{coded_option};
 ghost use Rattle.hedrugal.specs.declared.bindings.Bindings.{Bindings};
 ghost use Rattle.hedrugal.specs.declared.chord_bindings.ChordBindings.{ChordBindings};
-ghost use Rattle.hedrugal.specs.declared.extended_and_text.ExtendedAndText.{ExtendedAndText};
-ghost use Rattle.hedrugal.specs.declared.parser_and_paste.ParserAndPaste.{ParserAndPaste};
-ghost use Rattle.hedrugal.specs.declared.timing.Timing.{Timing};
+ghost use Rattle.hedrugal.specs.declared.parser_and_text.ParserAndText.{ParserAndText};
 ghost use Rattle.hedrugal.specs.contracts.bindings.Bindings as bindings;
 ghost use Rattle.hedrugal.specs.contracts.chord_bindings.ChordBindings as chord_bindings;
-ghost use Rattle.hedrugal.specs.contracts.extended_and_text.ExtendedAndText as extended;
-ghost use Rattle.hedrugal.specs.contracts.parser_and_paste.ParserAndPaste as parser;
-ghost use Rattle.hedrugal.specs.contracts.timing.Timing as timing;
+ghost use Rattle.hedrugal.specs.contracts.parser_and_text.ParserAndText as parser;
 
 use std::marker::Model;
 
@@ -18,26 +14,12 @@ use std::marker::Model;
 #[repr(C)]
 pub struct ParserWord {
     pointer: *mut u8,
-    pub ghost held: { Option ParserAndPaste } by { coded_option parser.the_row.coded },
+    pub ghost held: { Option ParserAndText } by { coded_option parser.the_row.coded },
 }
 
 impl Model for ParserWord {
     ghost use Rattle.hedrugal.specs.Owned.{owned};
-    ghost use Rattle.hedrugal.specs.contracts.parser_and_paste.ParserAndPaste.{the_row};
-
-    ghost also_owns = { λ s. owned the_row s.pointer s.held };
-}
-
-/// Of an extended parser.
-#[repr(C)]
-pub struct ExtendedWord {
-    pointer: *mut u8,
-    pub ghost held: { Option ExtendedAndText } by { coded_option extended.the_row.coded },
-}
-
-impl Model for ExtendedWord {
-    ghost use Rattle.hedrugal.specs.Owned.{owned};
-    ghost use Rattle.hedrugal.specs.contracts.extended_and_text.ExtendedAndText.{the_row};
+    ghost use Rattle.hedrugal.specs.contracts.parser_and_text.ParserAndText.{the_row};
 
     ghost also_owns = { λ s. owned the_row s.pointer s.held };
 }
@@ -70,27 +52,9 @@ impl Model for BindingsWord {
     ghost also_owns = { λ s. owned the_row s.pointer s.held };
 }
 
-/// Of a parser's limits in time.
-#[repr(C)]
-pub struct TimingWord {
-    pointer: *mut u8,
-    pub ghost held: { Option Timing } by { coded_option timing.the_row.coded },
-}
-
-impl Model for TimingWord {
-    ghost use Rattle.hedrugal.specs.Owned.{owned};
-    ghost use Rattle.hedrugal.specs.contracts.timing.Timing.{the_row};
-
-    ghost also_owns = { λ s. owned the_row s.pointer s.held };
-}
-
 // SAFETY: the value in each block may be sent, and any thread may free the block, as proofs/Crossing.antt shows.
 unsafe impl Send for ParserWord {}
-
-unsafe impl Send for ExtendedWord {}
 
 unsafe impl Send for MapWord {}
 
 unsafe impl Send for BindingsWord {}
-
-unsafe impl Send for TimingWord {}

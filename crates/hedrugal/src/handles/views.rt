@@ -1,31 +1,20 @@
 // What C holds, as the generic types that own the same blocks.
 ghost use Rattle.std.specs.Prelude.{◌≡◌};
 ghost use Rattle.std.specs.Borrow.{sem};
-ghost use Rattle.hedrugal.specs.Views.{lends_bindings, lends_extended, lends_map, lends_parser, viewed_bindings, viewed_extended, viewed_map, viewed_parser};
+ghost use Rattle.hedrugal.specs.Views.{lends_bindings, lends_map, lends_parser, viewed_bindings, viewed_map, viewed_parser};
 
-use super::{BindingsHandle, ExtendedHandle, MapHandle, ParserHandle};
+use super::{BindingsHandle, MapHandle, ParserHandle};
 use crate::bindings::Bindings;
 use crate::chord_bindings::ChordBindings;
-use crate::extended_and_text::ExtendedAndText;
-use crate::handle::Handle;
 use crate::holder::Holder;
-use crate::parser_and_paste::ParserAndPaste;
+use crate::parser_and_text::ParserAndText;
 
 impl ParserHandle {
-    pub(crate) fn view(&mut self) -> &mut Handle<ParserAndPaste>
+    pub(crate) fn view(&mut self) -> &mut Holder<ParserAndText>
         ensures* writes_back { sem 𝓛 (lends_parser self.entry result) }
         ensures same { result.now ≡ viewed_parser self.old }
     {
-        unsafe { &mut *(self as *mut ParserHandle as *mut Handle<ParserAndPaste>) }
-    }
-}
-
-impl ExtendedHandle {
-    pub(crate) fn view(&mut self) -> &mut Handle<ExtendedAndText>
-        ensures* writes_back { sem 𝓛 (lends_extended self.entry result) }
-        ensures same { result.now ≡ viewed_extended self.old }
-    {
-        unsafe { &mut *(self as *mut ExtendedHandle as *mut Handle<ExtendedAndText>) }
+        unsafe { &mut *(self as *mut ParserHandle as *mut Holder<ParserAndText>) }
     }
 }
 

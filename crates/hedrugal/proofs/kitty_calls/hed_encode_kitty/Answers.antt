@@ -4,9 +4,9 @@ use Rattle.termwiz_base.specs.Kitty as kitty
 use Rattle.termwiz_base.specs.declared.kitty.KittyKeyboardFlags.{KittyKeyboardFlags}
 use Rattle.termwiz_extended_events.specs.declared.types.KeyReport.{KeyReport}
 use Rattle.termwiz_kitty.specs.KittyTexts.{kitty_text, IsTooLong, IsWithin}
-use Rattle.hedrugal.specs.declared.extended_events.CKeyReport.{CKeyReport}
+use Rattle.hedrugal.specs.declared.events.CEvent.{CEvent}
 use Rattle.hedrugal.specs.Calls.{copied}
-use Rattle.hedrugal.specs.KittyCalls.{IsBadReport, StandForReport}
+use Rattle.hedrugal.specs.KittyCalls.{IsBadReport, StandForKey}
 use Rattle.hedrugal.specs.Presses.{AreFlags}
 use Rattle.hedrugal.proofs.kitty_calls.hed_encode_kitty.Goals as goal
 
@@ -15,13 +15,13 @@ abbrev with_text : KeyReport → List ℕ → KeyReport
 with_text report text = record report { text = text }
 
 -- a bit of the flags has no name
-bad_flags : (numbers : CKeyReport) (flags : ℕ) → ((asked : KittyKeyboardFlags) → ¬ AreFlags asked flags)
+bad_flags : (numbers : CEvent) (flags : ℕ) → ((asked : KittyKeyboardFlags) → ¬ AreFlags asked flags)
     → IsBadReport numbers flags
 bad_flags numbers flags none = λ report both. none (record { 0 = flags }) (refl, both.1)
 
 -- the numbers stand for a report, and so no other answer is that for bad ones
-no_bad : (answer : ℕ) (numbers : CKeyReport) (flags : ℕ) (report : KeyReport) → ¬ (answer ≡ 3)
-    → StandForReport numbers report → HasEvery kitty.every_flag flags → (answer ≡ 3) ↔ IsBadReport numbers flags
+no_bad : (answer : ℕ) (numbers : CEvent) (flags : ℕ) (report : KeyReport) → ¬ (answer ≡ 3)
+    → StandForKey numbers report → HasEvery kitty.every_flag flags → (answer ≡ 3) ↔ IsBadReport numbers flags
 no_bad answer numbers flags report other stands has = (
   λ is. absurd (other is),
   λ bad. absurd (bad report (stands, has)),
@@ -30,28 +30,28 @@ no_bad answer numbers flags report other stands has = (
 -- flags with a bit that has no name
 pub returns-in_default-clause-bad_number : goal.returns-in_default-clause-bad_number
 returns-in_default-clause-bad_number c = (
-  λ is. bad_flags c.args.report.now c.args.flags (λ asked are. absurd (cc ((c.in_default.ensures asked).1 are))),
+  λ is. bad_flags c.args.event.now c.args.flags (λ asked are. absurd (cc ((c.in_default.ensures asked).1 are))),
   λ bad. refl,
 )
 
 pub returns-in_default-clause-bad_text : goal.returns-in_default-clause-bad_text
 returns-in_default-clause-bad_text c = (
   λ is. absurd (cc (is)),
-  λ both. absurd (both.0 (bad_flags c.args.report.now c.args.flags
+  λ both. absurd (both.0 (bad_flags c.args.event.now c.args.flags
       (λ asked are. absurd (cc ((c.in_default.ensures asked).1 are))))),
 )
 
 -- a text that isn't UTF-8
 pub returns-in_default-from_utf8-clause-bad_number : goal.returns-in_default-from_utf8-clause-bad_number
 returns-in_default-from_utf8-clause-bad_number c =
-    no_bad _ _ _ c.in-Some-report_of.told (search rules) c.in-Some-report_of.ensures.some
+    no_bad _ c.args.event.now _ c.in-Some-key_report_of.told (search rules) c.in-Some-key_report_of.ensures.some
     ((c.in-Some.ensures c.in-Some.asked).0 refl).1
 
 pub returns-in_default-from_utf8-clause-bad_text : goal.returns-in_default-from_utf8-clause-bad_text
 returns-in_default-from_utf8-clause-bad_text c = (
   λ is. (
-    λ bad. bad c.in-Some-report_of.told
-        (c.in-Some-report_of.ensures.some, ((c.in-Some.ensures c.in-Some.asked).0 refl).1),
+    λ bad. bad c.in-Some-key_report_of.told
+        (c.in-Some-key_report_of.ensures.some, ((c.in-Some.ensures c.in-Some.asked).0 refl).1),
     c.in_default-from_utf8.ensures.cases.0,
   ),
   λ both. refl,
@@ -60,19 +60,19 @@ returns-in_default-from_utf8-clause-bad_text c = (
 -- want of memory for the text
 pub returns-in_default-from_str-clause-bad_number : goal.returns-in_default-from_str-clause-bad_number
 returns-in_default-from_str-clause-bad_number c =
-    no_bad _ _ _ c.in-Some-report_of.told (search rules) c.in-Some-report_of.ensures.some
+    no_bad _ c.args.event.now _ c.in-Some-key_report_of.told (search rules) c.in-Some-key_report_of.ensures.some
     ((c.in-Some.ensures c.in-Some.asked).0 refl).1
 
 -- the bytes
 pub returns-in-Ok-encode_kitty-clause-text : goal.returns-in-Ok-encode_kitty-clause-text
 returns-in-Ok-encode_kitty-clause-text c = λ is.
     let asked = (c.in-Some.ensures c.in-Some.asked).0 refl in
-    let told = with_text c.in-Some-report_of.told c.new.result in
+    let told = with_text c.in-Some-key_report_of.told c.new.result in
     let sent = string_bytes c.in-Ok-encode_kitty.sent in (
       told,
       sent,
       (
-        c.in-Some-report_of.ensures.some,
+        c.in-Some-key_report_of.ensures.some,
         c.new.ensures ∙ c.in-Ok-from_str.ensures.ok ∙ c.in-Ok.ensures.cases.0,
         asked.1,
       ),
@@ -84,17 +84,17 @@ returns-in-Ok-encode_kitty-clause-text c = λ is.
 
 pub returns-in-Ok-encode_kitty-clause-bad_number : goal.returns-in-Ok-encode_kitty-clause-bad_number
 returns-in-Ok-encode_kitty-clause-bad_number c =
-    no_bad _ _ _ c.in-Some-report_of.told (search rules) c.in-Some-report_of.ensures.some
+    no_bad _ c.args.event.now _ c.in-Some-key_report_of.told (search rules) c.in-Some-key_report_of.ensures.some
     ((c.in-Some.ensures c.in-Some.asked).0 refl).1
 
 -- a key that has none
 pub returns-in-Err-UnknownKey-clause-refused_key : goal.returns-in-Err-UnknownKey-clause-refused_key
 returns-in-Err-UnknownKey-clause-refused_key c = λ is.
     let asked = (c.in-Some.ensures c.in-Some.asked).0 refl in
-    let told = with_text c.in-Some-report_of.told c.new.result in (
+    let told = with_text c.in-Some-key_report_of.told c.new.result in (
       told,
       (
-        c.in-Some-report_of.ensures.some,
+        c.in-Some-key_report_of.ensures.some,
         c.new.ensures ∙ c.in-Ok-from_str.ensures.ok ∙ c.in-Ok.ensures.cases.0,
         asked.1,
       ),
@@ -104,17 +104,17 @@ returns-in-Err-UnknownKey-clause-refused_key c = λ is.
 
 pub returns-in-Err-UnknownKey-clause-bad_number : goal.returns-in-Err-UnknownKey-clause-bad_number
 returns-in-Err-UnknownKey-clause-bad_number c =
-    no_bad _ _ _ c.in-Some-report_of.told (search rules) c.in-Some-report_of.ensures.some
+    no_bad _ c.args.event.now _ c.in-Some-key_report_of.told (search rules) c.in-Some-key_report_of.ensures.some
     ((c.in-Some.ensures c.in-Some.asked).0 refl).1
 
 -- a sequence that would be too long
 pub returns-in-Err-TooLong-clause-too_long : goal.returns-in-Err-TooLong-clause-too_long
 returns-in-Err-TooLong-clause-too_long c = λ is.
     let asked = (c.in-Some.ensures c.in-Some.asked).0 refl in
-    let told = with_text c.in-Some-report_of.told c.new.result in (
+    let told = with_text c.in-Some-key_report_of.told c.new.result in (
       told,
       (
-        c.in-Some-report_of.ensures.some,
+        c.in-Some-key_report_of.ensures.some,
         c.new.ensures ∙ c.in-Ok-from_str.ensures.ok ∙ c.in-Ok.ensures.cases.0,
         asked.1,
       ),
@@ -124,11 +124,11 @@ returns-in-Err-TooLong-clause-too_long c = λ is.
 
 pub returns-in-Err-TooLong-clause-bad_number : goal.returns-in-Err-TooLong-clause-bad_number
 returns-in-Err-TooLong-clause-bad_number c =
-    no_bad _ _ _ c.in-Some-report_of.told (search rules) c.in-Some-report_of.ensures.some
+    no_bad _ c.args.event.now _ c.in-Some-key_report_of.told (search rules) c.in-Some-key_report_of.ensures.some
     ((c.in-Some.ensures c.in-Some.asked).0 refl).1
 
 -- want of memory for the bytes
 pub returns-clause-bad_number : goal.returns-clause-bad_number
 returns-clause-bad_number c =
-    no_bad _ _ _ c.in-Some-report_of.told (search rules) c.in-Some-report_of.ensures.some
+    no_bad _ c.args.event.now _ c.in-Some-key_report_of.told (search rules) c.in-Some-key_report_of.ensures.some
     ((c.in-Some.ensures c.in-Some.asked).0 refl).1

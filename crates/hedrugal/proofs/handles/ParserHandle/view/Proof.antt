@@ -2,9 +2,9 @@
 use Rattle.hedrugal.proofs.Walks.{fst∗, ◌≡◌, List, [], ◌∷◌, refl, named, Val, vptr, full_share, SProp, emp, id⊢, GName, ftrue, fsep, flft, sem, ‵, raw, ◌⊛◌, some, later, at_ret, ◌$◌, ◌∵◌, !, qed, done, move, keep, drop, split, split3, join, fsplit, fsplit3, fjoin, fpack, pick, use0, use1, await, suffices, frame, group, stop, addr, of_opd, first, blocks, exec, returns, enter, alloc_all, pass_all, free_all, look_at, get, through, sets, sets_last, env, fact, fact_i, tables, no, follows, Part, lends_Part, cell_at, mem, RattleType, owns, MutRef, mut_vals, mut_Tells, plain, mut_ref_to, nothing, opens, Stays, stay_dropped, walk_of, ends_at, Goes-spent_ref, tail, proved}
 use denote.Memory.{part_of}
 use Rattle.hedrugal.specs.Views.{parser_of, viewed_parser}
-use Rattle.hedrugal.specs.contracts.parser_and_paste.ParserAndPaste.{the_row as HeldType}
+use Rattle.hedrugal.specs.contracts.parser_and_text.ParserAndText.{the_row as HeldType}
 use Rattle.hedrugal.specs.contracts.handles.ParserHandle.{the_row as CType}
-use Rattle.hedrugal.specs.contracts.handle.Handle as generic
+use Rattle.hedrugal.specs.contracts.holder.Holder as generic
 use Rattle.hedrugal.specs.contracts.handles.ParserHandle.view as it
 use Rattle.hedrugal.proofs.handles.ParserHandle.view.Statement.{statement}
 use Rattle.hedrugal.proofs.handles.ParserHandle.view.Code as code

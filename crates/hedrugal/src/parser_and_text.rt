@@ -1,0 +1,114 @@
+// What the handle of a parser leads to.
+ghost use Rattle.std.specs.Prelude.{◌≡◌, ◌+◌, ◌≤◌, ℕ, List, [], length, true, false, Ok, OnErr};
+ghost use Rattle.std.specs.FinMap as map;
+ghost use Rattle.termwiz_input.specs.KeyEvent.{KeyEvent};
+ghost use Rattle.termwiz_input.specs.Table.{table};
+ghost use Rattle.termwiz_grammar.specs.RowsInOrder.{AreCompletions, IsRowAt};
+ghost use Rattle.termwiz_extended_events.specs.declared.types.Event.TheVariants.{Key};
+ghost use Rattle.termwiz_extended_events.specs.PortEvents.{pressed_key};
+ghost use Rattle.termwiz_timed.specs.Steps.{Step};
+ghost use Rattle.termwiz_timed.specs.Steps.Call.{AllTold, Told};
+ghost use Rattle.termwiz_timed.specs.declared.parser.TimedEvent.{TimedEvent as AnEvent};
+ghost use Rattle.hedrugal.specs.Calls.{MeetsMemory, copied};
+ghost use Rattle.hedrugal.specs.Events.{brought, bytes_of, c_event, c_told};
+
+use crate::copying::copy_prefix;
+use crate::entry_calls::CEntries;
+use crate::events::{CEvent, c_part, own_bytes, show};
+use std::alloc::{AllocError, Global};
+use termwiz_extended_events::port_events::pressed_key;
+use termwiz_input_extended::types::Event;
+use termwiz_timed::parser::{TimedEvent, TimedParser};
+
+/// A parser, and the bytes of the event that was told last.
+#[derive(Drop)]
+pub struct ParserAndText {
+    pub(crate) parser: TimedParser,
+    pub(crate) text: Vec<u8>,
+}
+
+impl ParserAndText {
+    // The parser, with no bytes of an event.
+    pub(crate) fn of(alloc: Global, parser: TimedParser) -> ParserAndText
+        ensures parser { result.parser ≡ parser }
+        ensures text { result.text.items ≡ [] }
+    {
+        ParserAndText {
+            parser,
+            text: Vec::new(alloc),
+        }
+    }
+
+    // Keeps the bytes of an event, and shows it as C has it. Inlined, as `next` is.
+    #[inline(always)]
+    fn keep(&mut self, event: Event, shown: &mut CEvent)
+        ensures event { shown.new ≡ c_event event }
+        ensures text { self.new.text.items ≡ bytes_of event }
+        ensures parser { self.new.parser ≡ self.old.parser }
+    {
+        show(&event, shown);
+        match own_bytes(event) {
+            Some(bytes) => self.text = bytes,
+            None => self.text.clear(),
+        }
+    }
+
+    // Shows the next event as C has it. The answer is false if all is told. Inlined, so that the event is written where it is wanted.
+    #[inline(always)]
+    pub(crate) fn next(&mut self, shown: &mut CEvent) -> Result<bool, AllocError>
+        ensures told { result ≡ Ok true → (event : AnEvent) × Step self.old.parser (Told event) self.new.parser
+            × (shown.new ≡ c_told event) × (self.new.text.items ≡ brought event) }
+        ensures all_told { result ≡ Ok false → Step self.old.parser AllTold self.new.parser }
+        ensures none_text { result ≡ Ok false → self.new.text ≡ self.old.text }
+        ensures none_shown { result ≡ Ok false → shown.new ≡ shown.old }
+        ensures refused { OnErr result (MeetsMemory self.old.parser) }
+        ensures refused_same { OnErr result (self.new ≡ self.old) }
+        ensures refused_shown { OnErr result (shown.new ≡ shown.old) }
+    {
+        match self.parser.next()? {
+            Some(TimedEvent::Whole(event)) => {
+                self.keep(event, shown);
+                Ok(true)
+            }
+            Some(TimedEvent::PastePart(text)) => {
+                *shown = c_part(text.as_str());
+                self.text = text.into_string().into_bytes();
+                Ok(true)
+            }
+            None => Ok(false),
+        }
+    }
+
+    // Copies as much of the row at a place as `out` has room for, shows its key, and returns the row's length; 0 if no row is there.
+    pub(crate) fn copy_row(
+        &self,
+        alloc: Global,
+        place: usize,
+        out: &mut [u8],
+        event: &mut CEvent,
+    ) -> usize
+        ensures row { (row : List ℕ) (key : KeyEvent) → IsRowAt place row key
+            → (result ≡ length row) × (out.new ≡ copied row out.old) × (event.new ≡ c_event (Key (pressed_key key))) }
+        ensures none { map.len table ≤ place → result ≡ 0 }
+        ensures out_same { map.len table ≤ place → out.new ≡ out.old }
+        ensures event_same { map.len table ≤ place → event.new ≡ event.old }
+    {
+        let Some((row, key)) = self.parser.parser().input().row(place) else {
+            return 0;
+        };
+        show(&Event::Key(pressed_key(alloc, key)), event);
+        copy_prefix(row, out)
+    }
+
+    // The rows that would complete what is buffered.
+    pub(crate) fn completions(&self) -> CEntries
+        ensures { AreCompletions self.now.parser.text result.with_alt result.first (result.first + result.count) }
+    {
+        let found = self.parser.parser().input().completions();
+        CEntries {
+            first: found.rows.start,
+            count: found.rows.end - found.rows.start,
+            with_alt: found.with_alt,
+        }
+    }
+}
