@@ -1,8 +1,7 @@
-/* A test of bindings and matchers. Worked rows say what the presses of some keys do. A thousand chords are bound, listed, read by a matcher and
- * unbound. Numbers that stand for nothing are refused, and so is a handle that has no bindings. */
+/* A test of bindings, matchers and a program's own timer. Worked rows say what the presses of some keys do, and when. A thousand chords are bound,
+ * listed, read by a matcher and unbound. Numbers that stand for nothing are refused, and so is a handle that has no bindings. */
 #include "expect.h"
 #include "hedrugal.h"
-#include <stdio.h>
 #include <string.h>
 
 enum { CHORDS = 1000 };
@@ -10,7 +9,7 @@ enum { CHORDS = 1000 };
 /* Reads the name of a chord, up to a character that ends it, and returns how many presses it has. */
 static size_t read_chord(const char *text, size_t len, hed_key_press *keys) {
   size_t count, at;
-  EXPECT(hed_key_read((const uint8_t *)text, len, keys, HED_CHORD_MOST, &count, &at) == HED_NAMED_KEYS);
+  EXPECT(hed_key_read((const uint8_t *)text, len, keys, HED_CHORD_MOST, &count, &at) == HED_OK);
   return count;
 }
 
@@ -26,36 +25,37 @@ static char told[256];
 static void tell_press(const char *before, const hed_key_press *keys, size_t count) {
   uint8_t name[128];
   size_t len;
-  EXPECT(hed_key_print(keys, count, name, sizeof name, &len) == HED_PRINTED_NAME);
+  EXPECT(hed_key_print(keys, count, name, sizeof name, &len) == HED_OK);
   snprintf(told + strlen(told), sizeof told - strlen(told), "%s%s%.*s", *told ? "; " : "", before, (int)len, name);
 }
 
-static void tell(uint32_t answer, const hed_outcome *outcome) {
-  if (answer == HED_OUTCOME_UNBOUND) {
+static void tell(const hed_outcome *outcome) {
+  if (outcome->kind == HED_OUTCOME_UNBOUND) {
     EXPECT(outcome->keys == 1 && outcome->value == 0);
     tell_press("?", &outcome->press, 1);
     return;
   }
-  EXPECT(answer == HED_OUTCOME_BOUND && outcome->press.key == 0 && outcome->press.detail == 0);
+  EXPECT(outcome->kind == HED_OUTCOME_BOUND && outcome->press.key == 0 && outcome->press.detail == 0);
   snprintf(told + strlen(told), sizeof told - strlen(told), "%s%u", *told ? "; " : "", (unsigned)outcome->value);
 }
 
 /* Tells all outcomes. What a call leaves unwritten stays. */
 static void take_all(hed_matcher *matcher, const hed_bindings *bindings, bool more) {
   for (;;) {
-    hed_outcome outcome = { 77, 77, { 7, 7, 7 } }, first = outcome;
-    uint32_t paused = hed_matcher_on_pause(matcher, bindings, &first);
+    hed_outcome outcome = { 77, 77, { 7, 7, 7 }, 77 }, first = outcome;
+    hed_status paused = hed_matcher_on_pause(matcher, bindings, &first);
     hed_matcher before = *matcher;
-    uint32_t answer = hed_matcher_next(matcher, bindings, more, &outcome);
-    if (answer == HED_OUTCOME_NONE) {
-      EXPECT(outcome.keys == 77 && outcome.value == 77 && outcome.press.key == 7 && matcher->count < HED_CHORD_MOST);
-      EXPECT(memcmp(&before, matcher, sizeof before) == 0 && (paused == HED_OUTCOME_NONE) == (matcher->count == 0));
+    hed_status answer = hed_matcher_next(matcher, bindings, more, &outcome);
+    if (answer == HED_NONE) {
+      EXPECT(outcome.keys == 77 && outcome.value == 77 && outcome.press.key == 7 && outcome.kind == 77 && matcher->count < HED_CHORD_MOST);
+      EXPECT(memcmp(&before, matcher, sizeof before) == 0 && (paused == HED_NONE) == (matcher->count == 0));
       return;
     }
-    EXPECT(answer == paused && outcome.keys == first.keys && outcome.value == first.value && outcome.press.detail == first.press.detail);
+    EXPECT(answer == HED_OK && paused == HED_OK && outcome.kind == first.kind && outcome.keys == first.keys && outcome.value == first.value
+           && outcome.press.detail == first.press.detail);
     EXPECT(matcher->count == before.count - outcome.keys);
     EXPECT(memcmp(matcher->keys, before.keys + outcome.keys, matcher->count * sizeof *before.keys) == 0);
-    tell(answer, &outcome);
+    tell(&outcome);
   }
 }
 
@@ -64,8 +64,9 @@ static void bind_all(hed_bindings *bindings, const char *chords) {
   uint64_t value = 1;
   for (const char *at = chords; *at; value++) {
     hed_key_press keys[HED_CHORD_MOST];
-    size_t len = strcspn(at, ",");
-    EXPECT(hed_bindings_bind(bindings, keys, read_chord(at, len, keys), value) == HED_BOUND_VALUE);
+    size_t len = strcspn(at, ","), wrong = 77;
+    if (value % 2) EXPECT(hed_bindings_bind_name(bindings, (const uint8_t *)at, len, value, &wrong) == HED_OK && wrong == 0);
+    else EXPECT(hed_bindings_bind(bindings, keys, read_chord(at, len, keys), value) == HED_OK);
     at += len + (at[len] == ',');
   }
 }
@@ -81,15 +82,15 @@ static void do_word(hed_matcher *matcher, hed_bindings *bindings, const char *wo
     tell_press("cancelled ", keys, hed_matcher_cancel(matcher, keys, HED_CHORD_MOST));
   } else if (len > 7 && memcmp(word, "UNBIND:", 7) == 0) {
     uint64_t value = 77;
-    EXPECT(hed_bindings_unbind(bindings, keys, read_chord("a b c", 5, keys), &value) == HED_BOUND_VALUE && value == 1);
+    EXPECT(hed_bindings_unbind(bindings, keys, read_chord("a b c", 5, keys), &value) == HED_OK && value == 1);
     take_all(matcher, bindings, true);
   } else if (slash) {
     hed_key_press either[] = { read_press(word, (size_t)(slash - word)), read_press(slash + 1, len - (size_t)(slash + 1 - word)) };
-    EXPECT(hed_matcher_press_either(matcher, bindings, either, 2) == HED_PRESSED_KEY);
+    EXPECT(hed_matcher_press_either(matcher, bindings, either, 2) == HED_OK);
     take_all(matcher, bindings, true);
   } else {
     hed_key_press press = read_press(word, len);
-    EXPECT(hed_matcher_press(matcher, &press) == HED_PRESSED_KEY);
+    EXPECT(hed_matcher_press(matcher, &press) == HED_OK);
     if (!strstr(word, "CANCEL")) take_all(matcher, bindings, true);
   }
 }
@@ -117,7 +118,7 @@ static void presses_run_commands(void) {
   for (size_t i = 0; i < sizeof rows / sizeof *rows; i++) {
     hed_bindings bindings = HED_BINDINGS_NONE;
     hed_matcher matcher = HED_MATCHER_NONE;
-    EXPECT(hed_bindings_init(&bindings) && hed_bindings_len(&bindings) == 0);
+    EXPECT(hed_bindings_init(&bindings) == HED_OK && hed_bindings_len(&bindings) == 0);
     bind_all(&bindings, rows[i].chords);
     *told = 0;
     for (const char *at = rows[i].words; *at;) {
@@ -145,54 +146,45 @@ static void number_chord(unsigned number, hed_key_press *keys) {
   }
 }
 
-/* A thousand chords, bound in an order of their own. */
+/* A thousand chords, bound in an order of their own, listed, read from their keys, and unbound. */
 static void binds_a_thousand_chords(void) {
   hed_bindings bindings = HED_BINDINGS_NONE;
-  hed_key_press keys[HED_CHORD_MOST], shown[HED_CHORD_MOST];
-  uint64_t value;
-  size_t count, first, end;
-  EXPECT(hed_bindings_init(&bindings));
-  for (unsigned i = 0; i < CHORDS; i++) {
-    number_chord(i * 7919 % CHORDS, keys);
-    EXPECT(hed_bindings_bind(&bindings, keys, 3, i) == HED_BOUND_VALUE);
-    EXPECT(hed_bindings_bind(&bindings, keys, 3, i * 7919 % CHORDS) == HED_BOUND_VALUE && hed_bindings_len(&bindings) == i + 1);
-  }
-  for (unsigned i = 0; i < CHORDS; i++) {
-    number_chord(i, keys);
-    EXPECT(hed_bindings_lookup(&bindings, keys, 3, &value) == HED_BOUND_VALUE && value == i);
-    EXPECT(hed_bindings_lookup(&bindings, keys, 2, &value) == HED_BOUND_NONE && value == i);
-    memset(shown, 0, sizeof shown);
-    EXPECT(hed_bindings_entry(&bindings, i, shown, 2, &count, &value) == HED_BOUND_VALUE && count == 3 && value == i);
-    EXPECT(shown[1].detail == keys[1].detail && shown[2].key == 0);
-    EXPECT(hed_bindings_entry(&bindings, i, shown, HED_CHORD_MOST, &count, &value) == HED_BOUND_VALUE);
-    EXPECT(shown[2].key == HED_KEY_CHAR && shown[2].detail == keys[2].detail);
-    EXPECT(hed_bindings_continuations(&bindings, keys, 2, &first, &end) == HED_BOUND_VALUE && first == i - i % 10 && end == first + 10);
-    EXPECT(hed_bindings_continuations(&bindings, keys, 3, &first, &end) == HED_BOUND_NONE && first == 0 && end == 0);
-  }
-  EXPECT(hed_bindings_continuations(&bindings, NULL, 0, &first, &end) == HED_BOUND_VALUE && first == 0 && end == CHORDS);
-  count = value = 77;
-  EXPECT(hed_bindings_entry(&bindings, CHORDS, shown, HED_CHORD_MOST, &count, &value) == HED_BOUND_NONE && count == 0 && value == 77);
-  /* every chord is read from its keys */
   hed_matcher matcher = HED_MATCHER_NONE;
+  hed_outcome outcome;
+  hed_key_press keys[HED_CHORD_MOST], shown[3];
+  uint64_t value = 77;
+  size_t count = 77, first, end;
+  EXPECT(hed_bindings_init(&bindings) == HED_OK);
   for (unsigned i = 0; i < CHORDS; i++) {
-    hed_outcome outcome;
+    number_chord(i * 7919 % CHORDS, keys);
+    for (int again = 0; again < 2; again++) EXPECT(hed_bindings_bind(&bindings, keys, 3, again ? i * 7919 % CHORDS : i) == HED_OK);
+    EXPECT(hed_bindings_len(&bindings) == i + 1);
+  }
+  EXPECT(hed_bindings_continuations(&bindings, NULL, 0, &first, &end) == HED_OK && first == 0 && end == CHORDS);
+  EXPECT(hed_bindings_entry(&bindings, CHORDS, shown, 3, &count, &value) == HED_NONE && count == 0 && value == 77);
+  for (unsigned i = 0; i < CHORDS; i++) {
     number_chord(i, keys);
-    for (unsigned k = 0; k < 3; k++) {
-      EXPECT(hed_matcher_next(&matcher, &bindings, true, &outcome) == HED_OUTCOME_NONE);
-      EXPECT(hed_matcher_press(&matcher, &keys[k]) == HED_PRESSED_KEY && !hed_matcher_is_dead_end(&matcher, &bindings));
+    EXPECT(hed_bindings_lookup(&bindings, keys, 3, &value) == HED_OK && value == i);
+    EXPECT(hed_bindings_lookup(&bindings, keys, 2, &value) == HED_NONE && value == i);
+    for (size_t room = 0; room <= 3; room++) {
+      memset(shown, 0, sizeof shown);
+      EXPECT(hed_bindings_entry(&bindings, i, shown, room, &count, &value) == HED_OK && count == 3 && value == i);
+      for (size_t k = 0; k < 3; k++) EXPECT(shown[k].detail == (k < room ? keys[k].detail : 0));
     }
-    EXPECT(hed_matcher_next(&matcher, &bindings, true, &outcome) == HED_OUTCOME_BOUND && outcome.value == i && outcome.keys == 3);
+    EXPECT(hed_bindings_continuations(&bindings, keys, 2, &first, &end) == HED_OK && first == i - i % 10 && end == first + 10);
+    EXPECT(hed_bindings_continuations(&bindings, keys, 3, &first, &end) == HED_NONE && first == 0 && end == 0);
+    for (size_t k = 0; k < 3; k++) {
+      EXPECT(hed_matcher_next(&matcher, &bindings, true, &outcome) == HED_NONE);
+      EXPECT(hed_matcher_press(&matcher, &keys[k]) == HED_OK && !hed_matcher_is_dead_end(&matcher, &bindings));
+    }
+    EXPECT(hed_matcher_next(&matcher, &bindings, true, &outcome) == HED_OK && outcome.value == i && outcome.keys == 3);
   }
   for (unsigned i = 0; i < CHORDS; i++) {
     number_chord(i * 7919 % CHORDS, keys);
-    EXPECT(hed_bindings_unbind(&bindings, keys, 3, &value) == HED_BOUND_VALUE && value == i * 7919 % CHORDS);
-    value = 77;
-    EXPECT(hed_bindings_unbind(&bindings, keys, 3, &value) == HED_BOUND_NONE && value == 77);
-    EXPECT(hed_bindings_len(&bindings) == CHORDS - 1 - i);
+    EXPECT(hed_bindings_unbind(&bindings, keys, 3, &value) == HED_OK && value == i * 7919 % CHORDS);
+    EXPECT(hed_bindings_unbind(&bindings, keys, 3, &value) == HED_NONE && value == i * 7919 % CHORDS);
   }
-  /* all 64 bits of a value are kept */
-  EXPECT(hed_bindings_bind(&bindings, keys, 3, UINT64_MAX) == HED_BOUND_VALUE);
-  EXPECT(hed_bindings_lookup(&bindings, keys, 3, &value) == HED_BOUND_VALUE && value == UINT64_MAX);
+  EXPECT(hed_bindings_len(&bindings) == 0);
   hed_bindings_free(&bindings);
 }
 
@@ -211,71 +203,163 @@ static void refuses_bad_numbers(void) {
   hed_key_press keys[HED_CHORD_MOST + 1];
   uint64_t value = 77;
   size_t first, end;
-  hed_outcome outcome = { 77, 77, { 7, 7, 7 } };
-  EXPECT(hed_bindings_init(&bindings));
+  hed_outcome outcome = { 77, 77, { 7, 7, 7 }, 77 };
+  EXPECT(hed_bindings_init(&bindings) == HED_OK);
   for (size_t i = 0; i < sizeof bad / sizeof *bad; i++) {
     hed_matcher matcher = HED_MATCHER_NONE;
     keys[0] = read_press("a", 1);
     keys[1] = bad[i];
-    EXPECT(hed_bindings_bind(&bindings, keys, 2, 1) == HED_BOUND_BAD_NUMBER);
-    EXPECT(hed_bindings_lookup(&bindings, keys, 2, &value) == HED_BOUND_BAD_NUMBER);
-    EXPECT(hed_bindings_unbind(&bindings, keys, 2, &value) == HED_BOUND_BAD_NUMBER && value == 77);
-    EXPECT(hed_bindings_continuations(&bindings, keys, 2, &first, &end) == HED_BOUND_BAD_NUMBER && first == 0 && end == 0);
-    EXPECT(hed_matcher_press(&matcher, &bad[i]) == HED_PRESSED_BAD_NUMBER && matcher.count == 0);
-    EXPECT(hed_matcher_press_either(&matcher, &bindings, keys, 2) == HED_PRESSED_BAD_NUMBER && matcher.count == 0);
+    EXPECT(hed_bindings_bind(&bindings, keys, 2, 1) == HED_BAD_NUMBER);
+    EXPECT(hed_bindings_lookup(&bindings, keys, 2, &value) == HED_BAD_NUMBER);
+    EXPECT(hed_bindings_unbind(&bindings, keys, 2, &value) == HED_BAD_NUMBER && value == 77);
+    EXPECT(hed_bindings_continuations(&bindings, keys, 2, &first, &end) == HED_BAD_NUMBER && first == 0 && end == 0);
+    EXPECT(hed_matcher_press(&matcher, &bad[i]) == HED_BAD_NUMBER && matcher.count == 0);
+    EXPECT(hed_matcher_press_either(&matcher, &bindings, keys, 2) == HED_BAD_NUMBER && matcher.count == 0);
     matcher.count = 2;
     memcpy(matcher.keys, keys, 2 * sizeof *keys);
-    EXPECT(hed_matcher_press(&matcher, keys) == HED_PRESSED_BAD_NUMBER && matcher.count == 2);
-    EXPECT(hed_matcher_press_either(&matcher, &bindings, keys, 1) == HED_PRESSED_BAD_NUMBER);
-    EXPECT(hed_matcher_next(&matcher, &bindings, false, &outcome) == HED_OUTCOME_BAD_NUMBER && matcher.count == 2);
-    EXPECT(hed_matcher_on_pause(&matcher, &bindings, &outcome) == HED_OUTCOME_BAD_NUMBER && outcome.keys == 77);
+    EXPECT(hed_matcher_press(&matcher, keys) == HED_BAD_NUMBER && matcher.count == 2);
+    EXPECT(hed_matcher_press_either(&matcher, &bindings, keys, 1) == HED_BAD_NUMBER);
+    EXPECT(hed_matcher_next(&matcher, &bindings, false, &outcome) == HED_BAD_NUMBER && matcher.count == 2);
+    EXPECT(hed_matcher_on_pause(&matcher, &bindings, &outcome) == HED_BAD_NUMBER && outcome.keys == 77);
     EXPECT(!hed_matcher_is_dead_end(&matcher, &bindings) && hed_matcher_pending(&matcher, keys, 2) == 0);
     EXPECT(hed_matcher_cancel(&matcher, keys, 2) == 0 && matcher.count == 0);
   }
   for (size_t i = 0; i <= HED_CHORD_MOST; i++) keys[i] = read_press("a", 1);
-  EXPECT(hed_bindings_bind(&bindings, NULL, 0, 1) == HED_BOUND_BAD_NUMBER);
-  EXPECT(hed_bindings_bind(&bindings, keys, HED_CHORD_MOST + 1, 1) == HED_BOUND_BAD_NUMBER);
-  EXPECT(hed_bindings_continuations(&bindings, keys, HED_CHORD_MOST + 1, &first, &end) == HED_BOUND_BAD_NUMBER);
-  EXPECT(hed_bindings_bind(&bindings, keys, HED_CHORD_MOST, 1) == HED_BOUND_VALUE && hed_bindings_len(&bindings) == 1);
+  EXPECT(hed_bindings_bind(&bindings, NULL, 0, 1) == HED_BAD_NUMBER);
+  EXPECT(hed_bindings_bind(&bindings, keys, HED_CHORD_MOST + 1, 1) == HED_BAD_NUMBER);
+  EXPECT(hed_bindings_continuations(&bindings, keys, HED_CHORD_MOST + 1, &first, &end) == HED_BAD_NUMBER);
+  EXPECT(hed_bindings_bind(&bindings, keys, HED_CHORD_MOST, 1) == HED_OK && hed_bindings_len(&bindings) == 1);
   hed_matcher matcher = HED_MATCHER_NONE;
-  EXPECT(hed_matcher_press_either(&matcher, &bindings, NULL, 0) == HED_PRESSED_BAD_NUMBER);
-  EXPECT(hed_matcher_press_either(&matcher, &bindings, keys, 3) == HED_PRESSED_BAD_NUMBER);
-  for (size_t i = 0; i < HED_CHORD_MOST; i++) EXPECT(hed_matcher_press_either(&matcher, &bindings, keys, 1) == HED_PRESSED_KEY);
-  EXPECT(hed_matcher_press(&matcher, keys) == HED_PRESSED_FULL && matcher.count == HED_CHORD_MOST);
-  EXPECT(hed_matcher_press_either(&matcher, &bindings, keys, 2) == HED_PRESSED_FULL && matcher.count == HED_CHORD_MOST);
+  EXPECT(hed_matcher_press_either(&matcher, &bindings, NULL, 0) == HED_BAD_NUMBER);
+  EXPECT(hed_matcher_press_either(&matcher, &bindings, keys, 3) == HED_BAD_NUMBER);
+  for (size_t i = 0; i < HED_CHORD_MOST; i++) EXPECT(hed_matcher_press_either(&matcher, &bindings, keys, 1) == HED_OK);
+  EXPECT(hed_matcher_press(&matcher, keys) == HED_FULL && matcher.count == HED_CHORD_MOST);
+  EXPECT(hed_matcher_press_either(&matcher, &bindings, keys, 2) == HED_FULL && matcher.count == HED_CHORD_MOST);
   hed_matcher copy = matcher;
-  EXPECT(hed_matcher_next(&matcher, &bindings, true, &outcome) == HED_OUTCOME_BOUND && outcome.keys == HED_CHORD_MOST
-         && outcome.value == 1);
+  EXPECT(hed_matcher_next(&matcher, &bindings, true, &outcome) == HED_OK && outcome.keys == HED_CHORD_MOST && outcome.value == 1);
   EXPECT(hed_matcher_pending(&copy, keys, 1) == HED_CHORD_MOST && copy.count == HED_CHORD_MOST);
   copy.count++;
-  EXPECT(hed_matcher_next(&copy, &bindings, true, &outcome) == HED_OUTCOME_BAD_NUMBER);
+  EXPECT(hed_matcher_next(&copy, &bindings, true, &outcome) == HED_BAD_NUMBER);
   hed_bindings_free(&bindings);
 }
 
-static void answers_without_bindings(void) {
-  hed_bindings none = HED_BINDINGS_NONE;
+/* A name is bound as its presses are, once and again, and a wrong one changes nothing. */
+static void binds_names(void) {
+  hed_bindings bindings = HED_BINDINGS_NONE;
+  hed_key_press keys[HED_CHORD_MOST];
+  uint64_t value;
+  size_t at = 77;
+  EXPECT(hed_bindings_init(&bindings) == HED_OK);
+  EXPECT(hed_bindings_bind_name(&bindings, HED_TEXT("C-x C-s"), 1, &at) == HED_OK && at == 0);
+  EXPECT(hed_bindings_lookup(&bindings, keys, read_chord("ctrl+x ctrl+s", 13, keys), &value) == HED_OK && value == 1);
+  EXPECT(hed_bindings_bind_name(&bindings, HED_TEXT("ctrl+x ctrl+s"), UINT64_MAX, &at) == HED_OK && at == 0);
+  EXPECT(hed_bindings_lookup(&bindings, keys, 2, &value) == HED_OK && value == UINT64_MAX && hed_bindings_len(&bindings) == 1);
+  EXPECT(hed_bindings_bind_name(&bindings, HED_TEXT("ctrl+x foo"), 2, &at) == HED_NAME_UNKNOWN_NAME && at == 7);
+  EXPECT(hed_bindings_lookup(&bindings, keys, 2, &value) == HED_OK && value == UINT64_MAX && hed_bindings_len(&bindings) == 1);
+  hed_bindings_free(&bindings);
+}
+
+/* There are no bindings before init and after free, and each call says so. */
+static void none_answers(hed_bindings *none) {
   hed_matcher matcher = HED_MATCHER_NONE;
   hed_key_press keys[1] = { read_press("a", 1) };
   uint64_t value = 77;
-  size_t count = 77, first, end;
-  hed_outcome outcome = { 77, 77, { 7, 7, 7 } };
-  EXPECT(hed_bindings_bind(&none, keys, 1, 1) == HED_BOUND_NO_BINDINGS && hed_bindings_len(&none) == 0);
-  EXPECT(hed_bindings_lookup(&none, keys, 1, &value) == HED_BOUND_NO_BINDINGS);
-  EXPECT(hed_bindings_unbind(&none, keys, 1, &value) == HED_BOUND_NO_BINDINGS && value == 77);
-  EXPECT(hed_bindings_entry(&none, 0, keys, 1, &count, &value) == HED_BOUND_NO_BINDINGS && count == 0);
-  EXPECT(hed_bindings_continuations(&none, keys, 1, &first, &end) == HED_BOUND_NO_BINDINGS && first == 0 && end == 0);
-  EXPECT(hed_matcher_press_either(&matcher, &none, keys, 1) == HED_PRESSED_NO_BINDINGS && matcher.count == 0);
-  EXPECT(hed_matcher_press(&matcher, keys) == HED_PRESSED_KEY);
-  EXPECT(hed_matcher_next(&matcher, &none, false, &outcome) == HED_OUTCOME_NO_BINDINGS && matcher.count == 1);
-  EXPECT(hed_matcher_on_pause(&matcher, &none, &outcome) == HED_OUTCOME_NO_BINDINGS && outcome.value == 77);
-  EXPECT(!hed_matcher_is_dead_end(&matcher, &none));
-  hed_bindings_free(&none);
+  size_t count = 77, first, end, at = 77;
+  hed_outcome outcome = { 77, 77, { 7, 7, 7 }, 77 };
+  EXPECT(hed_bindings_bind(none, keys, 1, 1) == HED_NOT_INITIALIZED && hed_bindings_len(none) == 0);
+  EXPECT(hed_bindings_lookup(none, keys, 1, &value) == HED_NOT_INITIALIZED);
+  EXPECT(hed_bindings_unbind(none, keys, 1, &value) == HED_NOT_INITIALIZED && value == 77);
+  EXPECT(hed_bindings_entry(none, 0, keys, 1, &count, &value) == HED_NOT_INITIALIZED && count == 0);
+  EXPECT(hed_bindings_continuations(none, keys, 1, &first, &end) == HED_NOT_INITIALIZED && first == 0 && end == 0);
+  EXPECT(hed_matcher_press_either(&matcher, none, keys, 1) == HED_NOT_INITIALIZED && matcher.count == 0);
+  EXPECT(hed_matcher_press(&matcher, keys) == HED_OK);
+  EXPECT(hed_matcher_next(&matcher, none, false, &outcome) == HED_NOT_INITIALIZED && matcher.count == 1);
+  EXPECT(hed_matcher_on_pause(&matcher, none, &outcome) == HED_NOT_INITIALIZED && outcome.value == 77);
+  EXPECT(!hed_matcher_is_dead_end(&matcher, none));
+  EXPECT(hed_bindings_bind_name(none, HED_TEXT("a"), 1, &at) == HED_NOT_INITIALIZED && at == 0);
+  hed_bindings_free(none);
+  EXPECT(!none->live);
+}
+
+static void answers_without_bindings(void) {
+  hed_bindings bindings = HED_BINDINGS_NONE;
+  for (int again = 0; again < 2; again++) {
+    none_answers(&bindings);
+    EXPECT(hed_bindings_init(&bindings) == HED_OK);
+    hed_bindings_free(&bindings);
+  }
+}
+
+/* What a program tells a timer: the letters of `what` say whether something was fed or taken, and whether nothing is pending. */
+static hed_seen seen_of(int32_t limit, uint8_t by, const char *what) {
+  return (hed_seen){ limit, by, strchr(what, 'f') != NULL, strchr(what, 't') != NULL, strchr(what, 'e') != NULL };
+}
+
+/* A timer is told these notes in turn. After each it is asked how long what is pending may still wait. */
+enum { LAST = HED_AGE_LAST, FRONT = HED_AGE_FRONT };
+static const struct {
+  uint64_t noted;
+  int32_t limit;
+  uint8_t by;
+  const char *what;
+  uint64_t asked;
+  int32_t left;
+} notes[] = {
+  /* The pause of a chord: each press begins it again. */
+  { 5000, 1000, LAST, "f", 5000, 1000 },
+  { 5000, 1000, LAST, "", 5400, 600 },
+  { 5400, 1000, LAST, "f", 6399, 1 },
+  { 6399, 1000, LAST, "", 6400, 0 },
+  /* While the clock steps back no time passes. */
+  { 9000, 1000, LAST, "f", 9300, 700 },
+  { 9300, 1000, LAST, "", 100, 700 },
+  { 100, 1000, LAST, "", 799, 1 },
+  /* What is fed doesn't put off what waits at the front. */
+  { 1000, 300, FRONT, "te", 2000, 0 },
+  { 3000, 300, FRONT, "f", 3000, 300 },
+  { 3200, 300, FRONT, "f", 3200, 100 },
+  { 3250, 300, FRONT, "t", 3350, 200 },
+  /* No limit, a limit of 0, and the longest times. */
+  { 3350, INT32_MIN, FRONT, "", UINT64_MAX, -1 },
+  { 3350, 0, FRONT, "ft", 3350, 0 },
+  { 3350, INT32_MAX, LAST, "f", 3350, INT32_MAX },
+  { 3351, INT32_MAX, LAST, "", UINT64_MAX, 0 },
+  { 0, INT32_MAX, LAST, "", UINT64_MAX, 0 },
+  { 0, INT32_MAX, LAST, "f", INT32_MAX - 5, 5 },
+};
+
+static void tells_how_long_to_wait(void) {
+  hed_timer timer = HED_TIMER_NONE;
+  EXPECT(hed_timer_timeout(&timer, 0) == -1 && hed_timer_timeout(&timer, UINT64_MAX) == -1);
+  for (size_t i = 0; i < sizeof notes / sizeof *notes; i++) {
+    hed_seen seen = seen_of(notes[i].limit, notes[i].by, notes[i].what);
+    EXPECT(hed_timer_note(&timer, notes[i].noted, &seen) == HED_OK && hed_timer_timeout(&timer, notes[i].asked) == notes[i].left);
+  }
+}
+
+/* A number of no age is refused in either struct, and the timer is unchanged. */
+static void refuses_other_ages(void) {
+  hed_timer timer = HED_TIMER_NONE, before;
+  hed_seen seen = seen_of(1000, HED_AGE_FRONT, "f");
+  EXPECT(hed_timer_note(&timer, 7, &seen) == HED_OK);
+  for (unsigned by = HED_AGE_FRONT + 1; by < 256; by++) {
+    before = timer;
+    seen.by = (uint8_t)by;
+    EXPECT(hed_timer_note(&timer, 8, &seen) == HED_BAD_NUMBER && memcmp(&timer, &before, sizeof timer) == 0);
+    EXPECT(hed_timer_timeout(&timer, 8) == 999);
+    seen.by = HED_AGE_LAST;
+    before.by = (uint8_t)by;
+    EXPECT(hed_timer_timeout(&before, 7) == -1 && hed_timer_note(&before, 8, &seen) == HED_BAD_NUMBER);
+  }
 }
 
 int main(void) {
   presses_run_commands();
   binds_a_thousand_chords();
   refuses_bad_numbers();
+  binds_names();
   answers_without_bindings();
+  tells_how_long_to_wait();
+  refuses_other_ages();
   return expected("test_bindings");
 }

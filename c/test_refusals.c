@@ -4,358 +4,397 @@
  *     cc -Wl,--wrap=malloc -Wl,--wrap=realloc -Wl,--wrap=free test_refusals.c libhedrugal.a && ./a.out [STEP]
  *
  * Of the requests of hed_parser_init it refuses each STEPth (each, if no STEP is given). */
-#include "expect.h"
+#include "told.h"
 #include "refuse.h"
-#include "hedrugal.h"
 #include <stdlib.h>
-#include <string.h>
-
-/* What a run saw: the events with their texts, and the refusals that were told. */
-static uint8_t seen[8192];
-static size_t seen_len;
-static unsigned told;
-
-static void see(const void *bytes, size_t len) {
-  EXPECT(seen_len + len <= sizeof seen);
-  memcpy(seen + seen_len, bytes, len);
-  seen_len += len;
-}
-
-/* The fields one by one, since what lies between them has no meaning. */
-static void see_event(hed_parser *parser, const hed_event *event) {
-  uint32_t fields[] = { event->kind, event->buttons, event->modifiers, event->key,
-                        event->x,    event->y,       event->detail,    (uint32_t)event->paste_len };
-  uint8_t text[256];
-  see(fields, sizeof fields);
-  if (event->kind != HED_KIND_PASTE) return;
-  EXPECT(hed_parser_paste(parser, text, sizeof text) == event->paste_len);
-  see(text, event->paste_len);
-}
 
 /* Feeds a piece, again if it is refused. */
-static void feed(hed_parser *parser, const uint8_t *bytes, size_t len) {
+static void feed_again(hed_parser *parser, const char *bytes, size_t len) {
   size_t waiting = hed_parser_waiting_len(parser);
-  while (!hed_parser_feed(parser, bytes, len)) {
-    told++;
-    EXPECT(hed_parser_waiting_len(parser) == waiting);
+  hed_status status;
+  while ((status = hed_parser_feed(parser, 0, (const uint8_t *)bytes, len)) == HED_NO_MEMORY) {
+    met++;
+    EXPECT(hed_parser_waiting_len(parser) == waiting && hed_parser_timeout(parser, 0) != 0);
   }
-  EXPECT(hed_parser_waiting_len(parser) == waiting + len);
+  EXPECT(status == HED_OK && hed_parser_waiting_len(parser) == waiting + len);
 }
 
-/* Takes all events, again if one is refused. */
-static void take(hed_parser *parser, bool more) {
-  for (;;) {
-    hed_event event;
-    uint8_t before[sizeof event];
-    size_t waiting = hed_parser_waiting_len(parser);
-    memset(&event, 0x55, sizeof event);
-    memcpy(before, &event, sizeof event);
-    uint32_t next = hed_parser_next(parser, more, &event);
-    if (next == HED_NEXT_EVENT) {
-      see_event(parser, &event);
-      continue;
-    }
-    EXPECT(memcmp(&event, before, sizeof event) == 0 && hed_parser_waiting_len(parser) == waiting);
-    if (next == HED_NEXT_NONE) return;
-    EXPECT(next == HED_NEXT_NO_MEMORY && hed_parser_is_paste_open(parser));
-    told++;
-  }
+static const char stream[] = "q\033[A\033[<0;12;3M\303\251\033[24;80R" START "hello w\303\266rld, and some more text that needs memory" END
+                             "\033[?62;22c"
+                             "\033[97:65:99;2:1;65u\033]11;rgb:1e1e/1e1e/1e1e\033\\x\033P>|kitty\033\\\033_Gi=31;OK\033\\\033[I" START END
+                             "\033]4;1;rgb:\033\033P>|foo\033[O\033[<129;12;3m\033[M\240!!\033\033[23^" START "\377and a last one";
+
+/* How the stream is read, and how it ends. */
+struct way {
+  uint32_t dialect;
+  size_t parts;
+  take *tells;
+  void (*ends)(hed_parser *parser);
+};
+
+static void end_by_idle(hed_parser *parser) {
+  hed_parser_idle(parser, 5);
 }
 
-static const char stream[] =
-    "q\033[A\033[<0;12;3M\303\251\033[200~hello w\303\266rld, and some more text that needs memory\033[201~\033[1;5Dx"
-    "\033[200~again \377\033[201~\033[200~\033[201~\033";
+static const struct way ways[] = {
+  { HED_DIALECT_EXTENDED, HED_NO_PARTS, tell_events, hed_parser_end },
+  { HED_DIALECT_EXTENDED, 9, tell_events, end_by_idle },
+  { HED_DIALECT_EXTENDED, 5, tell_arrays, hed_parser_end },
+  { HED_DIALECT_TERMWIZ, HED_NO_PARTS, tell_events, end_by_idle },
+};
 
-/* Reads the stream in pieces, with one request after init refused. */
-static void read_stream(size_t piece, long number) {
-  size_t len = sizeof stream - 1;
+/* Reads the stream in pieces, with one request refused. Nothing but bytes and texts needs memory: no reading, limit, time or flush. */
+static void read_stream(const struct way *it, take *tells, size_t piece, long number) {
+  static const hed_policy policy = { .paste = 5 };
+  hed_reading reading = { .dialect = it->dialect, .x10_mouse = true };
   hed_parser parser = HED_PARSER_NONE;
-  refuse(0);
-  EXPECT(hed_parser_init(&parser));
-  seen_len = told = 0;
+  make(&parser, it->dialect);
+  met = 0;
   refuse(number);
-  for (size_t at = 0; at < len; at += piece) {
-    size_t count = len - at < piece ? len - at : piece;
-    feed(&parser, (const uint8_t *)stream + at, count);
-    take(&parser, true);
+  EXPECT(hed_parser_set_policy(&parser, &policy) == HED_OK && hed_parser_set_reading(&parser, &reading) == HED_OK);
+  hed_parser_set_parts(&parser, it->parts);
+  hed_parser_expect_position(&parser);
+  tells(&parser);
+  for (size_t at = 0; at < sizeof stream - 1; at += piece) {
+    feed_again(&parser, stream + at, sizeof stream - 1 - at < piece ? sizeof stream - 1 - at : piece);
+    tells(&parser);
   }
-  take(&parser, false);
+  it->ends(&parser);
+  tells(&parser);
   to_refusal = 0;
-  EXPECT(told == refused);
-  EXPECT(hed_parser_waiting_len(&parser) == 0);
+  EXPECT(met == refused && hed_parser_waiting_len(&parser) == 0);
   hed_parser_free(&parser);
 }
 
 /* The stream in pieces, with each request refused in turn. */
-static void refuse_while_reading(size_t piece) {
-  static uint8_t whole[sizeof seen];
+static void refuse_while_reading(const struct way *it, size_t piece) {
+  static char whole[sizeof told];
   long number = 0;
-  read_stream(piece, 0);
-  size_t whole_len = seen_len;
-  memcpy(whole, seen, seen_len);
+  read_stream(it, tell_events, piece, 0);
+  memcpy(whole, told, sizeof told);
+  is_told(whole);
+  EXPECT(strlen(whole) > 100);
   do {
-    read_stream(piece, ++number);
-    EXPECT(seen_len == whole_len && memcmp(seen, whole, seen_len) == 0);
+    read_stream(it, it->tells, piece, ++number);
+    is_told(whole);
   } while (refused);
   EXPECT(number > 1);
   printf("pieces of %zu: %ld refusals\n", piece, number - 1);
 }
 
-/* Whether the last paste's text is this one. */
-static bool is_pasted(hed_parser *parser, const char *want) {
-  uint8_t text[256];
-  size_t len = strlen(want);
-  return hed_parser_paste(parser, text, sizeof text) == len && memcmp(text, want, len) == 0;
-}
-
-/* Ends the open paste of a parser, or takes a part of it, of which two bytes are held back. */
-static uint32_t text_of(hed_parser *parser, bool is_part, hed_event *event) {
-  return is_part ? hed_parser_take_paste(parser, 3, event) : hed_parser_end_paste(parser, event);
-}
-
-/* Does so with one request refused, which leaves everything as it was, and again. Returns whether one was. */
-static bool refuse_text_of(hed_parser *parser, bool is_part, long number, const char *last) {
-  hed_event event;
-  uint8_t before[sizeof event];
-  size_t waiting = hed_parser_waiting_len(parser);
-  memset(&event, 0x55, sizeof event);
-  memcpy(before, &event, sizeof event);
-  refuse(number);
-  uint32_t answer = text_of(parser, is_part, &event);
-  unsigned met = refused;
-  refuse(0);
-  EXPECT(answer == (met ? HED_NEXT_NO_MEMORY : HED_NEXT_EVENT));
-  if (met) {
-    EXPECT(memcmp(&event, before, sizeof event) == 0 && is_pasted(parser, last));
-    EXPECT(hed_parser_waiting_len(parser) == waiting && hed_parser_waiting(parser) == HED_WAITING_PASTE);
-    EXPECT(text_of(parser, is_part, &event) == HED_NEXT_EVENT);
-  }
-  EXPECT(event.kind == (is_part ? HED_KIND_PASTE_PART : HED_KIND_PASTE) && event.paste_len == (is_part ? 14 : 16));
-  EXPECT(is_pasted(parser, is_part ? "h\303\266lle \357\277\275\357\277\275 " : "h\303\266lle \357\277\275\357\277\275 \033["));
-  EXPECT(hed_parser_waiting_len(parser) == (is_part ? 8 : 0));
-  EXPECT(hed_parser_waiting(parser) == (is_part ? HED_WAITING_PASTE : HED_WAITING_NOTHING));
-  return met;
-}
-
-/* The end of an open paste, or a part of it, with each request refused in turn. */
-static void refuse_while_ending(bool is_part) {
-  static const char last[] = "\033[200~last\033[201~", open[] = "\033[200~h\303\266lle \377\377 \033[";
+/* The part of a long string, and the rest of it that is cut off, with each request refused in turn. */
+static void refuse_string_parts(void) {
+  enum { PART = 65535, LEN = PART + 10 };
+  static uint8_t text[LEN], copy[LEN];
   long number = 0;
-  bool met;
+  memset(text, 'x', sizeof text);
+  memcpy(text, "\033]52;", 5);
+  memcpy(text + PART - 1, "abcdefghijk", LEN - PART + 1);
   do {
     hed_parser parser = HED_PARSER_NONE;
     hed_event event;
-    EXPECT(hed_parser_init(&parser));
-    EXPECT(hed_parser_feed(&parser, (const uint8_t *)last, sizeof last - 1));
-    EXPECT(hed_parser_next(&parser, true, &event) == HED_NEXT_EVENT);
-    EXPECT(hed_parser_feed(&parser, (const uint8_t *)open, sizeof open - 1));
-    EXPECT(hed_parser_next(&parser, true, &event) == HED_NEXT_NONE);
-    met = refuse_text_of(&parser, is_part, ++number, "last");
+    make(&parser, HED_DIALECT_EXTENDED);
+    EXPECT(hed_parser_feed(&parser, 0, text, sizeof text) == HED_OK);
+    hed_parser_flush(&parser);
+    refuse(++number);
+    for (met = 0; hed_parser_next(&parser, &event) == HED_NO_MEMORY; met++) EXPECT(hed_parser_waiting_len(&parser) == LEN);
+    EXPECT(event.kind == HED_KIND_STRING_PART && event.string_kind == HED_KIND_OSC && event.text_len == PART - 2);
+    EXPECT(hed_parser_text(&parser, copy, sizeof copy) == PART - 2 && memcmp(copy, text + 2, PART - 2) == 0);
+    EXPECT(hed_parser_waiting_len(&parser) == 5 + LEN - PART);
+    for (; hed_parser_next(&parser, &event) == HED_NO_MEMORY; met++) EXPECT(hed_parser_text(&parser, NULL, 0) == PART - 2);
+    EXPECT(event.kind == HED_KIND_STRING_CUT && event.string_kind == HED_KIND_OSC && event.text_len == 3 + LEN - PART);
+    EXPECT(hed_parser_text(&parser, copy, sizeof copy) == event.text_len && memcmp(copy, "52;bcdefghijk", event.text_len) == 0);
+    EXPECT(met == refused && hed_parser_waiting_len(&parser) == 0);
+    refuse(0);
     hed_parser_free(&parser);
   } while (met);
-  EXPECT(number > 1);
-  printf("%s of a paste: %ld refusals\n", is_part ? "part" : "end", number - 1);
+  EXPECT(number > 2);
+  printf("part and rest of a string: %ld refusals\n", number - 1);
 }
 
-/* Makes one of the calls that tell the time of a parser in which an ESC waits. Returns whether it was granted. */
-static bool ask_time(hed_parser *parser, int call, hed_event *event) {
-  static const hed_policy policy = { 7, 7, 7, 7, 7, 7 };
-  if (call == 0) return hed_parser_set_policy(parser, &policy);
-  if (call == 1) return hed_parser_timeout(parser, 1000) == 50;
-  return hed_parser_expire(parser, 1000, event) == HED_NEXT_NONE;
-}
+/* The calls that write bytes, and how many these are. */
+enum { ENCODED, REPORTED, REPORTED_WITH_TEXT, PASTED, MOUSE, WRITTEN, POSITION, SCHEME, ATTRIBUTES, NAMED, NAMED_LONG, NAMED_ALONE, CALLS };
+static const size_t lengths[CALLS] = { 7, 21, 87, 34, 9, 25, 8, 9, 9, 13, 61, 6 };
 
-/* The first of these calls on a parser asks for memory, once, and the others don't. If it is refused, nothing changes. */
-static void refuse_time(void) {
-  for (int call = 0; call < 3; call++) {
-    hed_parser parser = HED_PARSER_NONE, before;
-    hed_event event;
-    EXPECT(hed_parser_init(&parser) && hed_parser_feed(&parser, (const uint8_t *)"\033", 1));
-    EXPECT(hed_parser_next(&parser, true, &event) == HED_NEXT_NONE);
-    memcpy(&before, &parser, sizeof before);
-    refuse(1);
-    EXPECT(!ask_time(&parser, call, &event) && refused == 1 && memcmp(&before, &parser, sizeof before) == 0);
-    refuse(1);
-    EXPECT(hed_parser_timeout(&parser, 1000) == 0 && refused == 1);
-    refuse(1);
-    EXPECT(hed_parser_expire(&parser, 1000, &event) == HED_NEXT_NO_MEMORY && refused == 1);
-    EXPECT(hed_parser_waiting(&parser) == HED_WAITING_ESCAPE);
-    refuse(0);
-    EXPECT(ask_time(&parser, call, &event));
-    refuse(1);
-    EXPECT(hed_parser_timeout(&parser, 1000) == (call == 0 ? 7 : 50) && hed_parser_timeout(&parser, 1000) == (call == 0 ? 7 : 50));
-    EXPECT(hed_parser_expire(&parser, 1050, &event) == HED_NEXT_EVENT && event.key == HED_KEY_ESCAPE && refused == 0);
-    EXPECT(hed_parser_expire(&parser, 1050, &event) == HED_NEXT_NONE && hed_parser_timeout(&parser, 1050) == -1 && refused == 0);
-    refuse(0);
-    hed_parser_free(&parser);
-    EXPECT(in_use == 0);
-  }
-}
-
-/* An open paste that is due, with the memory for the time or for its text refused. */
-static void refuse_while_expiring(void) {
-  static const char open[] = "\033[200~text";
-  static const hed_policy policy = { .paste = 1 };
-  hed_parser parser = HED_PARSER_NONE;
-  hed_event event;
-  EXPECT(hed_parser_init(&parser) && hed_parser_set_policy(&parser, &policy));
-  EXPECT(hed_parser_feed(&parser, (const uint8_t *)open, sizeof open - 1) && hed_parser_next(&parser, true, &event) == HED_NEXT_NONE);
-  EXPECT(hed_parser_timeout(&parser, 4) == 1);
-  for (int again = 0; again < 2; again++) {
-    refuse(1);
-    EXPECT(hed_parser_expire(&parser, 5, &event) == HED_NEXT_NO_MEMORY && refused == 1);
-    EXPECT(hed_parser_waiting_len(&parser) == sizeof open - 1 && hed_parser_is_paste_open(&parser));
-  }
-  refuse(0);
-  EXPECT(hed_parser_expire(&parser, 5, &event) == HED_NEXT_EVENT && event.paste_len == 4 && is_pasted(&parser, "text"));
-  EXPECT(hed_parser_expire(&parser, 5, &event) == HED_NEXT_NONE);
-  EXPECT(hed_parser_init(&parser) && hed_parser_timeout(&parser, 5) == -1);
-  hed_parser_free(&parser);
-  EXPECT(in_use == 0);
-}
-
-/* A refused init leaves what was there: a parser in which two bytes wait, or none. Returns whether it was refused. */
-static bool refuse_init_of(hed_parser *parser, long number, size_t waiting) {
-  refuse(number);
-  bool made = hed_parser_init(parser);
-  unsigned met = refused;
-  refuse(0);
-  EXPECT(made == !met);
-  EXPECT(hed_parser_waiting_len(parser) == (made ? 0 : waiting));
-  return met;
-}
-
-/* Every STEPth request of init refused; of an init where there was no parser, fewer. */
-static void refuse_init(long step) {
-  hed_parser parser = HED_PARSER_NONE, none = HED_PARSER_NONE;
-  long number = 1;
-  EXPECT(hed_parser_init(&parser));
-  EXPECT(hed_parser_feed(&parser, (const uint8_t *)"\033[", 2));
-  while (refuse_init_of(&parser, number, 2)) number += step;
-  hed_parser_free(&parser);
-  EXPECT(number > 1);
-  for (long other = 1; other < number; other += 50 * step) {
-    EXPECT(refuse_init_of(&none, other, 0));
-    EXPECT(!none.live);
-  }
-  EXPECT(hed_parser_init(&none));
-  hed_parser_free(&none);
-  printf("init: %ld refusals\n", (number - 1) / step);
-}
-
-/* An init that shares a table, with each request refused in turn, leaves both parsers as they were. */
-static void refuse_sharing(void) {
-  hed_parser parser = HED_PARSER_NONE, other = HED_PARSER_NONE, none = HED_PARSER_NONE;
-  hed_event event;
-  long number;
-  EXPECT(hed_parser_init(&parser) && hed_parser_feed(&parser, (const uint8_t *)"\033[", 2));
-  EXPECT(hed_parser_init(&other) && hed_parser_feed(&other, (const uint8_t *)"\033[200~last\033[201~\033", 17));
-  EXPECT(hed_parser_next(&other, true, &event) == HED_NEXT_EVENT && is_pasted(&other, "last"));
-  for (number = 1; refuse(number), !hed_parser_init_sharing(&parser, &other); number++) {
-    EXPECT(refused == 1 && hed_parser_waiting_len(&parser) == 2 && hed_parser_waiting_len(&other) == 1 && is_pasted(&other, "last"));
-    refuse(number);
-    EXPECT(!hed_parser_init_sharing(&none, &other) && !none.live && refused == 1);
-  }
-  refuse(0);
-  EXPECT(number > 1 && hed_parser_waiting_len(&parser) == 0 && is_pasted(&parser, ""));
-  EXPECT(hed_parser_waiting_len(&other) == 1 && is_pasted(&other, "last"));
-  hed_parser_free(&other);
-  hed_parser_free(&parser);
-  printf("init that shares a table: %ld refusals\n", number - 1);
-}
-
-/* A key's text, with each request refused in turn. */
-static void refuse_while_encoding(void) {
+static hed_status write_by(int call, uint8_t *out, size_t room, size_t *len) {
   static const hed_modes modes = { 0, 0, 0, false, false, false };
-  uint8_t text[16];
-  size_t len;
+  static const hed_event letter = CHAR(SHIFT, 'a', 'A', HED_NO_CODE), osc = { .kind = HED_KIND_OSC };
+  static const hed_sent_mouse mouse = { 1, 1, 0, HED_MOUSE_BUTTON1_PRESS };
+  static const uint16_t numbers[] = { 62, 22 };
+  hed_key_press keys[4];
+  size_t count, at;
+  switch (call) {
+    case ENCODED: return hed_encode(HED_KEY_FUNCTION, 20, HED_TERMWIZ_MOD_ALT | HED_TERMWIZ_MOD_CTRL, true, &modes, out, room, len);
+    case REPORTED: return hed_encode_kitty(&letter, HED_TEXT("A, and some more text"), 0, out, room, len);
+    case REPORTED_WITH_TEXT: return hed_encode_kitty(&letter, HED_TEXT("A, and some more text"), 31, out, room, len);
+    case PASTED: return hed_encode_paste(HED_TEXT("\033 and some more text"), true, out, room, len);
+    case MOUSE: return hed_encode_mouse(&mouse, HED_MOUSE_TRACKING_ANY, HED_MOUSE_ENCODING_SGR, out, room, len);
+    case WRITTEN: return hed_encode_event(&osc, HED_TEXT("11;and some more text"), &base, out, room, len);
+    case POSITION: return hed_encode_cursor_position(24, 80, false, out, room, len);
+    case SCHEME: return hed_encode_colour_scheme(true, out, room, len);
+    case ATTRIBUTES: return hed_encode_device_attributes(numbers, 2, out, room, len);
+    case NAMED: EXPECT(hed_key_read(HED_TEXT("ctrl+x ctrl+s"), keys, 4, &count, &at) == HED_OK); break;
+    case NAMED_ALONE: EXPECT(hed_key_read(HED_TEXT("ctrl+x"), keys, 4, &count, &at) == HED_OK); break;
+    default:
+      EXPECT(hed_key_read(HED_TEXT("super+hyper+meta+ctrl+alt+shift+applications U+10FFFF kitty57428 f255"), keys, 4, &count, &at)
+             == HED_OK);
+  }
+  return call == NAMED_ALONE ? hed_press_print(keys, out, room, len) : hed_key_print(keys, count, out, room, len);
+}
+
+/* Each, with each request refused in turn: nothing is written, and the call may be made again. No name that is read needs memory. */
+static void refuse_while_writing(int call) {
+  size_t before = in_use;
   long number = 0;
   do {
-    memset(text, '.', sizeof text);
-    len = 999;
+    uint8_t out[128], again[128];
+    size_t len = 99, again_len;
+    memset(out, 0x55, sizeof out);
     refuse(++number);
-    uint32_t answer = hed_encode(HED_KEY_FUNCTION, 20, HED_TERMWIZ_MOD_ALT | HED_TERMWIZ_MOD_CTRL, true, &modes, text, sizeof text, &len);
-    if (refused) {
-      EXPECT(answer == HED_ENCODED_REFUSED_MEMORY && len == 0 && memcmp(text, "................", 16) == 0);
-      answer = hed_encode(HED_KEY_FUNCTION, 20, HED_TERMWIZ_MOD_ALT | HED_TERMWIZ_MOD_CTRL, true, &modes, text, sizeof text, &len);
+    hed_status status = write_by(call, out, sizeof out, &len);
+    met = refused;
+    refuse(0);
+    EXPECT(status == (met ? HED_NO_MEMORY : HED_OK) && (!met || (len == 0 && is_marked(out, sizeof out))));
+    EXPECT(write_by(call, again, sizeof again, &again_len) == HED_OK && again_len == lengths[call] && in_use == before);
+    EXPECT(met || (len == again_len && memcmp(out, again, len) == 0));
+  } while (met);
+  EXPECT(number > 1 && number < 32);
+  printf("call %d that writes: %ld refusals\n", call, number - 1);
+}
+
+/* What a reply says, with each request refused in turn. A reply without numbers and bytes needs no memory. */
+static void refuse_replies(void) {
+  static const struct {
+    uint8_t kind;
+    const char *text;
+    bool needs_memory;
+  } replies[] = {
+    { HED_KIND_CSI, "?62;4;22c", true }, { HED_KIND_CSI, ">41;379;0c", true },    { HED_KIND_DCS, "!|7E565445", true },
+    { HED_KIND_DCS, ">|foot", true },    { HED_KIND_OSC, "52;c;Y2xpcA==", true }, { HED_KIND_CSI, "?25;1$y", false },
+    { HED_KIND_CSI, "8;24;80t", false }, { HED_KIND_OSC, "11;rgb:0/0/0", false }, { HED_KIND_CSI, "?997;1n", false },
+    { HED_KIND_CSI, "?62;x", false },    { HED_KIND_OSC, "52;c;Y2xpcA", false },  { HED_KIND_DCS, "!|464", false },
+  };
+  for (size_t i = 0; i < sizeof replies / sizeof *replies; i++) {
+    size_t before = in_use;
+    long number = 0;
+    do {
+      uint32_t numbers[4];
+      uint8_t bytes[8];
+      hed_reply reply;
+      memset(&reply, 0x55, sizeof reply);
+      memset(numbers, 0x55, sizeof numbers);
+      memset(bytes, 0x55, sizeof bytes);
+      refuse(++number);
+      hed_status status =
+          hed_read_reply(replies[i].kind, (const uint8_t *)replies[i].text, strlen(replies[i].text), &reply, numbers, 4, bytes, 8);
+      met = refused;
+      refuse(0);
+      EXPECT((status == HED_NO_MEMORY) == (met != 0));
+      EXPECT(!met || (is_marked(&reply, offsetof(hed_reply, len)) && is_marked(numbers, sizeof numbers) && is_marked(bytes, 8)));
+    } while (met);
+    EXPECT((number > 1) == replies[i].needs_memory && in_use == before);
+  }
+}
+
+/* Names of chords that are bound one after another, and whose bytes are the keys of a map, each with its place in the list as its value. Long
+ * ones need memory of their own. */
+static const char *const bound[] = {
+  "n",   "g g", "ctrl+x ctrl+s", "z",   "ctrl+x 4 ctrl+f", "a", "g",      "ctrl+x 4 4 ctrl+x ctrl+x ctrl+x ctrl+x ctrl+x ctrl+x ctrl+x",
+  "f12", "g t", "alt+x",         "g a", "ctrl+x ctrl+c",   "b", "ctrl+a", "x y z",
+};
+
+enum { BOUND = sizeof bound / sizeof *bound };
+
+static size_t read_bound(size_t at, hed_key_press *keys) {
+  size_t count, byte;
+  EXPECT(hed_key_read((const uint8_t *)bound[at], strlen(bound[at]), keys, HED_CHORD_MOST, &count, &byte) == HED_OK);
+  return count;
+}
+
+/* The bindings and the map have the first of the chords, and no others. They are asked without memory. */
+static void expect_bound(const hed_bindings *bindings, const hed_keymap *map, size_t count, size_t mapped) {
+  hed_key_press keys[HED_CHORD_MOST];
+  size_t first, end, len, listed = 0;
+  uint64_t value = 0;
+  long saved = to_refusal;
+  unsigned before = refused;
+  to_refusal = 1;
+  EXPECT(hed_bindings_len(bindings) == count && hed_keymap_len(map) == mapped);
+  for (size_t at = 0; at < BOUND; at++) {
+    hed_match match = { 77, 777 };
+    EXPECT(hed_bindings_lookup(bindings, keys, read_bound(at, keys), &value) == (at < count ? HED_OK : HED_NONE)
+           && (at >= count || value == at));
+    hed_keymap_lookup(map, (const uint8_t *)bound[at], strlen(bound[at]), false, &match);
+    EXPECT((match.len == strlen(bound[at])) == (at < mapped) && (at >= mapped || match.value == at));
+  }
+  while (hed_bindings_entry(bindings, listed, keys, HED_CHORD_MOST, &len, &value) == HED_OK && value < count) listed++;
+  EXPECT(listed == count);
+  EXPECT(hed_bindings_continuations(bindings, NULL, 0, &first, &end) == (count ? HED_OK : HED_NONE) && end == count);
+  EXPECT(refused == before);
+  to_refusal = saved;
+}
+
+/* Binds a chord, by its name or by its presses, and puts its name into the map. */
+static hed_status bind(hed_bindings *bindings, size_t at, uint64_t value) {
+  hed_key_press keys[HED_CHORD_MOST];
+  size_t wrong = 77;
+  if (at % 2) return hed_bindings_bind(bindings, keys, read_bound(at, keys), value);
+  hed_status status = hed_bindings_bind_name(bindings, (const uint8_t *)bound[at], strlen(bound[at]), value, &wrong);
+  EXPECT(wrong == 0);
+  return status;
+}
+
+static hed_status put(hed_keymap *map, size_t at, uint64_t value) {
+  return hed_keymap_insert(map, (const uint8_t *)bound[at], strlen(bound[at]), value);
+}
+
+/* Makes bindings and a map of all the chords, again if a call is refused, with one request refused. Returns whether one was. */
+static bool refuse_while_binding(long number) {
+  hed_bindings bindings = HED_BINDINGS_NONE;
+  hed_keymap map = HED_KEYMAP_NONE;
+  hed_key_press keys[HED_CHORD_MOST];
+  uint64_t value;
+  met = 0;
+  refuse(number);
+  for (; hed_bindings_init(&bindings) == HED_NO_MEMORY; met++) EXPECT(!bindings.live);
+  for (; hed_keymap_init(&map) == HED_NO_MEMORY; met++) EXPECT(!map.live);
+  for (size_t at = 0; at < BOUND; at++) {
+    for (; bind(&bindings, at, at) == HED_NO_MEMORY; met++) expect_bound(&bindings, &map, at, at);
+    for (; put(&map, at, at) == HED_NO_MEMORY; met++) expect_bound(&bindings, &map, at + 1, at);
+  }
+  EXPECT(met == refused);
+  expect_bound(&bindings, &map, BOUND, BOUND);
+  for (refuse(1); hed_bindings_len(&bindings) > 0;) {
+    size_t last = hed_bindings_len(&bindings) - 1;
+    EXPECT(hed_bindings_unbind(&bindings, keys, read_bound(last, keys), &value) == HED_OK && value == last && refused == 0);
+  }
+  refuse(0);
+  hed_bindings_free(&bindings);
+  hed_keymap_free(&map);
+  return met > 0;
+}
+
+/* Another value, and another init, with each request refused in turn: until one is granted, all is unchanged. */
+static void refuse_while_binding_again(void) {
+  enum { REPLACED = 7 };
+  hed_bindings bindings = HED_BINDINGS_NONE;
+  hed_keymap map = HED_KEYMAP_NONE;
+  EXPECT(hed_bindings_init(&bindings) == HED_OK && hed_keymap_init(&map) == HED_OK);
+  for (size_t at = 0; at < BOUND; at++) EXPECT(bind(&bindings, at, at) == HED_OK && put(&map, at, at) == HED_OK);
+  for (int call = 0; call < 4; call++) {
+    long number = 1;
+    for (;; number++) {
+      refuse(number);
+      if ((call == 0   ? bind(&bindings, REPLACED, 99)
+           : call == 1 ? put(&map, REPLACED, 99)
+           : call == 2 ? hed_bindings_init(&bindings)
+                       : hed_keymap_init(&map))
+          == HED_OK)
+        break;
+      expect_bound(&bindings, &map, call < 3 ? BOUND : 0, BOUND);
     }
-    EXPECT(answer == HED_ENCODED_TEXT && len == 7 && memcmp(text, "\033[34;7~.........", 16) == 0);
-  } while (refused);
-  EXPECT(number > 1);
-  printf("encode: %ld refusals\n", number - 1);
-  refuse(1);
-  EXPECT(hed_encode(HED_KEY_TAB, 0, HED_TERMWIZ_MOD_ALT, false, &modes, text, sizeof text, &len) == HED_ENCODED_TEXT && len == 0
-         && !refused);
-  refuse(0);
+    EXPECT(number > 1 && !refused);
+    refuse(0);
+    if (call < 2) EXPECT(bind(&bindings, REPLACED, REPLACED) == HED_OK && put(&map, REPLACED, REPLACED) == HED_OK);
+  }
+  expect_bound(&bindings, &map, 0, 0);
+  hed_bindings_free(&bindings);
+  hed_keymap_free(&map);
 }
 
-/* No bytes need no memory, what gives no paste is taken without any, and what is forgotten or dropped needs none. */
-static void need_no_memory(void) {
-  hed_parser parser = HED_PARSER_NONE;
-  hed_event event;
-  size_t count;
-  EXPECT(hed_parser_init(&parser));
-  EXPECT(hed_parser_feed(&parser, (const uint8_t *)"\033[A\033", 4));
-  refuse(1);
-  EXPECT(hed_parser_feed(&parser, (const uint8_t *)"", 0));
-  EXPECT(hed_parser_next(&parser, true, &event) == HED_NEXT_EVENT && hed_parser_next(&parser, true, &event) == HED_NEXT_NONE);
-  EXPECT(hed_parser_next(&parser, false, &event) == HED_NEXT_EVENT && hed_parser_waiting_len(&parser) == 0);
-  EXPECT(!refused);
-  refuse(0);
-  EXPECT(hed_parser_feed(&parser, (const uint8_t *)"\033\033", 2));
-  refuse(1);
-  EXPECT(hed_parser_waiting(&parser) == HED_WAITING_ESCAPE);
-  EXPECT(hed_parser_flush_escape(&parser, &event) == HED_NEXT_EVENT && hed_parser_flush_escape(&parser, &event) == HED_NEXT_NONE);
-  EXPECT(hed_parser_end_paste(&parser, &event) == HED_NEXT_NONE);
-  EXPECT(!refused);
-  refuse(0);
-  EXPECT(hed_parser_feed(&parser, (const uint8_t *)"\033[200~last\033[201~\033[200~ab", 24));
-  EXPECT(hed_parser_next(&parser, true, &event) == HED_NEXT_EVENT);
-  refuse(1);
-  EXPECT(hed_parser_take_paste(&parser, 2, &event) == HED_NEXT_NONE);
-  EXPECT(hed_parser_skip_paste(&parser, &count) && count == 2 && hed_parser_take_paste(&parser, 0, &event) == HED_NEXT_NONE);
-  EXPECT(hed_parser_reset(&parser) == 6 && is_pasted(&parser, "last"));
-  hed_parser_drop_paste(&parser);
-  EXPECT(is_pasted(&parser, "") && !refused);
-  refuse(0);
-  hed_parser_free(&parser);
-}
-
-/* The text of a long paste is freed once it is dropped, and all of a parser by its end. */
-static void frees_memory(void) {
-  enum { LONG = 100000 };
-  static uint8_t text[LONG];
-  hed_parser parser = HED_PARSER_NONE;
-  hed_event event;
-  memset(text, 'x', sizeof text);
-  EXPECT(in_use == 0);
-  EXPECT(hed_parser_init(&parser) && in_use > 0);
-  EXPECT(hed_parser_feed(&parser, (const uint8_t *)"\033[200~", 6) && hed_parser_feed(&parser, text, LONG));
-  EXPECT(hed_parser_feed(&parser, (const uint8_t *)"\033[201~", 6) && hed_parser_next(&parser, true, &event) == HED_NEXT_EVENT);
-  EXPECT(hed_parser_paste(&parser, text, 0) == LONG);
+static void refuse_bindings(void) {
   size_t before = in_use;
-  hed_parser_drop_paste(&parser);
-  EXPECT(in_use + LONG <= before);
-  EXPECT(hed_parser_init(&parser));
+  long number = 1;
+  while (refuse_while_binding(number)) number++;
+  EXPECT(number > 5);
+  refuse_while_binding_again();
+  EXPECT(in_use == before);
+  printf("bindings and key map: %ld refusals\n", number - 1);
+}
+
+/* Every STEPth request of init refused, and each of an init that shares a table: what was there stays. */
+static void refuse_init(long step, const hed_parser *other) {
+  hed_parser parser = HED_PARSER_NONE, none = HED_PARSER_NONE;
+  long number = 1;
+  make(&parser, HED_DIALECT_EXTENDED);
+  READS(&parser, START "last" END "\033[", "Paste(last); ");
+  for (;; number += step) {
+    refuse(number);
+    hed_status status =
+        other ? hed_parser_init_sharing(&parser, HED_DIALECT_TERMWIZ, other) : hed_parser_init(&parser, HED_DIALECT_TERMWIZ);
+    if (status == HED_OK) break;
+    EXPECT(status == HED_NO_MEMORY && refused == 1 && hed_parser_waiting_len(&parser) == 2 && hed_parser_text(&parser, NULL, 0) == 4);
+    refuse(number);
+    EXPECT((other ? hed_parser_init_sharing(&none, HED_DIALECT_TERMWIZ, other) : hed_parser_init(&none, HED_DIALECT_TERMWIZ))
+           == HED_NO_MEMORY);
+    EXPECT(!none.live);
+  }
+  refuse(0);
+  EXPECT(number > 1 && hed_parser_waiting_len(&parser) == 0 && hed_parser_text(&parser, NULL, 0) == 0);
+  READS(&parser, "\033]", "] ALT; ");
   hed_parser_free(&parser);
+  printf("init%s: %ld refusals\n", other ? " that shares a table" : "", (number - 1) / step);
+}
+
+/* What brings no bytes needs no memory, and neither does what is asked, forgotten or dropped. Bytes that are refused take no time. */
+static void need_no_memory(void) {
+  static const uint8_t many[100000];
+  static const char text[] = START "last" END "\033[A\033[24;80R\033[I\033[97;5:3uq\033[?5u\033[<128;1;1M\033\033[A" START "ab";
+  static const hed_policy policy = { .paste = 5 };
+  hed_parser parser = HED_PARSER_NONE;
+  hed_reading reading = { .x10_mouse = true };
+  hed_event event;
+  hed_key_press press;
+  size_t count;
+  make(&parser, HED_DIALECT_EXTENDED);
+  READS(&parser, "\033", "");
+  for (int again = 0; again < 2; again++) {
+    refuse(1);
+    EXPECT(hed_parser_feed(&parser, 30, many, sizeof many) == HED_NO_MEMORY && refused == 1 && hed_parser_timeout(&parser, 20) == 30);
+  }
+  refuse(0);
+  EXPECT(hed_parser_reset(&parser) == 1);
+  feed(&parser, text, sizeof text - 1);
+  EXPECT(hed_parser_next(&parser, &event) == HED_OK);
+  refuse(1);
+  EXPECT(hed_parser_set_policy(&parser, &policy) == HED_OK && hed_parser_set_reading(&parser, &reading) == HED_OK);
+  hed_parser_set_parts(&parser, 2);
+  hed_parser_expect_position(&parser);
+  while (hed_parser_next(&parser, &event) == HED_OK) {
+    tell_event(&event, NULL);
+    hed_parser_press(&parser, &event, &press);
+    hed_parser_second(&parser, &event, &press);
+  }
+  is_told("UpArrow; CursorPosition(24, 80); FocusGained; a CTRL Release; q; KeyboardFlags(5); Mouse 8 Press(1, 1, 0, 0); UpArrow ALT; ");
+  hed_parser_forget_positions(&parser);
+  EXPECT(hed_parser_feed(&parser, 0, NULL, 0) == HED_OK && hed_parser_next(&parser, &event) == HED_NONE);
+  EXPECT(hed_parser_timeout(&parser, 4) == 1 && hed_parser_skip_paste(&parser, &count) == HED_OK && count == 2);
+  EXPECT(hed_parser_interrupted(&parser, 4) == HED_OK && hed_parser_waiting_len(&parser) == 6);
+  hed_parser_drop_text(&parser);
+  EXPECT(hed_parser_reset(&parser) == 6 && !refused);
+  refuse(0);
   hed_parser_free(&parser);
-  EXPECT(in_use == 0);
 }
 
 /* Parsers that share a table have little memory of their own, and the last of them frees it. */
 static void shares_memory(void) {
-  enum { COUNT = 1000 };
+  enum { COUNT = 10000 };
   static hed_parser parsers[COUNT];
-  EXPECT(in_use == 0);
-  EXPECT(hed_parser_init(&parsers[0]));
-  size_t alone = in_use;
-  for (size_t i = 1; i < COUNT; i++) EXPECT(hed_parser_init_sharing(&parsers[i], &parsers[i / 2]));
-  EXPECT(in_use <= alone + COUNT * 256);
-  printf("memory: %zu bytes for a parser, %zu for another that shares its table\n", alone, (in_use - alone) / (COUNT - 1));
+  size_t before = in_use, most = 0;
+  EXPECT(hed_parser_init(&parsers[0], HED_DIALECT_EXTENDED) == HED_OK);
+  size_t alone = in_use - before;
+  for (size_t i = 1; i < COUNT; i++) {
+    size_t without = in_use;
+    EXPECT(hed_parser_init_sharing(&parsers[i], i % 2, &parsers[i / 2]) == HED_OK);
+    if (in_use - without > most) most = in_use - without;
+  }
+  EXPECT(most <= 256);
+  printf("memory: %zu bytes for a parser, at most %zu for each of %d others that share its table\n", alone, most, COUNT - 1);
   for (size_t i = 0; i < COUNT - 1; i++) hed_parser_free(&parsers[i]);
-  EXPECT(in_use <= alone && in_use > alone / 2);
+  EXPECT(in_use - before <= alone && in_use - before > alone / 2);
+  READS(&parsers[COUNT - 1], "\033[A", "UpArrow; ");
   hed_parser_free(&parsers[COUNT - 1]);
-  EXPECT(in_use == 0);
+  EXPECT(in_use == before);
 }
 
 enum { MEGABYTE = 1 << 20 };
@@ -365,142 +404,70 @@ static void feed_long_paste(hed_parser *parser, uint8_t byte) {
   static uint8_t body[MEGABYTE];
   hed_event event;
   memset(body, byte, sizeof body);
-  EXPECT(hed_parser_feed(parser, (const uint8_t *)"\033[200~", 6) && hed_parser_feed(parser, body, sizeof body));
-  EXPECT(hed_parser_feed(parser, (const uint8_t *)"\033[201~", 6) && hed_parser_next(parser, true, &event) == HED_NEXT_EVENT);
-  EXPECT(event.kind == HED_KIND_PASTE && event.paste_len >= MEGABYTE && hed_parser_waiting_len(parser) == 0);
+  FEED(parser, START);
+  EXPECT(hed_parser_feed(parser, 0, body, sizeof body) == HED_OK);
+  FEED(parser, END);
+  EXPECT(hed_parser_next(parser, &event) == HED_OK && event.kind == HED_KIND_PASTE && event.text_len >= MEGABYTE);
+  EXPECT(hed_parser_next(parser, &event) == HED_NONE && hed_parser_waiting_len(parser) == 0);
 }
 
 /* A session that pasted a long text has little more memory than one that didn't, once it dropped the text and was shrunk. */
 static void shrinks(void) {
-  hed_parser parser = HED_PARSER_NONE;
-  EXPECT(hed_parser_init(&parser));
-  size_t empty = in_use;
-  feed_long_paste(&parser, 'x');
-  EXPECT(in_use >= empty + 2 * MEGABYTE);
-  hed_parser_drop_paste(&parser);
-  EXPECT(in_use >= empty + MEGABYTE);
-  hed_parser_shrink_to(&parser, 0);
-  EXPECT(in_use < empty + 4096);
-  /* The text is kept if it isn't dropped, and then has no more memory than it needs. */
-  feed_long_paste(&parser, 0xff);
-  hed_parser_shrink_to(&parser, 0);
-  EXPECT(hed_parser_paste(&parser, NULL, 0) == 3 * MEGABYTE && in_use < empty + 3 * MEGABYTE + 4096);
-  hed_parser_free(&parser);
-  EXPECT(in_use == 0);
-}
-
-/* The room that a shrunk parser keeps needs no request. If the smaller memory is refused, it keeps the larger. */
-static void shrinks_to_a_room(void) {
   enum { ROOM = 10000 };
   static const uint8_t body[ROOM];
   hed_parser parser = HED_PARSER_NONE;
-  EXPECT(hed_parser_init(&parser));
+  size_t before = in_use;
+  make(&parser, HED_DIALECT_EXTENDED);
   size_t empty = in_use;
+  for (int again = 0; again < 2; again++) {
+    feed_long_paste(&parser, 'x');
+    EXPECT(in_use >= empty + 2 * MEGABYTE);
+    hed_parser_drop_text(&parser);
+    EXPECT(in_use >= empty + MEGABYTE && in_use < empty + 3 * MEGABYTE);
+    hed_parser_shrink_to(&parser, 0);
+    EXPECT(in_use < empty + 4096);
+  }
+  /* The text is kept if it isn't dropped, and then has no more memory than it needs. */
+  feed_long_paste(&parser, 0xff);
+  hed_parser_shrink_to(&parser, 0);
+  EXPECT(hed_parser_text(&parser, NULL, 0) == 3 * MEGABYTE && in_use < empty + 3 * MEGABYTE + 4096);
+  hed_parser_drop_text(&parser);
+  /* The room that a shrunk parser keeps needs no request. If the smaller memory is refused, it keeps the larger. */
   feed_long_paste(&parser, 'x');
-  hed_parser_drop_paste(&parser);
+  hed_parser_drop_text(&parser);
   hed_parser_shrink_to(&parser, ROOM);
   size_t small = in_use;
   EXPECT(small >= empty + ROOM && small < empty + ROOM + 4096);
   refuse(1);
-  EXPECT(hed_parser_feed(&parser, body, sizeof body) && !refused);
-  EXPECT(hed_parser_reset(&parser) == ROOM && hed_parser_feed(&parser, (const uint8_t *)"\033[1;", 4) && !refused);
+  EXPECT(hed_parser_feed(&parser, 0, body, sizeof body) == HED_OK && hed_parser_reset(&parser) == ROOM && !refused);
+  FEED(&parser, "\033[1;");
   hed_parser_shrink_to(&parser, 0);
   EXPECT(refused == 1 && in_use == small && hed_parser_waiting_len(&parser) == 4);
   refuse(0);
   hed_parser_shrink_to(&parser, 0);
   EXPECT(in_use < empty + 4096 && hed_parser_waiting_len(&parser) == 4);
   hed_parser_free(&parser);
-  EXPECT(in_use == 0);
-}
-
-#define LONG_KEY "0123456789012345678901234567890123456789012345678901234567890123456789012345678901234567890123456789"
-
-/* Keys that are inserted one after another, each with its place in the list as its value. A long one needs memory of its own. */
-static const char *const bound[] = {
-  LONG_KEY, "\033[A", "\033[B", "\033", "", LONG_KEY "a", "a", "ab", "\030\023", "\033[1;5A", LONG_KEY "b", "b", "c", "d", "e", "f", "g",
-};
-
-enum { BOUND = sizeof bound / sizeof bound[0] };
-
-/* The map has the first of the keys, and no other. It is asked without memory. */
-static void expect_bound(hed_keymap *map, size_t count) {
-  long saved = to_refusal;
-  unsigned before = refused;
-  to_refusal = 1;
-  EXPECT(hed_keymap_len(map) == count);
-  for (size_t at = 0; at < BOUND; at++) {
-    size_t len = strlen(bound[at]);
-    hed_match match = { 77, 777 };
-    uint32_t answer = hed_keymap_lookup(map, (const uint8_t *)bound[at], len, false, &match);
-    bool is_there = answer == HED_FOUND_EXACT && match.len == len;
-    EXPECT(is_there == (at < count) && (!is_there || match.value == at));
-  }
-  EXPECT(refused == before);
-  to_refusal = saved;
-}
-
-/* Makes a map of all the keys, again if a call is refused, with one request refused. Returns whether one was. */
-static bool refuse_while_binding(long number) {
-  hed_keymap map = HED_KEYMAP_NONE;
-  told = 0;
-  refuse(number);
-  while (!hed_keymap_init(&map)) {
-    told++;
-    EXPECT(!map.live);
-  }
-  for (size_t at = 0; at < BOUND; at++)
-    while (!hed_keymap_insert(&map, (const uint8_t *)bound[at], strlen(bound[at]), at)) {
-      told++;
-      expect_bound(&map, at);
-    }
-  to_refusal = 0;
-  EXPECT(told == refused);
-  expect_bound(&map, BOUND);
-  hed_keymap_free(&map);
-  return refused > 0;
-}
-
-/* Another value for a key, and another init, with each request refused in turn: until one succeeds, the map is unchanged. */
-static void refuse_while_binding_again(void) {
-  hed_keymap map = HED_KEYMAP_NONE;
-  long number;
-  EXPECT(hed_keymap_init(&map));
-  for (size_t at = 0; at < BOUND; at++) EXPECT(hed_keymap_insert(&map, (const uint8_t *)bound[at], strlen(bound[at]), at));
-  for (number = 1; refuse(number), !hed_keymap_insert(&map, (const uint8_t *)LONG_KEY, 100, 99); number++) expect_bound(&map, BOUND);
-  EXPECT(number > 1 && !refused);
-  refuse(0);
-  EXPECT(hed_keymap_insert(&map, (const uint8_t *)LONG_KEY, 100, 0));
-  for (number = 1; refuse(number), !hed_keymap_init(&map); number++) expect_bound(&map, BOUND);
-  EXPECT(number > 1 && !refused && hed_keymap_len(&map) == 0);
-  refuse(0);
-  hed_keymap_free(&map);
-}
-
-/* A map of keys, with each request refused in turn. */
-static void refuse_bindings(void) {
-  long number = 1;
-  while (refuse_while_binding(number)) number++;
-  EXPECT(number > 5);
-  refuse_while_binding_again();
-  printf("key map: %ld refusals\n", number - 1);
+  hed_parser_free(&parser);
+  EXPECT(in_use == before);
 }
 
 int main(int argc, char **argv) {
   long step = argc > 1 ? atol(argv[1]) : 1;
   if (step < 1) return 2;
-  for (size_t piece = 1; piece < 2 * sizeof stream; piece = piece * 3 + 1) refuse_while_reading(piece);
-  refuse_while_ending(false);
-  refuse_while_ending(true);
-  refuse_time();
-  refuse_while_expiring();
-  refuse_while_encoding();
-  need_no_memory();
+  EXPECT(hed_parser_init(&base, HED_DIALECT_EXTENDED) == HED_OK && in_use > 0);
+  room = 3, text_room = 20;
+  for (size_t i = 0; i < sizeof ways / sizeof *ways; i++)
+    for (size_t piece = 1; piece < 2 * sizeof stream; piece = piece * 3 + 1) refuse_while_reading(&ways[i], piece);
+  refuse_string_parts();
+  for (int call = 0; call < CALLS; call++) refuse_while_writing(call);
+  refuse_replies();
   refuse_bindings();
-  refuse_init(step);
-  refuse_sharing();
-  frees_memory();
+  refuse_init(step, NULL);
+  refuse_init(1, &base);
+  need_no_memory();
   shares_memory();
   shrinks();
-  shrinks_to_a_room();
+  hed_parser_free(&base);
+  EXPECT(in_use == 0);
   return expected("test_refusals");
 }

@@ -1,189 +1,120 @@
-/* A test of parsers that share one sequence table: of either kind, made in each direction, freed in each order, and used by four threads at
- * once. */
-#include "expect.h"
-#include "hedrugal.h"
+/* A test of parsers that share one sequence table: made from each other, freed in each order, and used by four threads at once. */
+#include "told.h"
 #include <pthread.h>
-#include <string.h>
 
-/* A parser of either kind. */
-typedef struct session {
-  bool is_extended;
-  hed_parser parser;
-  hed_extended extended;
-} session;
-
-static session session_of(bool is_extended) {
-  session none;
-  memset(&none, 0, sizeof none);
-  none.is_extended = is_extended;
-  return none;
+static bool init_sharing(hed_parser *parser, uint32_t dialect, const hed_parser *other) {
+  return hed_parser_init_sharing(parser, dialect, other) == HED_OK;
 }
 
-static bool init(session *it) {
-  return it->is_extended ? hed_extended_init(&it->extended, HED_DIALECT_EXTENDED) : hed_parser_init(&it->parser);
+/* Whether the next event is this key, with these modifiers. */
+static bool next_is(hed_parser *parser, uint16_t key, uint32_t detail, uint8_t modifiers) {
+  hed_event event, wanted = PRESS(modifiers, key, detail);
+  return hed_parser_next(parser, &event) == HED_OK && same_event(&event, &wanted);
 }
 
-static bool init_sharing(session *it, const session *other) {
-  if (it->is_extended && other->is_extended) return hed_extended_init_sharing(&it->extended, HED_DIALECT_EXTENDED, &other->extended);
-  if (it->is_extended) return hed_extended_init_sharing_parser(&it->extended, HED_DIALECT_EXTENDED, &other->parser);
-  if (other->is_extended) return hed_parser_init_sharing_extended(&it->parser, &other->extended);
-  return hed_parser_init_sharing(&it->parser, &other->parser);
+static bool feeds(hed_parser *parser, const char *text) {
+  return hed_parser_feed(parser, 0, (const uint8_t *)text, strlen(text)) == HED_OK;
 }
 
-static bool is_live(const session *it) {
-  return it->is_extended ? it->extended.live : it->parser.live;
+/* Whether the parser reads keys of the table, short and long, and a character. The dialects read one of the keys each in its own way. */
+static bool is_reading(hed_parser *parser) {
+  hed_reading reading;
+  bool is_termwiz = hed_parser_reading(parser, &reading) == HED_OK && reading.dialect == HED_DIALECT_TERMWIZ;
+  return feeds(parser, "\033[A\033[1;5D\033[27;5;13~q\033[97;5u\033[1;9A\033") && next_is(parser, HED_KEY_UP_ARROW, 0, 0)
+         && next_is(parser, HED_KEY_LEFT_ARROW, 0, CTRL) && next_is(parser, HED_KEY_ENTER, 0, CTRL) && next_is(parser, HED_KEY_CHAR, 'q', 0)
+         && next_is(parser, HED_KEY_CHAR, 'a', CTRL) && next_is(parser, HED_KEY_UP_ARROW, 0, is_termwiz ? ALT : SUPER)
+         && hed_parser_waiting_len(parser) == 1 && feeds(parser, "[B") && next_is(parser, HED_KEY_DOWN_ARROW, 0, 0)
+         && hed_parser_waiting_len(parser) == 0;
 }
 
-static size_t waiting(const session *it) {
-  return it->is_extended ? hed_extended_waiting_len(&it->extended) : hed_parser_waiting_len(&it->parser);
-}
-
-static void end(session *it) {
-  hed_parser_free(&it->parser);
-  hed_extended_free(&it->extended);
-}
-
-static bool feed(session *it, const char *text, size_t len) {
-  const uint8_t *bytes = (const uint8_t *)text;
-  return it->is_extended ? hed_extended_feed(&it->extended, bytes, len) : hed_parser_feed(&it->parser, bytes, len);
-}
-
-#define FEED(it, text) feed(it, text, sizeof text - 1)
-
-/* Whether the next event is this key, with Ctrl or without modifiers. */
-static bool next_is(session *it, uint16_t key, uint32_t detail, bool has_ctrl) {
-  hed_extended_event extended;
-  hed_event event;
-  if (!it->is_extended)
-    return hed_parser_next(&it->parser, true, &event) == HED_NEXT_EVENT && event.kind == HED_KIND_KEY && event.key == key
-           && event.detail == detail && event.modifiers == (has_ctrl ? HED_TERMWIZ_MOD_CTRL : HED_TERMWIZ_MOD_NONE);
-  return hed_extended_next(&it->extended, true, &extended) == HED_NEXT_EVENT && extended.kind == HED_KIND_KEY && extended.report.key == key
-         && extended.report.detail == detail && extended.report.modifiers == (has_ctrl ? HED_KITTY_MOD_CTRL : HED_KITTY_MOD_NONE);
-}
-
-/* Whether the parser reads keys of the table, short and long, and a character. */
-static bool reads(session *it) {
-  return FEED(it, "\033[A\033[1;5D\033[27;5;13~q\033[97;5u\033") && next_is(it, HED_KEY_UP_ARROW, 0, false)
-         && next_is(it, HED_KEY_LEFT_ARROW, 0, true) && next_is(it, HED_KEY_ENTER, 0, true) && next_is(it, HED_KEY_CHAR, 'q', false)
-         && next_is(it, HED_KEY_CHAR, 'a', true) && waiting(it) == 1 && FEED(it, "[B") && next_is(it, HED_KEY_DOWN_ARROW, 0, false)
-         && waiting(it) == 0;
-}
-
-/* Three parsers of these kinds, of which the second is made from the first and the third from the second. After each that is freed, the
- * others read on. */
-static void frees_in_order(const bool kinds[3], const int order[3]) {
-  session made[3];
-  for (int i = 0; i < 3; i++) made[i] = session_of(kinds[i]);
-  EXPECT(init(&made[0]) && init_sharing(&made[1], &made[0]) && init_sharing(&made[2], &made[1]));
-  for (int i = 0; i < 3; i++) EXPECT(reads(&made[i]));
+/* Three parsers, of which the second is made from the first and the third from the second. After each that is freed, the others read on. */
+static void frees_in_order(const int order[3], uint32_t dialects) {
+  hed_parser made[3] = { HED_PARSER_NONE, HED_PARSER_NONE, HED_PARSER_NONE };
+  EXPECT(hed_parser_init(&made[0], dialects & 1) == HED_OK);
+  EXPECT(init_sharing(&made[1], dialects >> 1 & 1, &made[0]) && init_sharing(&made[2], dialects >> 2, &made[1]));
+  for (int i = 0; i < 3; i++) EXPECT(is_reading(&made[i]));
   for (int freed = 0; freed < 3; freed++) {
-    end(&made[order[freed]]);
-    for (int i = 0; i < 3; i++) EXPECT(is_live(&made[i]) ? reads(&made[i]) : !FEED(&made[i], "q"));
+    hed_parser_free(&made[order[freed]]);
+    for (int i = 0; i < 3; i++) EXPECT(made[i].live ? is_reading(&made[i]) : !feeds(&made[i], "q"));
   }
 }
 
 static void frees_in_each_order(void) {
   static const int orders[][3] = { { 0, 1, 2 }, { 0, 2, 1 }, { 1, 0, 2 }, { 1, 2, 0 }, { 2, 0, 1 }, { 2, 1, 0 } };
-  for (unsigned kinds = 0; kinds < 8; kinds++)
-    for (size_t i = 0; i < sizeof orders / sizeof orders[0]; i++)
-      frees_in_order((const bool[]){ kinds & 1, kinds & 2, kinds & 4 }, orders[i]);
+  for (uint32_t dialects = 0; dialects < 8; dialects++)
+    for (size_t i = 0; i < sizeof orders / sizeof orders[0]; i++) frees_in_order(orders[i], dialects);
 }
 
-/* Each parser has a buffer of its own. One that was there is freed, be it over this table or over another. */
-static void shares_the_table_alone(bool is_extended) {
-  session first = session_of(false), second = session_of(is_extended);
-  EXPECT(init(&first) && FEED(&first, "\033["));
-  EXPECT(init(&second) && FEED(&second, "\033[1;5"));
+/* Each parser has a buffer of its own, and its own limits and parts. One that was there is freed, be it over this table or over another. Without
+ * another parser, or with a number that names no dialect, nothing changes. */
+static void shares_the_table_alone(void) {
+  static const hed_policy policy = { .escape = 7 };
+  static const uint32_t no_dialects[] = { 2, 256, 65536, UINT32_MAX };
+  hed_parser first = HED_PARSER_NONE, second = HED_PARSER_NONE, none = HED_PARSER_NONE;
+  EXPECT(hed_parser_init(&first, HED_DIALECT_EXTENDED) == HED_OK && hed_parser_set_policy(&first, &policy) == HED_OK);
+  hed_parser_set_parts(&first, 0);
+  READS(&first, START "last" END "\033", "Paste(last); ");
+  EXPECT(hed_parser_init(&second, HED_DIALECT_EXTENDED) == HED_OK && feeds(&second, "\033[1;5"));
   for (int again = 0; again < 2; again++) {
-    EXPECT(init_sharing(&second, &first) && waiting(&second) == 0 && waiting(&first) == 2);
-    EXPECT(FEED(&second, "\033[") && FEED(&second, "C") && next_is(&second, HED_KEY_RIGHT_ARROW, 0, false));
-    EXPECT(waiting(&second) == 0 && waiting(&first) == 2);
+    EXPECT(init_sharing(&second, HED_DIALECT_EXTENDED, &first) && hed_parser_text(&second, NULL, 0) == 0);
+    EXPECT(hed_parser_waiting_len(&second) == 0 && hed_parser_waiting_len(&first) == 1 && hed_parser_text(&first, NULL, 0) == 4);
+    EXPECT(hed_parser_init_sharing(&first, HED_DIALECT_EXTENDED, &none) == HED_NOT_INITIALIZED && !none.live);
+    for (size_t i = 0; i < 4; i++) EXPECT(hed_parser_init_sharing(&first, no_dialects[i], &second) == HED_BAD_NUMBER);
+    for (size_t i = 0; i < 4; i++) EXPECT(hed_parser_init_sharing(&none, no_dialects[i], &second) == HED_BAD_NUMBER && !none.live);
+    READS(&second, START "a" END "\033", "Paste(a); ");
+    EXPECT(hed_parser_timeout(&second, 0) == 50 && hed_parser_timeout(&first, 0) == 7);
+    READS(&second, "[" START "a", "[ ALT; ");
+    EXPECT(hed_parser_waiting_len(&second) == 7 && hed_parser_waiting_len(&first) == 1);
   }
-  EXPECT(FEED(&first, "D") && next_is(&first, HED_KEY_LEFT_ARROW, 0, false));
-  end(&first);
-  EXPECT(reads(&second));
-  end(&second);
-}
-
-/* Without another parser, or with a number that names no dialect, nothing changes. */
-static void refuses(bool is_extended) {
-  static const uint32_t no_rows[] = { 2, 256, 65536, UINT32_MAX };
-  session none = session_of(is_extended), first = session_of(is_extended), of_other = session_of(!is_extended), second = session_of(true);
-  EXPECT(!init_sharing(&first, &none) && !is_live(&first));
-  EXPECT(!init_sharing(&of_other, &none) && !is_live(&of_other));
-  EXPECT(init(&first) && init_sharing(&of_other, &first) && FEED(&first, "\033[") && FEED(&of_other, "\033"));
-  EXPECT(!init_sharing(&first, &none) && waiting(&first) == 2 && !is_live(&none));
-  EXPECT(!init_sharing(&of_other, &none) && waiting(&of_other) == 1);
-  for (size_t i = 0; i < sizeof no_rows / sizeof no_rows[0]; i++) {
-    const session *extended = is_extended ? &first : &of_other, *input = is_extended ? &of_other : &first;
-    EXPECT(!hed_extended_init_sharing(&second.extended, no_rows[i], &extended->extended) && !is_live(&second));
-    EXPECT(!hed_extended_init_sharing_parser(&second.extended, no_rows[i], &input->parser) && !is_live(&second));
-  }
-  EXPECT(waiting(&first) == 2 && waiting(&of_other) == 1);
-  end(&of_other);
-  EXPECT(FEED(&first, "A") && next_is(&first, HED_KEY_UP_ARROW, 0, false));
-  end(&first);
-}
-
-static uint8_t modifiers_of_next(hed_extended *parser, const char *text) {
-  hed_extended_event event;
-  EXPECT(hed_extended_feed(parser, (const uint8_t *)text, strlen(text)));
-  EXPECT(hed_extended_next(parser, true, &event) == HED_NEXT_EVENT && event.kind == HED_KIND_KEY);
-  return event.report.modifiers;
-}
-
-/* Two parsers of one table read its entries each in its own dialect. */
-static void reads_rows_in_each_way(void) {
-  hed_extended termwiz = HED_EXTENDED_NONE, extended = HED_EXTENDED_NONE;
-  EXPECT(hed_extended_init(&termwiz, HED_DIALECT_TERMWIZ) && hed_extended_init_sharing(&extended, HED_DIALECT_EXTENDED, &termwiz));
-  EXPECT(modifiers_of_next(&termwiz, "\033[1;9A") == HED_KITTY_MOD_ALT);
-  EXPECT(modifiers_of_next(&extended, "\033[1;9A") == HED_KITTY_MOD_SUPER);
-  hed_extended_free(&termwiz);
-  hed_extended_free(&extended);
+  READS(&first, "[D", "LeftArrow; ");
+  hed_parser_free(&first);
+  READS(&second, END, "Paste(a); ");
+  EXPECT(is_reading(&second));
+  hed_parser_free(&second);
 }
 
 enum { THREADS = 4, ROUNDS = 20 };
 
 /* The parser that threads make theirs from, and its lock. */
-static session idle;
+static hed_parser idle = HED_PARSER_NONE;
 static pthread_mutex_t of_idle = PTHREAD_MUTEX_INITIALIZER;
 
 /* A thread has a parser that was made for it, and leaves one in its place. Its faults are counted. */
 typedef struct worker {
   pthread_t thread;
-  session own;
+  hed_parser own;
   int faults;
 } worker;
 
 /* Makes a parser from the idle one and another from that, uses both, and frees them, the first one first or last. */
-static bool makes_and_frees(bool is_extended, bool is_first_first) {
-  session first = session_of(is_extended), second = session_of(!is_extended);
+static bool makes_and_frees(uint32_t dialect, bool is_first_first) {
+  hed_parser first = HED_PARSER_NONE, second = HED_PARSER_NONE;
   pthread_mutex_lock(&of_idle);
-  bool is_made = init_sharing(&first, &idle);
+  bool is_made = init_sharing(&first, dialect, &idle);
   pthread_mutex_unlock(&of_idle);
-  bool holds = is_made && init_sharing(&second, &first) && reads(&first) && reads(&second);
-  end(is_first_first ? &first : &second);
-  holds = holds && reads(is_first_first ? &second : &first);
-  end(is_first_first ? &second : &first);
+  bool holds = is_made && init_sharing(&second, !dialect, &first) && is_reading(&first) && is_reading(&second);
+  hed_parser_free(is_first_first ? &first : &second);
+  holds = holds && is_reading(is_first_first ? &second : &first);
+  hed_parser_free(is_first_first ? &second : &first);
   return holds;
 }
 
 static void *work(void *passed) {
   worker *it = passed;
-  session next = session_of(!it->own.is_extended);
-  it->faults += !reads(&it->own);
+  hed_parser next = HED_PARSER_NONE;
+  it->faults += !is_reading(&it->own);
   for (int round = 0; round < ROUNDS; round++) it->faults += !makes_and_frees(round & 1, round & 2);
-  it->faults += !init_sharing(&next, &it->own);
-  end(&it->own);
+  it->faults += !init_sharing(&next, HED_DIALECT_TERMWIZ, &it->own);
+  hed_parser_free(&it->own);
   it->own = next;
   return NULL;
 }
 
 /* Makes a parser for each thread from the first. */
-static void make_for(worker *workers, const session *first) {
+static void make_for(worker *workers, const hed_parser *first) {
   for (int i = 0; i < THREADS; i++) {
-    workers[i].own = session_of(i & 1);
-    EXPECT(init_sharing(&workers[i].own, first));
+    workers[i].own = (hed_parser)HED_PARSER_NONE;
+    EXPECT(init_sharing(&workers[i].own, i & 1, first));
   }
 }
 
@@ -196,45 +127,40 @@ static void run(worker *workers, void *(*body)(void *)) {
 /* Threads make, use and free parsers of one table. Each is passed one, and passes another back, which outlives the idle one. */
 static void works_in_threads(void) {
   static worker workers[THREADS];
-  idle = session_of(false);
-  EXPECT(init(&idle));
+  EXPECT(hed_parser_init(&idle, HED_DIALECT_EXTENDED) == HED_OK);
   make_for(workers, &idle);
   run(workers, work);
-  end(&idle);
+  hed_parser_free(&idle);
   for (int i = 0; i < THREADS; i++) {
-    EXPECT(reads(&workers[i].own));
-    end(&workers[i].own);
+    EXPECT(is_reading(&workers[i].own));
+    hed_parser_free(&workers[i].own);
   }
 }
 
 /* Makes a parser from the thread's own, and frees both. */
 static void *ends(void *passed) {
   worker *it = passed;
-  session next = session_of(!it->own.is_extended);
-  it->faults = !reads(&it->own) || !init_sharing(&next, &it->own);
-  end(&it->own);
-  it->faults += !reads(&next);
-  end(&next);
+  hed_parser next = HED_PARSER_NONE;
+  it->faults = !is_reading(&it->own) || !init_sharing(&next, HED_DIALECT_TERMWIZ, &it->own);
+  hed_parser_free(&it->own);
+  it->faults += !is_reading(&next);
+  hed_parser_free(&next);
   return NULL;
 }
 
 /* One of the threads frees the last parser of the table. No lock orders them. */
 static void frees_the_table_in_a_thread(void) {
   static worker workers[THREADS];
-  session first = session_of(true);
-  EXPECT(init(&first));
+  hed_parser first = HED_PARSER_NONE;
+  EXPECT(hed_parser_init(&first, HED_DIALECT_EXTENDED) == HED_OK);
   make_for(workers, &first);
-  end(&first);
+  hed_parser_free(&first);
   run(workers, ends);
 }
 
 int main(void) {
   frees_in_each_order();
-  for (int is_extended = 0; is_extended < 2; is_extended++) {
-    shares_the_table_alone(is_extended);
-    refuses(is_extended);
-  }
-  reads_rows_in_each_way();
+  shares_the_table_alone();
   works_in_threads();
   frees_the_table_in_a_thread();
   return expected("test_sharing");

@@ -23,7 +23,7 @@
 static const char off[] = HED_TERMINAL_PASTE_OFF HED_TERMINAL_SCREEN_OFF;
 static const char mouse_off[] = HED_TERMINAL_MOUSE_OFF HED_TERMINAL_PASTE_OFF HED_TERMINAL_SCREEN_OFF;
 
-static hed_extended parser = HED_EXTENDED_NONE;
+static hed_parser parser = HED_PARSER_NONE;
 static hed_terminal terminal;
 
 static void note(int number) {
@@ -112,7 +112,7 @@ int __wrap_poll(struct pollfd *ready, nfds_t count, int milliseconds) {
 /* Wakes the loop without a signal, a while after a look that found nothing. */
 static void wake_late(void) {
   char name[32];
-  hed_extended_event event;
+  hed_event event;
   enum hed_terminal_event came = hed_terminal_next(&terminal, &parser, 0, &event);
   printf("waits: %d\n", came);
   fflush(stdout);
@@ -173,6 +173,7 @@ static bool obey(uint32_t key) {
     case 'j': stands_still = true; return true;
     case 'k': wake_late(); return true;
     case 'm': refuse(1); return true;
+    case 'n': refuse(2); return true;
     case 'l': return run_child("stty -a | grep -o -e '-icanon' -e icanon; read -r line; echo \"line $line\"", true);
     case 'o': printf("deep: %u\n", deepen(1 << 20)); return true;
     case 'p': write_to_nobody(); return true;
@@ -184,24 +185,24 @@ static bool obey(uint32_t key) {
 }
 
 /* Prints what a reply says, or what was cut off of it, and how many asks are open. */
-static void print_reply(const hed_extended_event *event) {
+static void print_reply(const hed_event *event) {
   char text[64] = "";
   if (event->kind == HED_KIND_CURSOR_POSITION) snprintf(text, sizeof text, "%u, %u", event->row, event->column);
-  else hed_extended_text(&parser, (uint8_t *)text, sizeof text - 1);
+  else hed_parser_text(&parser, (uint8_t *)text, sizeof text - 1);
   printf("%s %s, %zu open\n", event->kind == HED_KIND_STRING_CUT ? "cut" : "reply", text, hed_terminal_owed(&terminal));
 }
 
-static bool handle_event(const hed_extended_event *event) {
+static bool handle_event(const hed_event *event) {
   bool is_paste = event->kind == HED_KIND_PASTE || event->kind == HED_KIND_PASTE_PART;
   bool is_reply = event->kind == HED_KIND_CURSOR_POSITION || event->kind == HED_KIND_CSI || event->kind == HED_KIND_OSC;
-  if (event->kind == HED_KIND_KEY) printf("key %u, %u\n", event->report.key, (unsigned)event->report.detail);
+  if (event->kind == HED_KIND_KEY) printf("key %u, %u\n", event->key, (unsigned)event->detail);
   if (is_paste) printf("%s of %zu bytes\n", event->kind == HED_KIND_PASTE ? "paste" : "part", event->text_len);
   if (is_reply || event->kind == HED_KIND_STRING_CUT) print_reply(event);
-  return event->kind != HED_KIND_KEY || event->report.key != HED_KEY_CHAR || obey(event->report.detail);
+  return event->kind != HED_KIND_KEY || event->key != HED_KEY_CHAR || obey(event->detail);
 }
 
 /* Returns false once the program has to end. */
-static bool handle_what_came(enum hed_terminal_event came, const hed_extended_event *event) {
+static bool handle_what_came(enum hed_terminal_event came, const hed_event *event) {
   switch (came) {
     case HED_TERMINAL_EVENT: return handle_event(event);
     case HED_TERMINAL_RESIZED: print_size("resized"); return true;
@@ -215,21 +216,23 @@ static bool handle_what_came(enum hed_terminal_event came, const hed_extended_ev
 /* Polls by itself, and reads and heeds what is there. */
 static bool poll_once(void) {
   struct pollfd ready[] = { { .fd = terminal.input, .events = POLLIN }, { .fd = terminal.wake, .events = POLLIN } };
-  hed_extended_event event;
+  hed_event event;
   uint8_t bytes[16];
   size_t count = 0;
   fflush(stdout);
   poll(ready, 2, -1);
-  if (ready[1].revents && !handle_what_came(hed_terminal_heed(&terminal), NULL)) return false;
+  enum hed_terminal_event came = ready[1].revents ? hed_terminal_heed(&terminal) : HED_TERMINAL_INPUT;
+  if (came == HED_TERMINAL_RESUMED) hed_parser_interrupted(&parser, 0);
+  if (came != HED_TERMINAL_INPUT && !handle_what_came(came, NULL)) return false;
   if (ready[0].revents && !hed_terminal_read(&terminal, bytes, sizeof bytes, &count)) return false;
-  if (!hed_extended_feed(&parser, bytes, count)) return false;
-  while (hed_extended_next(&parser, true, &event) == HED_NEXT_EVENT)
+  if (hed_parser_feed(&parser, 0, bytes, count)) return false;
+  while (hed_parser_next(&parser, &event) == HED_OK)
     if (!handle_event(&event)) return false;
   return true;
 }
 
 static bool next_once(void) {
-  hed_extended_event event;
+  hed_event event;
   enum hed_terminal_event came = hed_terminal_next(&terminal, &parser, -1, &event);
   return handle_what_came(came, &event);
 }
@@ -241,7 +244,7 @@ int main(int argc, char **argv) {
   if (strcmp(word, "--ignore") == 0) signal(SIGTERM, SIG_IGN), signal(SIGHUP, SIG_IGN);
   if (strcmp(word, "--handle") == 0) handle(SIGUSR1), handle(SIGUSR2);
   if (strcmp(word, "--long") == 0) memset(text, ' ', sizeof text - 1);
-  if (!hed_extended_init(&parser, HED_DIALECT_EXTENDED)) return 1;
+  if (hed_parser_init(&parser, HED_DIALECT_EXTENDED)) return 1;
   bool has_mouse = strcmp(word, "--mouse") == 0;
   if (has_mouse) strcat(text, HED_TERMINAL_MOUSE_ON);
   if (!hed_terminal_open(&terminal, input, input == 0 ? 1 : input, text, has_mouse ? mouse_off : off)) {
@@ -252,7 +255,7 @@ int main(int argc, char **argv) {
   puts("begun");
   while (strcmp(word, "--poll") == 0 ? poll_once() : next_once()) continue;
   hed_terminal_close(&terminal);
-  hed_extended_free(&parser);
+  hed_parser_free(&parser);
   hed_terminal_end();
   return 0;
 }

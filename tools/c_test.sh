@@ -4,7 +4,7 @@
 #
 # The example and the tests in c/ are built as C99, the example also as C++, and linked with the archive and with the shared library. The
 # tests also run under valgrind, which has to find no error and no leak, and its helgrind no race in a test of four threads, whose parsers
-# share a table. Two tests refuse every request for memory in turn. Without valgrind and under an emulator, which can't run it, its cases are
+# share a table. One test refuses every request for memory in turn. Without valgrind and under an emulator, which can't run it, its cases are
 # left out, and a line says so. The last line is 'N passed, N failed', the status 1 if a case failed.
 . "$(dirname "$0")/common.sh"
 start_cases "$@"
@@ -52,33 +52,22 @@ check 'example' check_example "$work/events"
 check 'example as C++' "$cxx" -std=c++11 "${strict[@]}" -I"$library" -xc++ c/events.c -xnone "${shared[@]}" -o "$work/events_cpp"
 check 'example with the shared library' check_example "$work/events_cpp"
 check 'example by pkg-config' example_by_pkg_config
-check 'build of the calls' build test_calls calls
-check 'build with the shared library' "$cc" -std=c99 "${strict[@]}" -I"$library" c/test_calls.c "${shared[@]}" -o "$work/calls_shared"
-check 'build of the refusals' build test_refusals refusals "$counting"
-check 'build of the extended calls' build test_extended extended
-check 'build of their refusals' build test_extended_refusals extended_refusals "$counting"
-check 'build of bindings' build test_bindings bindings
-check 'build of shared tables' build test_sharing sharing -pthread
+for name in parser encode presses bindings keymap; do check "build of test_$name" build test_$name $name; done
+check 'build with the shared library' "$cc" -std=c99 "${strict[@]}" -I"$library" c/test_parser.c "${shared[@]}" -o "$work/parser_shared"
+check 'build of test_refusals' build test_refusals refusals "$counting"
+check 'build of test_sharing' build test_sharing sharing -pthread
 check "build of the kit's functions" build test_kit kit c/kit/heap.c c/kit/system.c "$counting"
-for name in ask live edit; do check "program $name as C99" build $name $name c/hedrugal_terminal.c; done
-check 'calls' run "$work/calls" c/numbers.txt
-check 'calls of the shared library' run "$work/calls_shared" c/numbers.txt
-check 'refusals' run "$work/refusals"
-check 'extended calls' run "$work/extended"
-check 'refusals of extended calls' run "$work/extended_refusals"
-check 'bindings' run "$work/bindings"
-check 'shared tables' run "$work/sharing"
+for name in ask live edit prompt list server many; do check "program $name as C99" build $name $name c/hedrugal_terminal.c; done
+for name in parser encode bindings keymap sharing refusals parser_shared; do check "test_$name" run "$work/$name"; done
+check 'test_presses' run "$work/presses" c/numbers.txt
 check "the kit's functions" run "$work/kit" one ''
 if [ ${#emulator[@]} -gt 0 ] || ! command -v valgrind > /dev/null; then
     echo 'left out: the cases under valgrind'
     print_counts
     exit
 fi
-check 'calls under valgrind' memcheck "$work/calls" c/numbers.txt
-check 'refusals under valgrind' memcheck "$work/refusals" 1000
-check 'extended calls under valgrind' memcheck "$work/extended"
-check 'refusals of extended calls under valgrind' memcheck "$work/extended_refusals" 1000
-check 'bindings under valgrind' memcheck "$work/bindings"
-check 'shared tables under valgrind' memcheck "$work/sharing"
-check 'shared tables under helgrind' timeout 300 valgrind --tool=helgrind --quiet --error-exitcode=9 "$work/sharing"
+for name in parser encode bindings keymap sharing; do check "test_$name under valgrind" memcheck "$work/$name"; done
+check 'test_presses under valgrind' memcheck "$work/presses" c/numbers.txt
+check 'test_refusals under valgrind' memcheck "$work/refusals" 1000
+check 'test_sharing under helgrind' timeout 300 valgrind --tool=helgrind --quiet --error-exitcode=9 "$work/sharing"
 print_counts
