@@ -18,8 +18,7 @@
 #include <string.h>
 
 enum { CHORD_MS = 1000 };
-/* No name of a chord is longer, and no text of a key report, since its sequence isn't. */
-enum { NAME_ROOM = 64 * HED_CHORD_MOST, REPORT_ROOM = 256 };
+enum { NAME_ROOM = 64 * HED_CHORD_MOST }; /* no name of a chord is longer */
 
 static const char enter[] = HED_TERMINAL_PASTE_ON "\033[>4;2m" HED_TERMINAL_KITTY_ON(5);
 static const char leave[] = HED_TERMINAL_KITTY_OFF "\033[>4m" HED_TERMINAL_PASTE_OFF;
@@ -36,7 +35,7 @@ typedef struct text {
 
 typedef struct edit {
   hed_terminal terminal;
-  hed_extended parser;
+  hed_parser parser;
   hed_bindings bindings;
   hed_matcher matcher;
   hed_timer timer; /* of what is pending in the matcher */
@@ -75,12 +74,10 @@ static size_t find_command(const char *name, size_t len) {
 
 /* Binds the chord that is named from a place of the line on. Returns false if memory is refused. */
 static bool bind_chord(edit *it, keys_file *file, const char *line, size_t from, size_t len, size_t command) {
-  hed_key_press keys[HED_CHORD_MOST];
-  size_t count, at;
-  uint32_t named = hed_key_read((const uint8_t *)line + from, len - from, keys, HED_CHORD_MOST, &count, &at);
-  if (named == HED_NAMED_KEYS) return hed_bindings_bind(&it->bindings, keys, count, command) == HED_BOUND_VALUE;
-  tell_wrong(file, from + at, name_errors[named]);
-  return true;
+  size_t at;
+  hed_status bound = hed_bindings_bind_name(&it->bindings, (const uint8_t *)line + from, len - from, command, &at);
+  if (bound != HED_OK && bound != HED_NO_MEMORY) tell_wrong(file, from + at, name_errors[bound]);
+  return bound != HED_NO_MEMORY;
 }
 
 static bool read_line(edit *it, keys_file *file, const char *line, size_t len) {
@@ -88,7 +85,7 @@ static bool read_line(edit *it, keys_file *file, const char *line, size_t len) {
   if (start == len || line[start] == '#') return true;
   size_t command = find_command(line + start, end - start);
   if (command < COMMAND_COUNT && chord < len) return bind_chord(it, file, line, chord, len, command);
-  if (command < COMMAND_COUNT) tell_wrong(file, end, name_errors[HED_NAMED_EMPTY]);
+  if (command < COMMAND_COUNT) tell_wrong(file, end, name_errors[HED_NAME_EMPTY]);
   else tell_wrong(file, start, "no such command");
   return true;
 }
@@ -204,8 +201,8 @@ static bool insert(edit *it, const uint8_t *bytes, size_t len) {
 static bool insert_event_text(edit *it, size_t len) {
   uint8_t *room = text_insert(&it->text, len);
   if (!room) return fail(it, "out of memory");
-  hed_extended_text(&it->parser, room, len);
-  hed_extended_drop_text(&it->parser);
+  hed_parser_text(&it->parser, room, len);
+  hed_parser_drop_text(&it->parser);
   print_text(&it->text);
   return true;
 }
@@ -226,7 +223,7 @@ static bool run_command(edit *it, uint64_t command) {
 static void print_chord(const hed_key_press *keys, size_t count) {
   uint8_t name[NAME_ROOM];
   size_t len;
-  if (hed_key_print(keys, count, name, sizeof name, &len) == HED_PRINTED_NAME) fwrite(name, 1, len, stdout);
+  if (hed_key_print(keys, count, name, sizeof name, &len) == HED_OK) fwrite(name, 1, len, stdout);
 }
 
 /* Prints what is pending, and the chords that begin so: the rest of each, and its command. */
@@ -249,18 +246,10 @@ static void print_menu(const edit *it) {
   }
 }
 
-/* Inserts a character as a terminal sends it: in UTF-8. */
-static bool insert_character(edit *it, uint32_t code) {
-  static const hed_modes modes = { .encoding = HED_ENCODING_XTERM };
-  uint8_t bytes[4];
-  size_t len;
-  uint32_t encoded = hed_encode(HED_KEY_CHAR, code, HED_TERMWIZ_MOD_NONE, true, &modes, bytes, sizeof bytes, &len);
-  return encoded == HED_ENCODED_TEXT ? insert(it, bytes, len) : fail(it, "out of memory");
-}
-
 static bool handle_unbound(edit *it, const hed_key_press *press) {
-  uint32_t code = hed_key_text(press);
-  if (code != HED_NO_CODE) return insert_character(it, code);
+  uint8_t typed[4];
+  size_t len = hed_press_text(press, typed, sizeof typed);
+  if (len > 0) return insert(it, typed, len);
   fputs("unbound: ", stdout);
   print_chord(press, 1);
   putchar('\n');
@@ -271,10 +260,9 @@ static bool handle_unbound(edit *it, const hed_key_press *press) {
 static bool take_outcomes(edit *it, bool more, bool is_pressed) {
   bool is_taken = false, goes_on = true;
   hed_outcome outcome;
-  uint32_t answer;
-  while (goes_on && (answer = hed_matcher_next(&it->matcher, &it->bindings, more, &outcome)) != HED_OUTCOME_NONE) {
+  while (goes_on && hed_matcher_next(&it->matcher, &it->bindings, more, &outcome) == HED_OK) {
     is_taken = true;
-    goes_on = answer == HED_OUTCOME_BOUND ? run_command(it, outcome.value) : handle_unbound(it, &outcome.press);
+    goes_on = outcome.kind == HED_OUTCOME_BOUND ? run_command(it, outcome.value) : handle_unbound(it, &outcome.press);
   }
   bool is_empty = it->matcher.count == 0;
   hed_seen seen = { .limit = is_empty ? -1 : CHORD_MS, .by = HED_AGE_LAST, .fed = is_pressed, .taken = is_taken, .empty = is_empty };
@@ -282,33 +270,25 @@ static bool take_outcomes(edit *it, bool more, bool is_pressed) {
   return goes_on;
 }
 
-/* The second press is that of a key of another layout. It is taken if only that leads on. */
-static bool handle_press(edit *it, const hed_key_report *report, const hed_key_press *press) {
-  hed_key_press presses[2] = { *press };
-  size_t count = hed_key_second(report, &presses[1]) ? 2 : 1;
+/* A text comes behind what is pending, so that is decided first. */
+static bool handle_text(edit *it, size_t len) {
+  return len == 0 || (take_outcomes(it, false, false) && insert_event_text(it, len));
+}
+
+/* The second press is that of a key of another layout. It is taken if only that leads on. A key without a press that has one with a text of
+ * one character types several characters. */
+static bool handle_key(edit *it, const hed_event *event) {
+  hed_key_press presses[2];
+  if (hed_parser_press(&it->parser, event, &presses[0]) != HED_OK)
+    return hed_event_press(event, HED_TEXT("a"), &presses[0]) != HED_OK || handle_text(it, event->text_len);
+  size_t count = hed_parser_second(&it->parser, event, &presses[1]) == HED_OK ? 2 : 1;
   hed_matcher_press_either(&it->matcher, &it->bindings, presses, count);
   if (!take_outcomes(it, true, true)) return false;
   print_menu(it);
   return true;
 }
 
-/* A text comes behind what is pending, so that is decided first. */
-static bool handle_text(edit *it, size_t len) {
-  return len == 0 || (take_outcomes(it, false, false) && insert_event_text(it, len));
-}
-
-/* A report without a press that has one with a text of one character types several characters. */
-static bool handle_key(edit *it, const hed_extended_event *event) {
-  uint8_t typed[REPORT_ROOM];
-  size_t len = event->text_len;
-  hed_key_press press;
-  if (len > 0) hed_extended_text(&it->parser, typed, sizeof typed);
-  if (hed_key_of_report(&event->report, typed, len, &press)) return handle_press(it, &event->report, &press);
-  if (hed_key_of_report(&event->report, (const uint8_t *)"a", 1, &press)) return handle_text(it, len);
-  return true;
-}
-
-static bool handle_event(edit *it, const hed_extended_event *event) {
+static bool handle_event(edit *it, const hed_event *event) {
   switch (event->kind) {
     case HED_KIND_KEY: return handle_key(it, event);
     case HED_KIND_PASTE:
@@ -323,7 +303,7 @@ static bool handle_pause(edit *it) {
 }
 
 static bool step(edit *it) {
-  hed_extended_event event;
+  hed_event event;
   switch (hed_terminal_next(&it->terminal, &it->parser, hed_timer_timeout(&it->timer, hed_terminal_now()), &event)) {
     case HED_TERMINAL_EVENT: return handle_event(it, &event);
     case HED_TERMINAL_NOTHING: return handle_pause(it);
@@ -341,7 +321,7 @@ static void print_end(const edit *it) {
   size_t count;
   uint64_t command = COMMAND_COUNT;
   size_t place = 0;
-  while (command != QUIT && hed_bindings_entry(&it->bindings, place, keys, HED_CHORD_MOST, &count, &command) == HED_BOUND_VALUE) place++;
+  while (command != QUIT && hed_bindings_entry(&it->bindings, place, keys, HED_CHORD_MOST, &count, &command) == HED_OK) place++;
   if (command != QUIT) return;
   print_chord(keys, count);
   puts(" ends");
@@ -358,14 +338,14 @@ static void run(edit *it) {
 }
 
 static int run_by_file(edit *it, const char *file) {
-  if (!hed_bindings_init(&it->bindings) || !hed_extended_init(&it->parser, HED_DIALECT_EXTENDED)) fail(it, "out of memory");
+  if (hed_bindings_init(&it->bindings) || hed_parser_init(&it->parser, HED_DIALECT_EXTENDED)) fail(it, "out of memory");
   else if (!read_file(it, file)) return 2;
   else run(it);
   return it->failure ? 1 : 0;
 }
 
 int main(int argc, char **argv) {
-  edit it = { .parser = HED_EXTENDED_NONE, .bindings = HED_BINDINGS_NONE, .matcher = HED_MATCHER_NONE, .timer = HED_TIMER_NONE };
+  edit it = { .parser = HED_PARSER_NONE, .bindings = HED_BINDINGS_NONE, .matcher = HED_MATCHER_NONE, .timer = HED_TIMER_NONE };
   if (argc != 2) {
     fputs("usage: edit FILE\n", stderr);
     return 2;
@@ -373,7 +353,7 @@ int main(int argc, char **argv) {
   int status = run_by_file(&it, argv[1]);
   free(it.text.bytes);
   hed_bindings_free(&it.bindings);
-  hed_extended_free(&it.parser);
+  hed_parser_free(&it.parser);
   hed_terminal_end();
   if (it.failure) fprintf(stderr, "edit: %s\n", it.failure);
   return status;

@@ -9,13 +9,13 @@
 enum { PASTE_LIMIT = 1 << 20 };
 
 static void print_key(const hed_event *event) {
-  char name[22];
+  char name[22] = "";
   hed_key_name(event->key, (uint8_t *)name, sizeof name);
   fputs(name, stdout);
   if (event->key == HED_KEY_CHAR) printf(" U+%04X", (unsigned)event->detail);
   if (event->key == HED_KEY_FUNCTION) printf(" %u", (unsigned)event->detail);
-  printf("%s%s%s\n", event->modifiers & HED_TERMWIZ_MOD_SHIFT ? " shift" : "", event->modifiers & HED_TERMWIZ_MOD_ALT ? " alt" : "",
-         event->modifiers & HED_TERMWIZ_MOD_CTRL ? " ctrl" : "");
+  printf("%s%s%s\n", event->modifiers & HED_KITTY_MOD_SHIFT ? " shift" : "", event->modifiers & HED_KITTY_MOD_ALT ? " alt" : "",
+         event->modifiers & HED_KITTY_MOD_CTRL ? " ctrl" : "");
 }
 
 /* How many bytes the control character at the front of a text in UTF-8 has, 0 if it begins with another. */
@@ -34,10 +34,10 @@ static void print_text(const uint8_t *text, size_t len) {
   }
 }
 
-static bool print_paste(hed_parser *parser, const char *name, size_t len) {
+static bool print_paste(const hed_parser *parser, const char *name, size_t len) {
   uint8_t *text = (uint8_t *)malloc(len + 1);
   if (!text) return false;
-  hed_parser_paste(parser, text, len);
+  hed_parser_text(parser, text, len);
   printf("%s %zu bytes: ", name, len);
   print_text(text, len);
   putchar('\n');
@@ -45,39 +45,42 @@ static bool print_paste(hed_parser *parser, const char *name, size_t len) {
   return true;
 }
 
-static bool print_event(hed_parser *parser, const hed_event *event) {
+static bool print_event(const hed_parser *parser, const hed_event *event) {
   if (event->kind == HED_KIND_KEY) print_key(event);
   if (event->kind == HED_KIND_MOUSE) printf("mouse at %u, %u, buttons %u\n", event->x, event->y, event->buttons);
-  if (event->kind == HED_KIND_PASTE_PART) return print_paste(parser, "part of a paste,", event->paste_len);
-  return event->kind != HED_KIND_PASTE || print_paste(parser, "paste of", event->paste_len);
+  if (event->kind == HED_KIND_PASTE_PART) return print_paste(parser, "part of a paste,", event->text_len);
+  return event->kind != HED_KIND_PASTE || print_paste(parser, "paste of", event->text_len);
 }
 
-static bool print_events(hed_parser *parser, bool more) {
+static bool print_events(hed_parser *parser) {
   hed_event event;
-  uint32_t next;
-  while ((next = hed_parser_next(parser, more, &event)) == HED_NEXT_EVENT)
+  hed_status next;
+  while ((next = hed_parser_next(parser, &event)) == HED_OK)
     if (!print_event(parser, &event)) return false;
-  return next == HED_NEXT_NONE;
+  return next == HED_NONE;
 }
 
-/* Prints a paste above the limit in parts, so that none needs much memory. */
-static bool print_part(hed_parser *parser) {
-  hed_event event;
-  uint32_t taken = hed_parser_take_paste(parser, PASTE_LIMIT, &event);
-  return taken == HED_NEXT_NONE || (taken == HED_NEXT_EVENT && print_event(parser, &event));
+/* The bytes may have lines, which end with the byte 10. A paste above the limit comes in parts, so that none needs much memory. */
+static bool begin(hed_parser *parser) {
+  hed_reading reading;
+  if (hed_parser_init(parser, HED_DIALECT_EXTENDED) || hed_parser_reading(parser, &reading)) return false;
+  reading.newline = HED_NEWLINE_ENTER;
+  hed_parser_set_parts(parser, PASTE_LIMIT);
+  return hed_parser_set_reading(parser, &reading) == HED_OK;
 }
 
 static bool print_input(hed_parser *parser) {
   uint8_t bytes[4096];
   ssize_t count;
   while ((count = read(0, bytes, sizeof bytes)) > 0)
-    if (!hed_parser_feed(parser, bytes, (size_t)count) || !print_events(parser, true) || !print_part(parser)) return false;
-  return count == 0 && print_events(parser, false);
+    if (hed_parser_feed(parser, 0, bytes, (size_t)count) || !print_events(parser)) return false;
+  hed_parser_end(parser);
+  return count == 0 && print_events(parser);
 }
 
 int main(void) {
   hed_parser parser = HED_PARSER_NONE;
-  bool printed = hed_parser_init(&parser) && print_input(&parser);
+  bool printed = begin(&parser) && print_input(&parser);
   if (!printed) fputs("events: a read failed, or memory was refused\n", stderr);
   hed_parser_free(&parser);
   return printed ? 0 : 1;

@@ -12,9 +12,8 @@
 #include <time.h>
 #include <unistd.h>
 
-/* In milliseconds: for how long the reply to DA1 is owed; how long it is waited for at the end, at least and at most; and how long an open paste
- * or string waits for more once another program had the terminal. */
-enum { OWED_MS = 2000, LEAVE_MS = 200, LEAVE_MOST_MS = 1000, CUT_MS = 1000 };
+/* In milliseconds: for how long the reply to DA1 is owed, and how long it is waited for at the end, at least and at most. */
+enum { OWED_MS = 2000, LEAVE_MS = 200, LEAVE_MOST_MS = 1000 };
 
 /* The terminal that is open. It stands here, since exit and signals restore it too. */
 static struct guard {
@@ -405,7 +404,7 @@ void hed_terminal_lend(hed_terminal *terminal) {
 
 bool hed_terminal_take_back(hed_terminal *terminal) {
   if (!is_own()) return fail(terminal, "no terminal is open");
-  terminal->unfed = 0;
+  asked.owed = 0;
   terminal->was_away = true;
   return take_terminal(terminal);
 }
@@ -425,6 +424,7 @@ static void stop(void) {
 static enum hed_terminal_event resume(hed_terminal *it) {
   resized = 0;
   asked.owed = 0;
+  it->was_away = true;
   return enter(it) ? HED_TERMINAL_RESUMED : HED_TERMINAL_FAILED;
 }
 
@@ -475,73 +475,28 @@ bool hed_terminal_read(hed_terminal *terminal, uint8_t *bytes, size_t room, size
   return fail(terminal, len < 0 ? "the terminal can't be read" : NULL);
 }
 
-/* Reading events. */
-
-/* What raw mode didn't change is as it was: VERASE. */
-bool hed_terminal_tell_settings(hed_terminal *terminal, hed_extended *parser) {
-  hed_reading reading;
-  if (!is_own()) return fail(terminal, "no terminal is open");
-  if (!hed_extended_reading(parser, &reading)) return fail(terminal, "there is no parser");
-  reading.erase = guard.raw.c_cc[VERASE] == '\b' ? HED_ERASE_BACKSPACE : HED_ERASE_DELETE;
-  reading.newline = guard.raw.c_iflag & ICRNL ? HED_NEWLINE_ENTER : HED_NEWLINE_CTRL_J;
-  return hed_extended_set_reading(parser, &reading);
-}
-
-/* Takes an event of what was read. What memory is refused for stays to be fed. */
-static uint32_t take(hed_terminal *it, hed_extended *parser, hed_extended_event *event) {
-  if (it->unfed > 0 && !hed_extended_feed(parser, it->bytes, it->unfed)) return parser->live ? HED_NEXT_NO_MEMORY : HED_NEXT_NO_PARSER;
-  it->unfed = 0;
-  uint32_t answer = hed_extended_next(parser, !it->has_ended, event);
-  if (answer != HED_NEXT_NONE) return answer;
-  return it->has_ended ? hed_extended_end_paste(parser, event) : hed_extended_take_paste(parser, HED_TERMINAL_PASTE_MOST, event);
-}
-
-static enum hed_terminal_event told(hed_terminal *it, uint32_t answer) {
-  if (answer == HED_NEXT_EVENT) return HED_TERMINAL_EVENT;
-  return failed(it, answer == HED_NEXT_NO_MEMORY ? "out of memory" : "there is no parser");
-}
-
-/* Reads bytes, which are fed next. Returns false if that fails. */
-static bool read_more(hed_terminal *it) {
-  bool is_read = hed_terminal_read(it, it->bytes, sizeof it->bytes, &it->unfed);
-  if (it->is_cut && it->unfed > 0) it->cut_since = hed_terminal_now();
-  it->has_ended = !is_read && !it->failure;
-  return is_read || it->has_ended;
-}
-
-/* Another program had the terminal. Events that weren't taken are forgotten, and so is the beginning of a sequence. What is open stays so. */
-static void forget(hed_terminal *it, hed_extended *parser) {
-  hed_extended_event event;
-  while (hed_extended_next(parser, true, &event) == HED_NEXT_EVENT) continue;
-  uint32_t waiting = hed_extended_waiting(parser);
-  it->was_away = false;
-  it->is_cut = waiting == HED_WAITING_PASTE || waiting == HED_WAITING_STRING;
-  it->cut_since = hed_terminal_now();
-  if (!it->is_cut) hed_extended_reset(parser);
-  hed_extended_forget_positions(parser);
-}
-
 /* Questions. */
 
-/* What the oldest question asked of the cursor isn't expected any more, and what the others did is. */
-static void close_oldest(hed_extended *parser) {
-  hed_reading reading;
-  unsigned positions = 0;
-  remove_oldest();
-  for (int i = 0; i < asked.owed; i++) positions += asked.positions[i];
-  if (!hed_extended_reading(parser, &reading)) return;
-  reading.questions = (uint8_t)(positions < UINT8_MAX ? positions : UINT8_MAX);
-  hed_extended_set_reading(parser, &reading);
+/* Has the parser expect the positions that the open questions asked for. */
+static void expect_positions(hed_parser *parser) {
+  hed_parser_forget_positions(parser);
+  for (int i = 0; i < asked.owed; i++)
+    for (unsigned left = asked.positions[i]; left > 0; left--) hed_parser_expect_position(parser);
 }
 
-bool hed_terminal_ask(hed_terminal *terminal, hed_extended *parser, const char *questions) {
+static void close_oldest(hed_parser *parser) {
+  remove_oldest();
+  expect_positions(parser);
+}
+
+/* If another program had the terminal, positions are expected once what came before is told. */
+bool hed_terminal_ask(hed_terminal *terminal, hed_parser *parser, const char *questions) {
   unsigned positions = 0;
   if (!is_own() || !guard.is_raw) return fail(terminal, "no terminal is open");
   if (asked.owed == HED_TERMINAL_ASKS_MOST) return fail(terminal, "too many questions are open");
   if (fflush(stdout) != 0) return fail(terminal, "the output can't be written");
-  if (terminal->was_away) forget(terminal, parser);
   for (const char *at = questions; (at = strstr(at, "\033[6n")); at++) {
-    hed_extended_expect_position(parser);
+    if (!terminal->was_away) hed_parser_expect_position(parser);
     positions++;
   }
   return ask_attributes(questions, positions) || fail(terminal, "the terminal can't be written");
@@ -552,39 +507,74 @@ size_t hed_terminal_owed(const hed_terminal *terminal) {
   return (size_t)asked.owed;
 }
 
-/* Whether an event is the reply to DA1. */
-static bool is_attributes(const hed_extended *parser, const hed_extended_event *event) {
-  uint8_t text[256];
-  hed_reply reply;
-  if (event->kind != HED_KIND_CSI || event->text_len > sizeof text) return false;
-  hed_extended_text(parser, text, sizeof text);
-  uint32_t answer = hed_read_reply(HED_KIND_CSI, text, event->text_len, &reply, NULL, 0, NULL, 0);
-  return answer == HED_REPLIED_VALUES && reply.kind == HED_REPLY_DEVICE_ATTRIBUTES && reply.report == HED_DEVICE_ATTRIBUTES_PRIMARY;
+/* Whether an event is the reply to DA1, as ?62;22c. It takes no memory, so that each is counted. */
+static bool is_attributes(const hed_parser *parser, const hed_event *event) {
+  char text[256] = "";
+  if (event->kind != HED_KIND_CSI || event->text_len >= sizeof text) return false;
+  hed_parser_text(parser, (uint8_t *)text, sizeof text);
+  return text[0] == '?' && strcmp(text + 1 + strspn(text + 1, "0123456789;"), "c") == 0;
 }
 
-static void note_reply(hed_extended *parser) {
+static void note_event(hed_terminal *it, hed_parser *parser, const hed_event *event) {
+  if (asked.owed == 0 || it->was_away || !is_attributes(parser, event)) return;
   uint64_t round_trip = hed_terminal_now() - asked.since[0];
   if (round_trip > asked.round_trip) asked.round_trip = round_trip;
   asked.is_answered = true;
   close_oldest(parser);
 }
 
-/* Waiting for events. */
+/* Events. */
 
-/* What is open ends with the first event that is no part of it. */
-static void note_event(hed_terminal *it, hed_extended *parser, const hed_extended_event *event) {
-  if (event->kind != HED_KIND_PASTE_PART && event->kind != HED_KIND_STRING_PART) it->is_cut = false;
-  if (asked.owed > 0 && is_attributes(parser, event)) note_reply(parser);
+/* What raw mode didn't change is as it was: VERASE. */
+bool hed_terminal_tell_settings(hed_terminal *terminal, hed_parser *parser) {
+  hed_reading reading;
+  if (!is_own()) return fail(terminal, "no terminal is open");
+  if (hed_parser_reading(parser, &reading) != HED_OK) return fail(terminal, "there is no parser");
+  reading.erase = guard.raw.c_cc[VERASE] == '\b' ? HED_ERASE_BACKSPACE : HED_ERASE_DELETE;
+  reading.newline = guard.raw.c_iflag & ICRNL ? HED_NEWLINE_ENTER : HED_NEWLINE_CTRL_J;
+  return hed_parser_set_reading(parser, &reading) == HED_OK;
+}
+
+/* Once all is told of what came before another program had the terminal. */
+static void note_away(hed_terminal *it, hed_parser *parser) {
+  it->was_away = false;
+  hed_parser_interrupted(parser, hed_terminal_now());
+  expect_positions(parser);
+}
+
+/* Tells an event of what was read. What can't be fed yet stays. */
+static hed_status tell(hed_terminal *it, hed_parser *parser, hed_event *event) {
+  hed_status answer;
+  while ((answer = hed_parser_next(parser, event)) == HED_NONE && it->unfed > 0) {
+    if ((answer = hed_parser_feed(parser, hed_terminal_now(), it->bytes, it->unfed)) != HED_OK) return answer;
+    it->unfed = 0;
+  }
+  if (answer == HED_OK) note_event(it, parser, event);
+  if (answer == HED_NONE && it->was_away) note_away(it, parser);
+  return answer;
+}
+
+static void read_more(hed_terminal *it, hed_parser *parser) {
+  if (hed_terminal_read(it, it->bytes, sizeof it->bytes, &it->unfed)) return;
+  it->has_ended = true;
+  it->error = it->failure ? errno : 0;
+  hed_parser_end(parser);
+}
+
+/* All is told of an input that has ended, or can't be read. */
+static enum hed_terminal_event ended(hed_terminal *it) {
+  if (it->error == 0) return HED_TERMINAL_ENDED;
+  errno = it->error;
+  return failed(it, "the terminal can't be read");
 }
 
 /* Looks at the input after the clock: bytes that are there may complete what is due. */
-static uint32_t expire(hed_terminal *it, hed_extended *parser, hed_extended_event *event) {
+static void look(hed_terminal *it, hed_parser *parser) {
   uint64_t now = hed_terminal_now();
   struct pollfd ready = { .fd = it->input, .events = POLLIN };
-  if (poll(&ready, 1, 0) != 0) return HED_NEXT_NONE;
+  if (poll(&ready, 1, 0) != 0) return;
+  hed_parser_idle(parser, now);
   while (asked.owed > 0 && left_ms(asked.since[0], OWED_MS, now) == 0) close_oldest(parser);
-  if (!it->is_cut || left_ms(it->cut_since, CUT_MS, now) > 0) return hed_extended_expire(parser, now, event);
-  return hed_extended_is_paste_open(parser) ? hed_extended_end_paste(parser, event) : hed_extended_next(parser, false, event);
 }
 
 /* The shorter of two times, of which a negative one is for ever. */
@@ -592,41 +582,33 @@ static int sooner(int one, int other) {
   return one < 0 || (other >= 0 && other < one) ? other : one;
 }
 
-int hed_terminal_timeout(hed_terminal *terminal, hed_extended *parser) {
+int hed_terminal_timeout(hed_terminal *terminal, const hed_parser *parser) {
   uint64_t now = hed_terminal_now();
-  int left = hed_extended_timeout(parser, now);
-  if (terminal->is_cut) left = sooner(left, left_ms(terminal->cut_since, CUT_MS, now));
+  int left = terminal->unfed > 0 || terminal->was_away ? 0 : hed_parser_timeout(parser, now);
   return asked.owed > 0 ? sooner(left, left_ms(asked.since[0], OWED_MS, now)) : left;
 }
 
-/* How long to wait, if no longer than these milliseconds from the start on. */
-static int wait_ms(hed_terminal *it, hed_extended *parser, uint64_t start, int milliseconds) {
-  int left = hed_terminal_timeout(it, parser);
-  return milliseconds < 0 ? left : sooner(left, left_ms(start, (uint64_t)milliseconds, hed_terminal_now()));
-}
-
-enum hed_terminal_event hed_terminal_next(hed_terminal *terminal, hed_extended *parser, int milliseconds, hed_extended_event *event) {
+enum hed_terminal_event hed_terminal_next(hed_terminal *terminal, hed_parser *parser, int milliseconds, hed_event *event) {
   uint64_t start = hed_terminal_now();
   enum hed_terminal_event came = HED_TERMINAL_INPUT;
+  hed_status answer;
+  if (!terminal->has_told) hed_parser_set_parts(parser, HED_TERMINAL_PASTE_MOST);
   if (!terminal->has_told) terminal->has_told = hed_terminal_tell_settings(terminal, parser);
-  if (terminal->was_away) forget(terminal, parser);
-  uint32_t answer = take(terminal, parser, event);
-  while (answer == HED_NEXT_NONE && came == HED_TERMINAL_INPUT) {
-    if (terminal->has_ended) return HED_TERMINAL_ENDED;
+  while ((answer = tell(terminal, parser, event)) == HED_NONE && came == HED_TERMINAL_INPUT) {
+    if (terminal->has_ended) return ended(terminal);
     if (fflush(stdout) != 0) return failed(terminal, "the output can't be written");
-    came = hed_terminal_wait(terminal, wait_ms(terminal, parser, start, milliseconds));
-    if (came == HED_TERMINAL_INPUT && !read_more(terminal)) return HED_TERMINAL_FAILED;
-    if (came == HED_TERMINAL_INPUT) answer = take(terminal, parser, event);
-    if (came == HED_TERMINAL_NOTHING) answer = expire(terminal, parser, event);
-    if (came == HED_TERMINAL_RESUMED) forget(terminal, parser);
+    int left = milliseconds < 0 ? -1 : left_ms(start, (uint64_t)milliseconds, hed_terminal_now());
+    came = hed_terminal_wait(terminal, sooner(left, hed_terminal_timeout(terminal, parser)));
+    if (came == HED_TERMINAL_INPUT) read_more(terminal, parser);
+    if (came == HED_TERMINAL_NOTHING) look(terminal, parser);
   }
-  if (answer == HED_NEXT_EVENT) note_event(terminal, parser, event);
-  return answer == HED_NEXT_NONE ? came : told(terminal, answer);
+  if (answer == HED_OK) return HED_TERMINAL_EVENT;
+  return answer == HED_NONE ? came : failed(terminal, answer == HED_NO_MEMORY ? "out of memory" : "there is no parser");
 }
 
 bool hed_terminal_size(int output, unsigned *columns, unsigned *rows) {
   struct winsize size;
-  if (ioctl(output, TIOCGWINSZ, &size) != 0) return false;
+  if (ioctl(output, TIOCGWINSZ, &size) != 0 || size.ws_col == 0 || size.ws_row == 0) return false;
   *columns = size.ws_col;
   *rows = size.ws_row;
   return true;

@@ -1,22 +1,22 @@
-/* The terminal of a program that reads keys: raw mode, the signals that such a program needs, and a loop that reads events. A header and a file
+/* The terminal of a program that reads keys: raw mode, the signals that such a program needs, and events as they come. A header and a file
  * of C99 and POSIX beside the library, which itself reads no terminal. A program compiles the file with its own:
  *
  *     cc program.c $(pkg-config --variable=terminal hedrugal) $(pkg-config --cflags --libs hedrugal)
  *
- *     hed_extended parser = HED_EXTENDED_NONE;
- *     hed_extended_event event;
+ *     hed_parser parser = HED_PARSER_NONE;
+ *     hed_event event;
  *     hed_terminal terminal;
- *     if (!hed_extended_init(&parser, HED_DIALECT_EXTENDED)) ...
+ *     if (hed_parser_init(&parser, HED_DIALECT_EXTENDED)) ...                                         // no memory
  *     if (!hed_terminal_open(&terminal, 0, 1, HED_TERMINAL_PASTE_ON, HED_TERMINAL_PASTE_OFF)) ...     // terminal.failure says why
  *     for (bool goes_on = true; goes_on;)
  *       switch (hed_terminal_next(&terminal, &parser, -1, &event)) {
- *         case HED_TERMINAL_EVENT: ...                                                                // event, and hed_extended_text
+ *         case HED_TERMINAL_EVENT: ...                                                                // event, and hed_parser_text
  *         case HED_TERMINAL_RESIZED: case HED_TERMINAL_RESUMED: ...                                   // hed_terminal_size, and draw all anew
  *         case HED_TERMINAL_NOTHING: break;
  *         default: goes_on = false;
  *       }
  *     hed_terminal_close(&terminal);
- *     hed_extended_free(&parser);
+ *     hed_parser_free(&parser);
  *     hed_terminal_end();                                                                             // by the signal, if one came
  *
  * The same program reads every terminal: it needn't ask which keyboard protocol one speaks, and may turn Kitty's on or not. Which byte Backspace
@@ -37,8 +37,8 @@
  * signals, SIGCONT, SIGWINCH and SIGALRM are handled here. Those that the program ignores stay ignored, and of those of the third case the ones
  * that it handles itself stay its own. It calls no alarm. Its calls of the system go on after these signals (SA_RESTART), but for a poll of its
  * own. The texts that switch modes are written whole, also if the descriptor doesn't block (O_NONBLOCK); the program's stdout then loses what
- * the terminal doesn't take at once. Whether a descriptor blocks is restored with the settings. In a forked child these calls do nothing, and
- * signals do what they do by default. Handlers have a stack of their own, unless the program has set one (sigaltstack).
+ * the terminal doesn't take at once. Whether a descriptor blocks is restored with the settings. In a forked child these calls change nothing of
+ * the terminal, and signals do what they do by default. Handlers have a stack of their own, unless the program has set one (sigaltstack).
  *
  * What was typed ahead is kept for the program, and in the end for the next one, which must not get replies or mouse reports. If replies to
  * hed_terminal_ask are still to come when the terminal is left, what comes is read and thrown away up to the last of them. If none are, but mouse
@@ -67,15 +67,16 @@ extern "C" {
   "\033[>" #flags "u" /* Kitty's keyboard protocol, as HED_TERMINAL_KITTY_ON(5): a sum of HED_KITTY_FLAG_.. */
 #define HED_TERMINAL_KITTY_OFF "\033[<u"
 
-/* The most bytes of a text that switches modes, and of the text of a paste that is buffered before its end; the most asks that are open. */
+/* The most bytes of a text that switches modes, and of the text of a paste before its end, as hed_parser_set_parts is given it; the most asks that
+ * are open. */
 enum { HED_TERMINAL_TEXT_MOST = 511, HED_TERMINAL_PASTE_MOST = 1 << 20, HED_TERMINAL_ASKS_MOST = 16 };
 
 typedef struct hed_terminal {
   const char *failure; /* why the last call failed, in words; errno is the system's number for it */
   int wake; /* readable once a signal came: for a loop of the program's own */
   int input, output; /* the rest is for these calls */
-  bool has_ended, was_away, is_cut, has_told;
-  uint64_t cut_since;
+  bool has_ended, was_away, has_told;
+  int error;
   size_t unfed;
   uint8_t bytes[4096];
 } hed_terminal;
@@ -113,19 +114,18 @@ void hed_terminal_end(void);
  * parser itself calls it, and so does one that makes another parser.
  *
  * Returns false if no terminal is open, or there is no parser: then nothing changed. */
-bool hed_terminal_tell_settings(hed_terminal *terminal, hed_extended *parser);
+bool hed_terminal_tell_settings(hed_terminal *terminal, hed_parser *parser);
 
-/* Waits for the next event, and writes it to *event. Reads the terminal, keeps the limits in time of the parser, takes a paste of more than
- * HED_TERMINAL_PASTE_MOST bytes in parts, and flushes the parser at the end of the input. What stdout holds is written first. The parser is one
- * that nothing else feeds.
+/* Waits for the next event, and writes it to *event. Reads the terminal, keeps the limits in time of the parser, and ends it at the end of the
+ * input. The first call has the parser tell a paste of more than HED_TERMINAL_PASTE_MOST bytes in parts. What stdout holds is written first. The
+ * parser is one that nothing else feeds.
  *
- * If another program had the terminal, the beginning of a sequence that was buffered before is forgotten, since its rest went there. A paste or
- * a string that was open stays open, as the rest of it would be typed otherwise. It ends where it is if nothing comes for a second: the paste as a
- * HED_KIND_PASTE, the string as a HED_KIND_STRING_CUT. After a stop by SIGSTOP alone, if the settings are as they were, nothing happened.
+ * If another program had the terminal, it calls hed_parser_interrupted once what came before is told. After a stop by SIGSTOP alone, if the
+ * settings are as they were, nothing happened.
  *
  * Returns HED_TERMINAL_EVENT, or what came before an event did: HED_TERMINAL_NOTHING after so many milliseconds, negative: never. With
  * HED_TERMINAL_FAILED no byte is lost, so that the call may be made again if memory was refused. */
-enum hed_terminal_event hed_terminal_next(hed_terminal *terminal, hed_extended *parser, int milliseconds, hed_extended_event *event);
+enum hed_terminal_event hed_terminal_next(hed_terminal *terminal, hed_parser *parser, int milliseconds, hed_event *event);
 
 /* Asks the terminal: writes what stdout holds, the questions, and DA1 (ESC [c), which nearly every terminal answers. Replies come in the order of
  * the questions. So a reply that hasn't come before that to DA1 won't come. Replies are events of hed_terminal_next, that to DA1 too. It counts the
@@ -135,18 +135,18 @@ enum hed_terminal_event hed_terminal_next(hed_terminal *terminal, hed_extended *
  * answers the next one, if there is one. When another program had the terminal, no ask is open any more.
  *
  * Returns false if no terminal is open, HED_TERMINAL_ASKS_MOST asks are open, or the terminal can't be written. */
-bool hed_terminal_ask(hed_terminal *terminal, hed_extended *parser, const char *questions);
+bool hed_terminal_ask(hed_terminal *terminal, hed_parser *parser, const char *questions);
 
 /* Returns how many asks are open. At 0 the last one is over. At 1 the replies that come next are its own, and at more those of an earlier one. */
 size_t hed_terminal_owed(const hed_terminal *terminal);
 
 /* Returns how many milliseconds a loop of the program's own may wait before it calls hed_terminal_next again, negative: for ever. It is what
- * hed_extended_timeout says, or less. */
-int hed_terminal_timeout(hed_terminal *terminal, hed_extended *parser);
+ * hed_parser_timeout says, or less. */
+int hed_terminal_timeout(hed_terminal *terminal, const hed_parser *parser);
 
 /* Waits until bytes can be read, a signal comes, or so many milliseconds have passed; negative: for ever. For a program that reads by itself.
  * SIGTSTP stops the program in this call. Signals go first. What stdout holds isn't written: the caller does that before. After
- * HED_TERMINAL_RESUMED the caller forgets what it has buffered, unless a paste or a string is open. */
+ * HED_TERMINAL_RESUMED the caller calls hed_parser_interrupted. */
 enum hed_terminal_event hed_terminal_wait(hed_terminal *terminal, int milliseconds);
 
 /* Reads what the terminal sent, at most room bytes, and writes their number to *count: 0 if there is nothing after all.
@@ -163,15 +163,15 @@ enum hed_terminal_event hed_terminal_heed(hed_terminal *terminal);
  * modes. Does nothing if it is lent. */
 void hed_terminal_lend(hed_terminal *terminal);
 
-/* Sets raw mode and the modes again, whatever that program left, also if it wasn't lent to it. hed_terminal_next forgets what was buffered before,
- * as after HED_TERMINAL_RESUMED. Returns false if that fails, as when the terminal is gone. */
+/* Sets raw mode and the modes again, whatever that program left, also if it wasn't lent to it. hed_terminal_next tells what came before, and then
+ * does as after HED_TERMINAL_RESUMED. Returns false if that fails, as when the terminal is gone. */
 bool hed_terminal_take_back(hed_terminal *terminal);
 
-/* Writes the size in characters of the terminal that this descriptor is of, such as 1. Returns false if it isn't known: then nothing is
- * written. */
+/* Writes the size in characters of the terminal that this descriptor is of, such as 1. Returns false if it isn't known, as on a serial line:
+ * then nothing is written. */
 bool hed_terminal_size(int output, unsigned *columns, unsigned *rows);
 
-/* Returns the time in milliseconds, by a clock that nobody sets: as the calls of a parser with limits in time are given it. */
+/* Returns the time in milliseconds, by a clock that nobody sets: as the calls of a parser are given it. */
 uint64_t hed_terminal_now(void);
 
 #ifdef __cplusplus

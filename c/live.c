@@ -13,7 +13,7 @@
 #include <string.h>
 
 typedef struct live {
-  hed_extended parser;
+  hed_parser parser;
   hed_terminal terminal;
   const char *failure; /* why the program ends, if nobody asked for it */
 } live;
@@ -29,29 +29,29 @@ static void print_size(void) {
   if (hed_terminal_size(1, &columns, &rows)) printf("size %u x %u\n", columns, rows);
 }
 
-static void print_held(bool has_shift, bool has_alt, bool has_ctrl) {
-  printf("%s%s%s\n", has_shift ? " shift" : "", has_alt ? " alt" : "", has_ctrl ? " ctrl" : "");
+static void print_key(const hed_event *event) {
+  char name[22] = "";
+  hed_key_name(event->key, (uint8_t *)name, sizeof name);
+  fputs(name, stdout);
+  if (event->key == HED_KEY_CHAR) printf(" U+%04X", (unsigned)event->detail);
+  if (event->key == HED_KEY_FUNCTION) printf(" %u", (unsigned)event->detail);
 }
 
-static void print_key(const hed_key_report *report) {
-  char name[32];
-  unsigned held = report->modifiers;
-  printf("%.*s", (int)hed_key_name(report->key, (uint8_t *)name, sizeof name), name);
-  if (report->key == HED_KEY_CHAR) printf(" U+%04X", (unsigned)report->detail);
-  if (report->key == HED_KEY_FUNCTION) printf(" %u", (unsigned)report->detail);
-  print_held(held & HED_KITTY_MOD_SHIFT, held & HED_KITTY_MOD_ALT, held & HED_KITTY_MOD_CTRL);
+static void print_held(unsigned held) {
+  printf("%s%s", held & HED_KITTY_MOD_SHIFT ? " shift" : "", held & HED_KITTY_MOD_ALT ? " alt" : "");
+  puts(held & HED_KITTY_MOD_CTRL ? " ctrl" : "");
 }
 
-static void print_mouse(const hed_mouse_report *report) {
-  unsigned held = report->modifiers;
-  printf("mouse at %u, %u, buttons %u", report->x, report->y, report->buttons);
-  print_held(held & HED_TERMWIZ_MOD_SHIFT, held & HED_TERMWIZ_MOD_ALT, held & HED_TERMWIZ_MOD_CTRL);
-}
-
-static void print_event(const hed_extended_event *event) {
+static void print_event(const hed_event *event) {
   switch (event->kind) {
-    case HED_KIND_KEY: print_key(&event->report); break;
-    case HED_KIND_MOUSE: print_mouse(&event->mouse); break;
+    case HED_KIND_KEY:
+      print_key(event);
+      print_held(event->modifiers);
+      break;
+    case HED_KIND_MOUSE:
+      printf("mouse at %u, %u, buttons %u", event->x, event->y, event->buttons);
+      print_held(event->modifiers);
+      break;
     case HED_KIND_PASTE: printf("paste of %zu bytes\n", event->text_len); break;
     case HED_KIND_PASTE_PART: printf("part of a paste, %zu bytes\n", event->text_len); break;
     default: printf("an event of kind %u\n", event->kind); /* such as a reply to a question that another program asked */
@@ -59,14 +59,14 @@ static void print_event(const hed_extended_event *event) {
 }
 
 /* Returns false once q was pressed. */
-static bool handle_event(live *it, const hed_extended_event *event) {
-  if (event->text_len > 0) hed_extended_drop_text(&it->parser); /* hed_extended_text would copy the text before */
+static bool handle_event(live *it, const hed_event *event) {
+  hed_parser_drop_text(&it->parser); /* hed_parser_text would copy the text before */
   print_event(event);
-  return event->report.key != HED_KEY_CHAR || event->report.detail != 'q' || event->report.modifiers != HED_KITTY_MOD_NONE;
+  return event->key != HED_KEY_CHAR || event->detail != 'q' || event->modifiers != HED_KITTY_MOD_NONE;
 }
 
 static bool step(live *it) {
-  hed_extended_event event;
+  hed_event event;
   switch (hed_terminal_next(&it->terminal, &it->parser, -1, &event)) {
     case HED_TERMINAL_EVENT: return handle_event(it, &event);
     case HED_TERMINAL_RESUMED:
@@ -90,15 +90,15 @@ static void run_on_terminal(live *it, bool mouse) {
 }
 
 int main(int argc, char **argv) {
-  live it = { .parser = HED_EXTENDED_NONE };
+  live it = { .parser = HED_PARSER_NONE };
   bool mouse = argc == 2 && strcmp(argv[1], "--mouse") == 0;
   if (argc > 1 && !mouse) {
     fputs("usage: live [--mouse]\n", stderr);
     return 2;
   }
-  if (hed_extended_init(&it.parser, HED_DIALECT_EXTENDED)) run_on_terminal(&it, mouse);
+  if (hed_parser_init(&it.parser, HED_DIALECT_EXTENDED) == HED_OK) run_on_terminal(&it, mouse);
   else fail(&it, "out of memory");
-  hed_extended_free(&it.parser);
+  hed_parser_free(&it.parser);
   hed_terminal_end();
   if (it.failure) fprintf(stderr, "live: %s\n", it.failure);
   return it.failure ? 1 : 0;

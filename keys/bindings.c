@@ -1,6 +1,7 @@
 #define _POSIX_C_SOURCE 200809L
 #include "bindings.h"
-#include "names.h"
+#include "name_errors.h"
+#include "text.h"
 #include <errno.h>
 #include <stdio.h>
 #include <stdlib.h>
@@ -39,15 +40,17 @@ static void tell(source *at, size_t place, const char *what) {
 /* Returns false if memory is refused. */
 static bool bind(bindings *it, const char *command, size_t length, const hed_key_press *keys, size_t count) {
   char chord[HED_CHORD_MOST * PRESS_SIZE];
-  if (!print_chord(chord, sizeof chord, keys, count)) return false;
-  binding *added = malloc(sizeof *added + length + strlen(chord) + 2);
+  size_t chord_length;
+  if (hed_key_print(keys, count, (uint8_t *)chord, sizeof chord - 1, &chord_length) != HED_OK) return false;
+  chord[chord_length] = '\0';
+  binding *added = malloc(sizeof *added + length + chord_length + 2);
   if (!added) return false;
   memcpy(added->command, command, length);
   added->command[length] = '\0';
   added->chord = strcpy(added->command + length + 1, chord);
   uint64_t before;
-  bool is_bound = hed_bindings_lookup(&it->chords, keys, count, &before) == HED_BOUND_VALUE;
-  bool has_memory = hed_bindings_bind(&it->chords, keys, count, (uintptr_t)added) == HED_BOUND_VALUE;
+  bool is_bound = hed_bindings_lookup(&it->chords, keys, count, &before) == HED_OK;
+  bool has_memory = hed_bindings_bind(&it->chords, keys, count, (uintptr_t)added) == HED_OK;
   if (!has_memory) free(added);
   else if (is_bound) free(binding_of(before));
   return has_memory;
@@ -57,9 +60,9 @@ static bool bind(bindings *it, const char *command, size_t length, const hed_key
 static bool bind_named(bindings *it, source *at, const char *command, size_t length, size_t name) {
   hed_key_press keys[HED_CHORD_MOST];
   size_t count, wrong;
-  uint32_t named = hed_key_read((const uint8_t *)at->text + name, at->length - name, keys, HED_CHORD_MOST, &count, &wrong);
-  if (named == HED_NAMED_KEYS) return bind(it, command, length, keys, count);
-  tell(at, name + wrong, key_error(named));
+  hed_status named = hed_key_read((const uint8_t *)at->text + name, at->length - name, keys, HED_CHORD_MOST, &count, &wrong);
+  if (named == HED_OK) return bind(it, command, length, keys, count);
+  tell(at, name + wrong, name_errors[named]);
   return true;
 }
 
@@ -78,7 +81,7 @@ static bool read_line(bindings *it, source *at) {
 
 /* Reads the lines of a text, of which the last may have no end. */
 static bool read_lines(bindings *it, source *at, char *text, size_t length) {
-  bool has_memory = hed_bindings_init(&it->chords);
+  bool has_memory = hed_bindings_init(&it->chords) == HED_OK;
   for (char *end = text + length; has_memory && text < end; text += at->length + 1) {
     char *newline = memchr(text, '\n', (size_t)(end - text));
     at->number++;
@@ -124,21 +127,19 @@ static void note(bindings *it, uint64_t now) {
   it->seen = (hed_seen){ .by = HED_AGE_LAST };
 }
 
-uint32_t bindings_next(bindings *it, bool more, uint64_t now, outcome *decided) {
+hed_status bindings_next(bindings *it, bool more, uint64_t now, outcome *decided) {
   hed_outcome found;
-  uint32_t kind = hed_matcher_next(&it->matcher, &it->chords, more, &found);
+  size_t length;
   memset(decided, 0, sizeof *decided);
-  if (kind == HED_OUTCOME_BOUND) {
-    decided->command = binding_of(found.value)->command;
-    decided->chord = binding_of(found.value)->chord;
-  } else if (kind != HED_OUTCOME_UNBOUND) {
+  if (hed_matcher_next(&it->matcher, &it->chords, more, &found) != HED_OK) {
     note(it, now);
-    return HED_NEXT_NONE;
-  } else if (!print_chord(decided->press, PRESS_SIZE, &found.press, 1)) {
-    return HED_NEXT_NO_MEMORY;
+    return HED_NONE;
   }
   it->seen.taken = true;
-  return HED_NEXT_EVENT;
+  if (found.kind == HED_OUTCOME_UNBOUND) return hed_press_print(&found.press, (uint8_t *)decided->press, PRESS_SIZE, &length);
+  decided->command = binding_of(found.value)->command;
+  decided->chord = binding_of(found.value)->chord;
+  return HED_OK;
 }
 
 int32_t bindings_timeout(const bindings *it, uint64_t now) {
@@ -157,7 +158,7 @@ void bindings_forget(bindings *it) {
 
 bool bindings_following(const bindings *it, size_t *first, size_t *end) {
   const hed_matcher *matcher = &it->matcher;
-  return bindings_is_pending(it) && hed_bindings_continuations(&it->chords, matcher->keys, matcher->count, first, end) == HED_BOUND_VALUE;
+  return bindings_is_pending(it) && hed_bindings_continuations(&it->chords, matcher->keys, matcher->count, first, end) == HED_OK;
 }
 
 /* A chord's name behind so many keys, of which it has more. */
@@ -170,7 +171,7 @@ static const char *behind(const char *chord, size_t keys) {
 static binding *binding_at(const bindings *it, size_t place) {
   size_t count;
   uint64_t value;
-  return hed_bindings_entry(&it->chords, place, NULL, 0, &count, &value) == HED_BOUND_VALUE ? binding_of(value) : NULL;
+  return hed_bindings_entry(&it->chords, place, NULL, 0, &count, &value) == HED_OK ? binding_of(value) : NULL;
 }
 
 continuation bindings_at(const bindings *it, size_t place) {

@@ -34,9 +34,9 @@ bindings_answer bindings_read(bindings *it, const char *file);
 /* Takes the press of a key, and behind it its second press if there is one. */
 void bindings_press(bindings *it, const hed_key_press *presses, size_t count);
 
-/* Tells what the first of the pending presses do, as hed_matcher_next. Returns HED_NEXT_EVENT with an outcome, HED_NEXT_NONE or
- * HED_NEXT_NO_MEMORY. After each press the caller calls it until there is none: then the pause begins. */
-uint32_t bindings_next(bindings *it, bool more, uint64_t now, outcome *decided);
+/* Tells what the first of the pending presses do, as hed_matcher_next. Returns HED_OK with an outcome, HED_NONE or HED_NO_MEMORY. After
+ * each press the caller calls it until there is none: then the pause begins. */
+hed_status bindings_next(bindings *it, bool more, uint64_t now, outcome *decided);
 
 /* How long the pending presses may still wait for a key, in milliseconds: -1 if nothing is pending. */
 int32_t bindings_timeout(const bindings *it, uint64_t now);

@@ -45,13 +45,13 @@ static void put_field(const char *before, const char *name, const char *value) {
 }
 
 /* The bytes that the event brought: a text, or those of a sequence in hexadecimal. */
-static bool put_brought(const group *its, const reader *reader) {
+static bool put_brought(const group *its, const hed_parser *parser) {
   size_t length = its->event.text_len;
   uint8_t kind = its->event.kind;
   bool is_text = kind == HED_KIND_PASTE || kind == HED_KIND_PASTE_PART || kind == HED_KIND_KEY;
   uint8_t *brought = malloc(length + 1);
   if (!brought) return false;
-  reader_text(reader, brought, length);
+  hed_parser_text(parser, brought, length);
   fprintf(output, ",\"length\":%zu,\"%s\":\"", length, is_text ? "text" : "data");
   if (is_text) put_text((const char *)brought, length);
   else put_hex(brought, length);
@@ -64,36 +64,35 @@ static void put_code(const char *name, uint32_t code) {
   if (code != HED_NO_CODE) fprintf(output, ",\"%s\":%u", name, (unsigned)code);
 }
 
-/* Every key of the usual parser was pressed, so that isn't told. */
-static void put_key(const hed_key_report *report, bool has_action) {
+static void put_key(const hed_event *event) {
   text name = { .length = 0 };
-  add_key(&name, report->key, report->detail);
+  add_key(&name, event->key, event->detail);
   fprintf(output, ",\"key\":\"%s\"", name.bytes);
-  put_flags("modifiers", kitty_modifier_flags, report->modifiers);
-  if (has_action) fprintf(output, ",\"action\":\"%s\"", key_event_kind_name(report->kind));
-  put_code("shifted", report->shifted);
-  put_code("base", report->base);
+  put_flags("modifiers", modifier_flags, event->modifiers);
+  if (event->key_event_kind != 0) fprintf(output, ",\"action\":\"%s\"", key_event_kind_name(event->key_event_kind));
+  put_code("shifted", event->shifted);
+  put_code("base", event->base);
 }
 
-static void put_mouse(const hed_mouse_report *report) {
-  fprintf(output, ",\"x\":%u,\"y\":%u", report->x, report->y);
-  put_flags("buttons", button_flags, report->buttons);
-  put_flags("modifiers", modifier_flags, report->modifiers);
-  if (report->kind != 0) fprintf(output, ",\"action\":\"%s\"", mouse_kind_name(report->kind));
-  if (report->button != 0) fprintf(output, ",\"button\":%u", report->button);
+static void put_mouse(const hed_event *event) {
+  fprintf(output, ",\"x\":%u,\"y\":%u", event->x, event->y);
+  put_flags("buttons", button_flags, event->buttons);
+  put_flags("modifiers", modifier_flags, event->modifiers);
+  if (event->mouse_kind != 0) fprintf(output, ",\"action\":\"%s\"", mouse_kind_name(event->mouse_kind));
+  if (event->button != 0) fprintf(output, ",\"button\":%u", event->button);
 }
 
-static void put_size(const hed_extended_event *event) {
+static void put_size(const hed_event *event) {
   fprintf(output, ",\"rows\":%u,\"columns\":%u,\"height\":%u,\"width\":%u", event->rows, event->columns, event->height, event->width);
 }
 
 /* The fields of an event, but for the bytes that it brought. */
-static void put_fields(const hed_extended_event *event, const reader *reader) {
+static void put_fields(const hed_event *event) {
   const char *whole = whole_name(event);
   if (whole) fprintf(output, ",\"of\":\"%s\"", whole);
   switch (event->kind) {
-    case HED_KIND_KEY: put_key(&event->report, reader->is_extended); break;
-    case HED_KIND_MOUSE: put_mouse(&event->mouse); break;
+    case HED_KIND_KEY: put_key(event); break;
+    case HED_KIND_MOUSE: put_mouse(event); break;
     case HED_KIND_FOCUS_GAINED: fprintf(output, ",\"gained\":true"); break;
     case HED_KIND_FOCUS_LOST: fprintf(output, ",\"gained\":false"); break;
     case HED_KIND_CURSOR_POSITION: fprintf(output, ",\"row\":%u,\"column\":%u", event->row, event->column); break;
@@ -104,7 +103,7 @@ static void put_fields(const hed_extended_event *event, const reader *reader) {
 }
 
 /* Whether the bytes of an event are told, if only none. */
-static bool brings_bytes(const hed_extended_event *event) {
+static bool brings_bytes(const hed_event *event) {
   return event->kind == HED_KIND_PASTE || event->kind >= HED_KIND_CSI || event->text_len > 0;
 }
 
@@ -146,10 +145,10 @@ static void put_pending(const bindings *bound) {
   putc(']', output);
 }
 
-bool json_event(const line *of, const group *its, const reader *reader, const bindings *bound) {
+bool json_event(const line *of, const group *its, const hed_parser *parser, const bindings *bound) {
   begin_object(of, its->start, its->length, kind_name(its->event.kind));
-  put_fields(&its->event, reader);
-  bool has_memory = !brings_bytes(&its->event) || put_brought(its, reader);
+  put_fields(&its->event);
+  bool has_memory = !brings_bytes(&its->event) || put_brought(its, parser);
   put_presses(its);
   put_outcomes(of, its->first_outcome);
   if (its->press_count > 0) put_pending(bound);

@@ -4,11 +4,10 @@
 
 #include "bindings.h"
 #include "line.h"
-#include "reader.h"
 
 /* Writes the object of a group's event, with the outcomes from its first one on, and the chords that may follow. The bytes that it brought
- * are the reader's. Returns false if memory is refused. */
-bool json_event(const line *of, const group *its, const reader *reader, const bindings *bound);
+ * are the parser's. Returns false if memory is refused. */
+bool json_event(const line *of, const group *its, const hed_parser *parser, const bindings *bound);
 
 /* Writes the object of a pause: the outcomes from a place on. */
 void json_pause(const line *of, size_t first);

@@ -31,18 +31,18 @@ bool line_begin(line *it, const uint8_t *bytes, size_t length) {
 
 /* How many of the bytes that are buffered after an event belong to a group. ESC and the byte after it aren't among those that the part of a
  * string brings. */
-static size_t kept_of(const line *it, const hed_extended_event *event, size_t waiting, size_t paste_start) {
-  if (event->kind == HED_KIND_PASTE_PART) return paste_start;
+static size_t kept_of(const line *it, const hed_event *event, size_t waiting) {
+  if (event->kind == HED_KIND_PASTE_PART) return PASTE_START;
   return event->kind == HED_KIND_STRING_PART ? event->text_len + 2 + waiting - it->kept - line_waiting(it) : 0;
 }
 
-group *line_settle(line *it, const hed_extended_event *event, size_t waiting, size_t paste_start) {
+group *line_settle(line *it, const hed_event *event, size_t waiting) {
   group *groups = reserve(it->groups, &it->group_room, it->group_count + 1, sizeof *groups);
   if (!groups) return NULL;
   it->groups = groups;
   group *added = &it->groups[it->group_count++];
   memset(added, 0, sizeof *added);
-  it->kept = kept_of(it, event, waiting, paste_start);
+  it->kept = kept_of(it, event, waiting);
   added->start = it->settled;
   added->length = line_waiting(it) + it->kept - waiting;
   added->event = *event;

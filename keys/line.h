@@ -5,12 +5,13 @@
 
 #include "hedrugal.h"
 
-/* An event has at most two presses. PRESS_SIZE is room for the name of one, with all modifiers and a final 0. */
-enum { TEXT_SHOWN = 16, PRESSES_MOST = 2, PRESS_SIZE = 64 };
+/* An event has at most two presses. PRESS_SIZE is room for the name of one, with all modifiers and a final 0. A paste starts with
+ * PASTE_START bytes. */
+enum { TEXT_SHOWN = 16, PRESSES_MOST = 2, PRESS_SIZE = 64, PASTE_START = 6 };
 
 typedef struct group {
   size_t start, length; /* its bytes, among the line's */
-  hed_extended_event event;
+  hed_event event;
   uint8_t text[TEXT_SHOWN]; /* how the bytes begin that the event brought */
   char presses[PRESSES_MOST][PRESS_SIZE]; /* the names of its press and of its second press */
   size_t press_count;
@@ -41,9 +42,8 @@ typedef struct line {
  * unchanged. */
 bool line_begin(line *it, const uint8_t *bytes, size_t length);
 
-/* Adds the group of an event, which consumed all bytes but those that are still buffered. A paste starts with paste_start bytes. Returns
- * NULL if memory is refused. */
-group *line_settle(line *it, const hed_extended_event *event, size_t waiting, size_t paste_start);
+/* Adds the group of an event, which consumed all bytes but those that are still buffered. Returns NULL if memory is refused. */
+group *line_settle(line *it, const hed_event *event, size_t waiting);
 
 /* Adds an outcome. Returns false if memory is refused. */
 bool line_decide(line *it, const outcome *decided);

@@ -9,7 +9,6 @@
 #include "names.h"
 #include "options.h"
 #include "output.h"
-#include "reader.h"
 #include "screen.h"
 #include "waiting.h"
 #include <errno.h>
@@ -20,7 +19,7 @@
 #include <string.h>
 #include <unistd.h>
 
-enum { READ_SIZE = 4096, PASTE_LIMIT = 1 << 20 };
+enum { READ_SIZE = 4096 };
 
 typedef struct keys {
   options options;
@@ -28,8 +27,9 @@ typedef struct keys {
   text enter, leave; /* which switch the modes on and off */
   screen screen;
   line line;
-  reader reader;
+  hed_parser parser;
   bindings bindings;
+  uint64_t now; /* when the input was looked at last */
   int input;
   bool is_live; /* whether the input is a terminal, where pauses count */
   bool was_end; /* whether the last event was ^D */
@@ -53,16 +53,15 @@ static bool flush_output(keys *it) {
 }
 
 /* Whether a key is a modifier key or was not pressed, so that it may come between two presses of ^D. */
-static bool is_no_press(const hed_key_report *report) {
-  bool is_modifier = report->key >= HED_KEY_SHIFT && report->key <= HED_KEY_RIGHT_ALT && report->key != HED_KEY_ESCAPE;
-  return is_modifier || report->kind != HED_KEY_EVENT_KIND_PRESS;
+static bool is_no_press(const hed_event *event) {
+  bool is_modifier = event->key >= HED_KEY_SHIFT && event->key <= HED_KEY_RIGHT_ALT && event->key != HED_KEY_ESCAPE;
+  return is_modifier || event->key_event_kind != HED_KEY_EVENT_KIND_PRESS;
 }
 
-static void note_end(keys *it, const hed_extended_event *event) {
-  const hed_key_report *report = &event->report;
-  unsigned held = report->modifiers & ~(unsigned)(HED_KITTY_MOD_CAPS_LOCK | HED_KITTY_MOD_NUM_LOCK);
-  if (event->kind == HED_KIND_KEY && is_no_press(report)) return;
-  bool is_end = event->kind == HED_KIND_KEY && report->key == HED_KEY_CHAR && report->detail == 'd' && held == HED_KITTY_MOD_CTRL;
+static void note_end(keys *it, const hed_event *event) {
+  unsigned held = event->modifiers & ~(unsigned)(HED_KITTY_MOD_CAPS_LOCK | HED_KITTY_MOD_NUM_LOCK);
+  if (event->kind == HED_KIND_KEY && is_no_press(event)) return;
+  bool is_end = event->kind == HED_KIND_KEY && event->key == HED_KEY_CHAR && event->detail == 'd' && held == HED_KITTY_MOD_CTRL;
   if (is_end && it->was_end && it->is_live) it->is_over = true;
   it->was_end = is_end;
 }
@@ -70,10 +69,10 @@ static void note_end(keys *it, const hed_extended_event *event) {
 /* Adds what the pending presses did to the line, as far as it is decided. */
 static bool decide(keys *it, bool more) {
   outcome decided;
-  uint32_t next;
-  while ((next = bindings_next(&it->bindings, more, hed_terminal_now(), &decided)) == HED_NEXT_EVENT)
+  hed_status next;
+  while ((next = bindings_next(&it->bindings, more, it->now, &decided)) == HED_OK)
     if (!line_decide(&it->line, &decided)) return fail(it, no_memory, 0);
-  return next == HED_NEXT_NONE || fail(it, no_memory, 0);
+  return next == HED_NONE || fail(it, no_memory, 0);
 }
 
 /* Gives up waiting for keys that may follow. */
@@ -85,52 +84,46 @@ static bool give_up(keys *it) {
   return true;
 }
 
-/* Whether an event brings a text, which comes behind what is pending: a paste, or several characters that a key types. Its report has a press
- * with one character. */
-static bool is_text(const group *of) {
-  const hed_extended_event *event = &of->event;
+/* Whether an event without a press brings a text, which comes behind what is pending: a paste, or several characters that a key types. Such a key
+ * has a press with one character. */
+static bool is_text(const hed_event *event) {
   hed_key_press press;
-  if (of->press_count > 0 || event->text_len == 0) return false;
-  if (event->kind == HED_KIND_KEY) return hed_key_of_report(&event->report, (const uint8_t *)"a", 1, &press);
+  if (event->text_len == 0) return false;
+  if (event->kind == HED_KIND_KEY) return hed_event_press(event, HED_TEXT("a"), &press) == HED_OK;
   return event->kind == HED_KIND_PASTE || event->kind == HED_KIND_PASTE_PART;
 }
 
 /* Names an event's presses, and reads them by the bindings. */
-static bool handle_presses(keys *it, group *of) {
+static bool handle_presses(keys *it, const hed_event *event, group *of) {
   hed_key_press presses[PRESSES_MOST];
-  of->press_count = reader_presses(&it->reader, &of->event, presses);
+  size_t length;
+  if (hed_parser_press(&it->parser, event, &presses[0]) != HED_OK) return decide(it, !is_text(event));
+  of->press_count = hed_parser_second(&it->parser, event, &presses[1]) == HED_OK ? 2 : 1;
   for (size_t i = 0; i < of->press_count; i++)
-    if (!print_chord(of->presses[i], PRESS_SIZE, &presses[i], 1)) return fail(it, no_memory, 0);
-  if (of->press_count > 0) bindings_press(&it->bindings, presses, of->press_count);
-  return decide(it, !is_text(of));
+    if (hed_press_print(&presses[i], (uint8_t *)of->presses[i], PRESS_SIZE, &length) != HED_OK) return fail(it, no_memory, 0);
+  bindings_press(&it->bindings, presses, of->press_count);
+  return decide(it, true);
 }
 
-/* Adds the event's group to the line. */
-static bool handle_event(keys *it, const hed_extended_event *event) {
-  group *added = line_settle(&it->line, event, reader_waiting(&it->reader), it->reader.paste_start);
+/* Adds the event's group to the line. Termwiz doesn't tell what happened to a key or to the mouse. */
+static bool handle_event(keys *it, const hed_event *event) {
+  group *added = line_settle(&it->line, event, hed_parser_waiting_len(&it->parser));
   if (!added) return fail(it, no_memory, 0);
-  if (event->text_len > 0) reader_text(&it->reader, added->text, sizeof added->text);
-  if (!handle_presses(it, added)) return false;
-  if (it->options.is_json && !json_event(&it->line, added, &it->reader, &it->bindings)) return fail(it, no_memory, 0);
-  if (event->text_len > 0) reader_drop_text(&it->reader);
+  if (!it->options.is_extended) added->event.key_event_kind = added->event.mouse_kind = added->event.button = 0;
+  hed_parser_text(&it->parser, added->text, sizeof added->text);
+  if (!handle_presses(it, event, added)) return false;
+  if (it->options.is_json && !json_event(&it->line, added, &it->parser, &it->bindings)) return fail(it, no_memory, 0);
+  hed_parser_drop_text(&it->parser);
   note_end(it, event);
   return true;
 }
 
-static bool handle_events(keys *it, bool more) {
-  hed_extended_event event;
-  uint32_t next;
-  while ((next = reader_next(&it->reader, more, &event)) == HED_NEXT_EVENT)
+static bool handle_events(keys *it) {
+  hed_event event;
+  hed_status next;
+  while ((next = hed_parser_next(&it->parser, &event)) == HED_OK)
     if (!handle_event(it, &event)) return false;
-  return next == HED_NEXT_NONE || fail(it, no_memory, 0);
-}
-
-/* The part of a long paste is an event too, so that no paste needs much memory. */
-static bool take_paste(keys *it) {
-  hed_extended_event event;
-  uint32_t taken = reader_take_paste(&it->reader, PASTE_LIMIT, &event);
-  if (taken == HED_NEXT_EVENT) return handle_event(it, &event);
-  return taken == HED_NEXT_NONE || fail(it, no_memory, 0);
+  return next == HED_NONE || fail(it, no_memory, 0);
 }
 
 static void draw(keys *it, const reasons *why) {
@@ -144,15 +137,15 @@ static void draw_undecided(keys *it, const text *reason) {
 
 /* Whether bytes are buffered or presses pending. */
 static bool is_undecided(const keys *it) {
-  return reader_waiting(&it->reader) > 0 || bindings_is_pending(&it->bindings);
+  return hed_parser_waiting_len(&it->parser) > 0 || bindings_is_pending(&it->bindings);
 }
 
 /* Shows the line with what is undecided. Without pauses the next read decides that, so the line is shown then. */
 static void show(keys *it) {
   reasons why = { .lists_keys = true };
   if (!it->is_live && is_undecided(it)) return;
-  add_waiting(&why.bytes, &it->reader, &it->line);
-  if (it->is_live) add_waiting_for(&why.bytes, &it->reader, hed_terminal_now());
+  add_waiting(&why.bytes, &it->parser, &it->line);
+  if (it->is_live) add_waiting_for(&why.bytes, &it->parser, it->now);
   if (it->is_live) add_pending(&why.presses);
   draw(it, &why);
 }
@@ -166,9 +159,10 @@ static void leave_line(keys *it) {
 }
 
 static bool handle_bytes(keys *it, const uint8_t *bytes, size_t length) {
+  it->now = hed_terminal_now();
   leave_line(it);
-  if (!line_begin(&it->line, bytes, length) || !reader_feed(&it->reader, bytes, length)) return fail(it, no_memory, 0);
-  bool goes_on = handle_events(it, true) && take_paste(it);
+  if (!line_begin(&it->line, bytes, length) || hed_parser_feed(&it->parser, it->now, bytes, length)) return fail(it, no_memory, 0);
+  bool goes_on = handle_events(it);
   show(it);
   return goes_on && !it->is_over;
 }
@@ -188,14 +182,26 @@ static bool handle_input(keys *it) {
   return count > 0 && handle_bytes(it, bytes, (size_t)count);
 }
 
-/* Does nothing before what is buffered or pending has waited as long as it may. */
+/* How long nothing has to come until something is decided: -1 if a pause decides nothing. */
+static int32_t timeout(keys *it) {
+  it->now = hed_terminal_now();
+  int32_t bytes = hed_parser_timeout(&it->parser, it->now);
+  int32_t presses = bindings_timeout(&it->bindings, it->now);
+  if (bytes < 0 || presses < 0) return bytes < 0 ? presses : bytes;
+  return bytes < presses ? bytes : presses;
+}
+
+/* A look after the clock: bytes that are there may complete what is due. */
+static bool has_input(const keys *it) {
+  struct pollfd input = { .fd = it->input, .events = POLLIN };
+  return poll(&input, 1, 0) != 0;
+}
+
+/* A signal may end the wait before what is buffered or pending has waited as long as it may. */
 static bool handle_pause(keys *it) {
-  hed_extended_event event;
-  uint32_t next;
-  while ((next = reader_expire(&it->reader, hed_terminal_now(), &event)) == HED_NEXT_EVENT)
-    if (!handle_event(it, &event)) return false;
-  if (next != HED_NEXT_NONE) return fail(it, no_memory, 0);
-  if (bindings_timeout(&it->bindings, hed_terminal_now()) == 0 && !give_up(it)) return false;
+  if (timeout(it) != 0 || has_input(it)) return true;
+  hed_parser_idle(&it->parser, it->now);
+  if (!handle_events(it) || (bindings_timeout(&it->bindings, it->now) == 0 && !give_up(it))) return false;
   show(it);
   return true;
 }
@@ -204,8 +210,9 @@ static bool handle_pause(keys *it) {
 static bool handle_end(keys *it) {
   text reason = { .length = 0 };
   if (!is_undecided(it)) return true;
-  if (!handle_events(it, false) || !give_up(it)) return false;
-  add_waiting(&reason, &it->reader, &it->line);
+  hed_parser_flush(&it->parser);
+  if (!handle_events(it) || !give_up(it)) return false;
+  add_waiting(&reason, &it->parser, &it->line);
   text_add(&reason, ": its end never came");
   draw_undecided(it, &reason);
   return true;
@@ -220,11 +227,14 @@ static void take_size(keys *it) {
 /* Forgets what is undecided, but for what is open: its rest may still come. */
 static void forget_waiting(keys *it) {
   reasons why = { .lists_keys = false };
-  bool was_undecided = is_undecided(it), stays = reader_interrupt(&it->reader);
+  bool was_undecided = is_undecided(it);
+  it->now = hed_terminal_now();
+  hed_parser_interrupted(&it->parser, it->now);
+  bool stays = hed_parser_waiting_len(&it->parser) > 0;
   text_add(&why.presses, "forgotten, since another program had the terminal");
   if (stays) {
-    add_waiting(&why.bytes, &it->reader, &it->line);
-    add_waiting_for(&why.bytes, &it->reader, hed_terminal_now());
+    add_waiting(&why.bytes, &it->parser, &it->line);
+    add_waiting_for(&why.bytes, &it->parser, it->now);
   } else {
     why.bytes = why.presses;
   }
@@ -233,18 +243,9 @@ static void forget_waiting(keys *it) {
   bindings_forget(&it->bindings);
 }
 
-/* How long nothing has to come until something is decided: -1 if a pause decides nothing. */
-static int32_t timeout(keys *it) {
-  uint64_t now = hed_terminal_now();
-  int32_t bytes = reader_timeout(&it->reader, now);
-  int32_t presses = bindings_timeout(&it->bindings, now);
-  if (bytes < 0 || presses < 0) return bytes < 0 ? presses : bytes;
-  return bytes < presses ? bytes : presses;
-}
-
 static bool wait_and_handle(keys *it) {
   switch (hed_terminal_wait(&it->terminal, timeout(it))) {
-    case HED_TERMINAL_NOTHING: return timeout(it) != 0 || handle_pause(it); /* a signal may end the wait earlier */
+    case HED_TERMINAL_NOTHING: return handle_pause(it);
     case HED_TERMINAL_INPUT: return handle_input(it);
     case HED_TERMINAL_RESUMED:
       take_size(it);
@@ -257,7 +258,7 @@ static bool wait_and_handle(keys *it) {
 }
 
 static void run(keys *it) {
-  bool goes_on = true;
+  bool goes_on = handle_events(it);
   while (goes_on && flush_output(it)) goes_on = it->is_live ? wait_and_handle(it) : handle_input(it);
 }
 
@@ -265,7 +266,7 @@ static void run(keys *it) {
 static void show_waiting(keys *it) {
   text reason = { .length = 0 };
   if (!it->options.is_json || line_waiting(&it->line) == 0) return;
-  add_waiting(&reason, &it->reader, &it->line);
+  add_waiting(&reason, &it->parser, &it->line);
   json_waiting(&it->line, reason.bytes);
 }
 
@@ -290,7 +291,7 @@ static bool start_live(keys *it) {
   if (output < 0) return fail(it, "the terminal can't be written", errno);
   join_modes(it);
   if (!hed_terminal_open(&it->terminal, 0, output, it->enter.bytes, it->leave.bytes)) return fail(it, it->terminal.failure, errno);
-  if (it->reader.is_extended) hed_terminal_tell_settings(&it->terminal, &it->reader.extended);
+  hed_terminal_tell_settings(&it->terminal, &it->parser);
   dprintf(output, "hedrugal-keys: press keys; ^D twice ends it.\n");
   return true;
 }
@@ -311,10 +312,17 @@ static bool read_bindings(keys *it) {
   }
 }
 
+/* A file or a pipe may have lines, which end with the byte 10. A long paste comes in parts, so that none needs much memory. */
+static bool init_parser(keys *it) {
+  hed_reading reading = { .dialect = it->options.is_extended ? HED_DIALECT_EXTENDED : HED_DIALECT_TERMWIZ, .newline = HED_NEWLINE_ENTER };
+  if (hed_parser_init(&it->parser, reading.dialect) != HED_OK) return fail(it, no_memory, 0);
+  hed_parser_set_reading(&it->parser, &reading);
+  hed_parser_set_parts(&it->parser, HED_TERMINAL_PASTE_MOST);
+  return true;
+}
+
 static bool start(keys *it) {
-  if (!read_bindings(it) || !open_input(it)) return false;
-  if (!reader_init(&it->reader, it->options.is_extended, it->is_live)) return fail(it, no_memory, 0);
-  return !it->is_live || start_live(it);
+  return read_bindings(it) && open_input(it) && init_parser(it) && (!it->is_live || start_live(it));
 }
 
 static void show_input(keys *it) {
@@ -326,7 +334,7 @@ static void show_input(keys *it) {
     finish(it);
   }
   hed_terminal_close(&it->terminal);
-  reader_free(&it->reader);
+  hed_parser_free(&it->parser);
   line_free(&it->line);
   bindings_free(&it->bindings);
 }

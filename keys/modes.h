@@ -10,7 +10,7 @@ enum { MODE_COUNT = 7 };
 typedef struct mode {
   const char *word; /* that asks for it */
   const char *on, *off;
-  bool wants_extended; /* whether the extended parser is to read the input */
+  bool wants_extended; /* whether HED_DIALECT_EXTENDED is to read the input */
 } mode;
 
 extern const mode all_modes[MODE_COUNT];

@@ -1,22 +1,4 @@
 #include "names.h"
-#include "name_errors.h"
-
-const flag modifier_flags[] = {
-  /* numbers.txt: termwiz_mod table */
-  { HED_TERMWIZ_MOD_SHIFT, "SHIFT", "Shift-" },
-  { HED_TERMWIZ_MOD_ALT, "ALT", "Alt-" },
-  { HED_TERMWIZ_MOD_CTRL, "CTRL", "Ctrl-" },
-  { HED_TERMWIZ_MOD_SUPER, "SUPER", "Super-" },
-  { HED_TERMWIZ_MOD_LEFT_ALT, "LEFT_ALT", "LeftAlt-" },
-  { HED_TERMWIZ_MOD_RIGHT_ALT, "RIGHT_ALT", "RightAlt-" },
-  { HED_TERMWIZ_MOD_LEADER, "LEADER", "Leader-" },
-  { HED_TERMWIZ_MOD_LEFT_CTRL, "LEFT_CTRL", "LeftCtrl-" },
-  { HED_TERMWIZ_MOD_RIGHT_CTRL, "RIGHT_CTRL", "RightCtrl-" },
-  { HED_TERMWIZ_MOD_LEFT_SHIFT, "LEFT_SHIFT", "LeftShift-" },
-  { HED_TERMWIZ_MOD_RIGHT_SHIFT, "RIGHT_SHIFT", "RightShift-" },
-  /* numbers.txt: end */
-  { 0, NULL, NULL },
-};
 
 const flag button_flags[] = {
   /* numbers.txt: button table */
@@ -30,7 +12,7 @@ const flag button_flags[] = {
   { 0, NULL, NULL },
 };
 
-const flag kitty_modifier_flags[] = {
+const flag modifier_flags[] = {
   /* numbers.txt: kitty_mod table */
   { HED_KITTY_MOD_SHIFT, "SHIFT", "Shift-" },
   { HED_KITTY_MOD_ALT, "ALT", "Alt-" },
@@ -58,10 +40,10 @@ const char *kind_name(uint8_t kind) {
   return names[kind];
 }
 
-const char *whole_name(const hed_extended_event *event) {
+const char *whole_name(const hed_event *event) {
   if (event->kind == HED_KIND_PASTE_PART) return kind_name(HED_KIND_PASTE);
   bool is_string = event->kind == HED_KIND_STRING_PART || event->kind == HED_KIND_STRING_CUT;
-  return is_string ? kind_name(event->flags) : NULL;
+  return is_string ? kind_name(event->string_kind) : NULL;
 }
 
 const char *key_event_kind_name(uint8_t kind) {
@@ -92,17 +74,6 @@ void add_key(text *out, uint16_t key, uint32_t detail) {
   else if (key == HED_KEY_FUNCTION) text_add(out, "F%u", (unsigned)detail);
   else if (length == 0) text_add(out, "functional %u", (unsigned)detail);
   else text_add(out, "%.*s", length, name);
-}
-
-bool print_chord(char *out, size_t size, const hed_key_press *keys, size_t count) {
-  size_t length;
-  if (hed_key_print(keys, count, (uint8_t *)out, size - 1, &length) != HED_PRINTED_NAME) return false;
-  out[length] = '\0';
-  return true;
-}
-
-const char *key_error(uint32_t named) {
-  return name_errors[named];
 }
 
 void add_flags(text *out, const flag *flags, unsigned set) {

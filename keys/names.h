@@ -11,19 +11,19 @@ typedef struct flag {
   const char *name, *prefix;
 } flag;
 
-/* All modifiers, all buttons and all modifiers of a key report. The last has no name. */
-extern const flag modifier_flags[], button_flags[], kitty_modifier_flags[];
+/* All modifiers and all buttons. The last has no name. */
+extern const flag modifier_flags[], button_flags[];
 
 /* The kind of an event in one word: key, mouse, paste, focus, cursor, resize, flags, csi, osc, dcs, apc, part or cut. */
 const char *kind_name(uint8_t kind);
 
 /* What a part or a cut is of: paste, osc, dcs or apc. NULL for an event of any other kind. */
-const char *whole_name(const hed_extended_event *event);
+const char *whole_name(const hed_event *event);
 
 /* What happened to a key: press, repeat or release. */
 const char *key_event_kind_name(uint8_t kind);
 
-/* What happened to the mouse: press, release, drag, move or wheel. NULL for 0, the kind of a report that the usual parser read. */
+/* What happened to the mouse: press, release, drag, move or wheel. */
 const char *mouse_kind_name(uint8_t kind);
 
 /* Appends a byte: printable ASCII as itself, ESC, SP for a space, ^A to ^_ and ^? for control characters, others in hexadecimal. With
@@ -32,13 +32,6 @@ void add_byte(text *out, uint8_t byte, bool is_hex);
 
 /* Appends a key: U+0061, F5, UpArrow. One without a name is its number in Kitty's table. */
 void add_key(text *out, uint16_t key, uint32_t detail);
-
-/* Writes the name of a chord, or of a press, and a final 0 to out, which has PRESS_SIZE bytes for each press. Returns false if memory is
- * refused. */
-bool print_chord(char *out, size_t size, const hed_key_press *keys, size_t count);
-
-/* What is wrong with the name of a chord, by what hed_key_read returned. */
-const char *key_error(uint32_t named);
 
 /* Appends the names of the flags that are in a set: SHIFT+ALT, or NONE. */
 void add_flags(text *out, const flag *flags, unsigned set);

@@ -8,7 +8,7 @@
 typedef struct options {
   bool is_hex, is_json;
   bool wants_help, wants_version;
-  bool is_extended; /* whether the extended parser reads the input */
+  bool is_extended; /* whether HED_DIALECT_EXTENDED reads the input, and not HED_DIALECT_TERMWIZ */
   bool modes[MODE_COUNT];
   bool has_file;
   const char *file; /* NULL if none is named, or the standard input is */

@@ -174,34 +174,34 @@ static void add_code(text *out, const char *name, uint32_t code) {
 }
 
 /* That a key was pressed isn't told. */
-static void add_report(text *out, const group *of) {
-  const hed_key_report *report = &of->event.report;
+static void add_key_event(text *out, const group *of) {
+  const hed_event *event = &of->event;
   text_add(out, "key ");
-  add_key(out, report->key, report->detail);
+  add_key(out, event->key, event->detail);
   text_add(out, " ");
-  add_flags(out, kitty_modifier_flags, report->modifiers);
-  if (report->kind != HED_KEY_EVENT_KIND_PRESS) text_add(out, " %s", key_event_kind_name(report->kind));
-  add_code(out, "shifted", report->shifted);
-  add_code(out, "base", report->base);
-  if (of->event.text_len > 0) add_text(out, " text", of);
+  add_flags(out, modifier_flags, event->modifiers);
+  if (event->key_event_kind > HED_KEY_EVENT_KIND_PRESS) text_add(out, " %s", key_event_kind_name(event->key_event_kind));
+  add_code(out, "shifted", event->shifted);
+  add_code(out, "base", event->base);
+  if (event->text_len > 0) add_text(out, " text", of);
 }
 
-static void add_mouse(text *out, const hed_mouse_report *report) {
-  text_add(out, "mouse %u %u ", report->x, report->y);
-  add_flags(out, button_flags, report->buttons);
+static void add_mouse(text *out, const hed_event *event) {
+  text_add(out, "mouse %u %u ", event->x, event->y);
+  add_flags(out, button_flags, event->buttons);
   text_add(out, " ");
-  add_flags(out, modifier_flags, report->modifiers);
-  if (report->kind != 0) text_add(out, " %s", mouse_kind_name(report->kind));
-  if (report->button != 0) text_add(out, " %u", report->button);
+  add_flags(out, modifier_flags, event->modifiers);
+  if (event->mouse_kind != 0) text_add(out, " %s", mouse_kind_name(event->mouse_kind));
+  if (event->button != 0) text_add(out, " %u", event->button);
 }
 
 static void add_event(text *out, const group *of) {
-  const hed_extended_event *event = &of->event;
+  const hed_event *event = &of->event;
   const char *whole = whole_name(event);
   if (whole) text_add(out, "%s ", whole);
   switch (event->kind) {
-    case HED_KIND_KEY: add_report(out, of); break;
-    case HED_KIND_MOUSE: add_mouse(out, &event->mouse); break;
+    case HED_KIND_KEY: add_key_event(out, of); break;
+    case HED_KIND_MOUSE: add_mouse(out, event); break;
     case HED_KIND_FOCUS_GAINED: text_add(out, "focus gained"); break;
     case HED_KIND_FOCUS_LOST: text_add(out, "focus lost"); break;
     case HED_KIND_CURSOR_POSITION: text_add(out, "cursor %u %u", event->row, event->column); break;

@@ -19,7 +19,7 @@ static bool is_character(const entry *it) {
 }
 
 static bool has_modifiers(const entry *it) {
-  return it->event.modifiers != HED_TERMWIZ_MOD_NONE;
+  return it->event.modifiers != HED_KITTY_MOD_NONE;
 }
 
 /* Named are first the keys that people know by their names, then those without modifiers, then those with the fewest bytes. */
@@ -61,7 +61,7 @@ static void find_named(named *it, const hed_parser *parser, const hed_entries *e
 
 static void add_listed_key(text *out, const hed_event *event, bool with_alt) {
   bool is_printable = event->key == HED_KEY_CHAR && event->detail > ' ' && event->detail < 0x7f;
-  add_prefixes(out, event->modifiers | (with_alt ? HED_TERMWIZ_MOD_ALT : HED_TERMWIZ_MOD_NONE));
+  add_prefixes(out, event->modifiers | (with_alt ? HED_KITTY_MOD_ALT : HED_KITTY_MOD_NONE));
   if (event->key == HED_KEY_INTERNAL_PASTE_START) text_add(out, "a paste");
   else if (is_printable) text_add(out, "%c", (char)event->detail);
   else add_key(out, event->key, event->detail);
@@ -78,8 +78,10 @@ static void add_keys(text *out, const hed_parser *parser, const hed_entries *ent
 }
 
 /* What bytes begin that begin no entry of the sequence table. */
-static const char *begun_by(const reader *reader, const uint8_t *waiting, size_t length) {
-  if (!reader->is_extended || length < 2) return "a mouse report";
+static const char *begun_by(const hed_parser *parser, const uint8_t *waiting, size_t length) {
+  hed_reading reading;
+  hed_parser_reading(parser, &reading);
+  if (reading.dialect == HED_DIALECT_TERMWIZ || length < 2) return "a mouse report";
   switch (waiting[waiting[1] == '\033' && length > 2 ? 2 : 1]) {
     case ']': return "a command (OSC)";
     case 'P': return "a device control string (DCS)";
@@ -89,24 +91,24 @@ static const char *begun_by(const reader *reader, const uint8_t *waiting, size_t
   }
 }
 
-static void add_sequence(text *out, reader *reader, const uint8_t *waiting, size_t length) {
+static void add_sequence(text *out, const hed_parser *parser, const uint8_t *waiting, size_t length) {
   hed_entries entries;
-  const hed_parser *table = reader_completions(reader, waiting, length, &entries);
+  hed_parser_completions(parser, &entries);
   if (entries.count == 0) {
-    text_add(out, "the beginning of %s", begun_by(reader, waiting, length));
+    text_add(out, "the beginning of %s", begun_by(parser, waiting, length));
     return;
   }
   text_add(out, "the beginning of %zu sequence%s: ", entries.count, entries.count == 1 ? "" : "s");
-  add_keys(out, table, &entries);
+  add_keys(out, parser, &entries);
 }
 
-void add_waiting(text *out, reader *reader, const line *shown) {
-  size_t length = reader_waiting(reader);
-  switch (reader_waiting_kind(reader)) {
+void add_waiting(text *out, const hed_parser *parser, const line *shown) {
+  size_t length = hed_parser_waiting_len(parser);
+  switch (hed_parser_waiting(parser)) {
     case HED_WAITING_ESCAPE: text_add(out, length == 1 ? "may begin a key" : "may begin a key with Alt"); break;
-    case HED_WAITING_SEQUENCE: add_sequence(out, reader, shown->bytes + shown->settled, length); break;
+    case HED_WAITING_SEQUENCE: add_sequence(out, parser, shown->bytes + shown->settled, length); break;
     case HED_WAITING_CHARACTER: text_add(out, "half a character"); break;
-    case HED_WAITING_PASTE: text_add(out, "a paste of %zu bytes so far", length - reader->paste_start); break;
+    case HED_WAITING_PASTE: text_add(out, "a paste of %zu bytes so far", length - PASTE_START); break;
     case HED_WAITING_STRING: text_add(out, "a string of %zu bytes so far", length); break;
     default: break;
   }
@@ -118,16 +120,16 @@ static void add_time(text *out, int32_t ms) {
   else text_add(out, "%d s", (int)(ms / 1000 + (ms % 1000 > 0)));
 }
 
-void add_waiting_for(text *out, reader *reader, uint64_t now) {
-  int32_t left = reader_timeout(reader, now);
-  uint32_t kind = reader_waiting_kind(reader);
+void add_waiting_for(text *out, const hed_parser *parser, uint64_t now) {
+  int32_t left = hed_parser_timeout(parser, now);
+  uint32_t kind = hed_parser_waiting(parser);
   if (left < 0) {
     text_add(out, kind == HED_WAITING_CHARACTER ? ": waits for the rest" : ": waits for its end");
     return;
   }
   text_add(out, kind == HED_WAITING_ESCAPE ? "; if nothing follows in " : ": waits up to ");
   add_time(out, left);
-  if (kind == HED_WAITING_ESCAPE) text_add(out, ": key Escape %s", reader_waiting(reader) == 1 ? "NONE" : "ALT");
+  if (kind == HED_WAITING_ESCAPE) text_add(out, ": key Escape %s", hed_parser_waiting_len(parser) == 1 ? "NONE" : "ALT");
 }
 
 void add_pending(text *out) {

@@ -4,14 +4,13 @@
 
 #include "bindings.h"
 #include "line.h"
-#include "reader.h"
 #include "text.h"
 
 /* Appends what the bytes are that are buffered on a line: half a character, say. */
-void add_waiting(text *out, reader *reader, const line *shown);
+void add_waiting(text *out, const hed_parser *parser, const line *shown);
 
 /* Appends what they wait for, and how long, where pauses count. */
-void add_waiting_for(text *out, reader *reader, uint64_t now);
+void add_waiting_for(text *out, const hed_parser *parser, uint64_t now);
 
 /* Appends how long pending presses wait for those that are listed. */
 void add_pending(text *out);

@@ -254,8 +254,8 @@ def test_shown(show, words, typed, lines):
     show([typed], lines.split("\n"), *words)
 
 
-# The bytes 8, 127, 10 and 13 as the extended parser reads them where Backspace sends 127 or 8, and
-# as termwiz does.
+# The bytes 8, 127, 10 and 13, as --extended reads them where Backspace sends 127 or 8, and as
+# termwiz does.
 DECIDED = b"\b\x7f\n\r"
 BACKSPACE, ENTER = "key Backspace NONE = backspace", "key Enter NONE = enter"
 CTRL_H = "key U+0008 NONE = ctrl+h or ctrl+backspace"
@@ -504,6 +504,33 @@ def test_key_that_is_due_after_a_stop(start):
         keys.play([b"A", LONG_PAUSE])
         keys.continue_in_foreground()
         keys.play(["(ESC [ 1 ; 5) A -> key UpArrow CTRL = ctrl+up\r\n"])
+    keys.end()
+
+
+# Where nothing came in time the program stands still, as if it were stopped, before it sees that.
+STANDS_STILL = """
+#define _POSIX_C_SOURCE 200809L
+#include <poll.h>
+#include <time.h>
+int __real_poll(struct pollfd *ready, nfds_t count, int milliseconds);
+int __wrap_poll(struct pollfd *ready, nfds_t count, int milliseconds);
+int __wrap_poll(struct pollfd *ready, nfds_t count, int milliseconds) {
+  int found = __real_poll(ready, count, milliseconds);
+  if (found == 0 && milliseconds > 0) nanosleep(&(struct timespec){ 1, 0 }, NULL);
+  return found;
+}
+"""
+
+
+@pytest.mark.timed
+def test_bytes_that_come_before_it_looks(compiled, on_terminal, tmp_path):
+    """They may complete what is due."""
+    (tmp_path / "poll.c").write_text(STANDS_STILL)
+    sources = [*TOP.glob("keys/*.c"), TOP / "c/hedrugal_terminal.c", tmp_path / "poll.c"]
+    program = compiled("standing", "c11", "-Wl,--wrap=poll", f"-I{TOP}/c", *sources)
+    keys = on_terminal(Keys(program, size=WIDE))
+    for _ in range(2):
+        keys.play([b"\033", ESCAPE, 2 * PAUSE, b"[A", "(ESC) [ A -> key UpArrow NONE = up\r\n"])
     keys.end()
 
 
@@ -880,12 +907,13 @@ PASTE, COMMAND = ("paste", START, END), ("osc", b"\033]52;", b"\007")
 
 @pytest.mark.parametrize("word, it", [("", PASTE), ("--extended", PASTE), ("--extended", COMMAND)])
 def test_parts(word, it):
-    """Each byte of a long text belongs to one part, or to its end."""
+    """Each byte of two long texts belongs to one part, or to its end."""
     kind, begin, end = it
-    typed = begin + b"x" * (3 << 19) + end
-    *parts, last = map(json.loads, run("--json", *word.split(), typed=typed)[1].splitlines())
-    assert "".join(it["bytes"] for it in [*parts, last]) == typed.hex()
-    assert {(it["kind"], it["of"]) for it in parts} == {("part", kind)} and last["kind"] == kind
+    typed = 2 * (begin + b"x" * (3 << 19) + end)
+    told = [*map(json.loads, run("--json", *word.split(), typed=typed)[1].splitlines())]
+    assert "".join(it["bytes"] for it in told) == typed.hex()
+    assert {(it["kind"], it.get("of")) for it in told} == {("part", kind), (kind, None)}
+    assert [it["kind"] for it in told].count(kind) == 2 and told[-1]["kind"] == kind
 
 
 def test_file_on_a_terminal(tmp_path):

@@ -118,14 +118,16 @@ def test_modes(start, word):
 @pytest.mark.parametrize("pause", [0.0, PAUSE, LONG_PAUSE])
 def test_paste_over_the_limit(start, pause):
     """A part of it is handled as soon as it is over the limit, and none of it is a key."""
-    live, text = start(), b"q" * (LIMIT + LIMIT // 2)
-    live.send(START + text)
-    live.expect(rb"(part of a paste, (\d+) bytes)\r\n")
-    line, taken = live.match[1].decode(), int(live.match[2])
-    assert LIMIT < taken < LIMIT + 65536
-    live.play([pause, b"rm -rf ~\rq\033", pause, b"[201~x" + START + b"ab" + END])
-    rest = len(text + b"rm -rf ~\rq") - taken
-    live.quit(line, f"paste of {rest} bytes", "Char U+0078", "paste of 2 bytes")
+    live, text, lines = start(), b"q" * (LIMIT + LIMIT // 2), []
+    for _ in range(2):
+        live.send(START + text)
+        live.expect(rb"(part of a paste, (\d+) bytes)\r\n")
+        line, taken = live.match[1].decode(), int(live.match[2])
+        assert LIMIT < taken < LIMIT + 65536
+        live.play([pause, b"rm -rf ~\rq\033", pause, b"[201~x"])
+        rest = len(text + b"rm -rf ~\rq") - taken
+        lines += [line, f"paste of {rest} bytes", "Char U+0078"]
+    live.quit(*lines)
 
 
 @pytest.mark.parametrize("around, lines", [(["", ""], []), ([START, END], ["paste of 0 bytes"])])

@@ -137,7 +137,8 @@ def test_keys(start, word):
     it = start(*word.split())
     for character in "wé":
         it.press(character)
-    it.play([START + b"ab" + END, "paste of 2 bytes\r\n", b"\033[A", "key 31, 0\r\n", b""])
+    for _ in range(2):
+        it.play([START + b"ab" + END, "paste of 2 bytes\r\n", b"\033[A", "key 31, 0\r\n", b""])
     it.quit()
 
 
@@ -218,11 +219,12 @@ def test_forked_child(start):
 def test_lent_terminal(start):
     """A child has the terminal as it was, and reads a line."""
     it = start()
-    it.play([b"l", key("l"), "icanon\r\n"])
-    assert it.settings() == it.settings_before
-    it.play([b"hello\n", "line hello\r\n", "command: 0\r\n"])
-    it.wait_for(it.is_raw, "raw mode")
-    it.wait_for(lambda: it.modes() == MODES, "modes")
+    for line in ("hello", "again"):
+        it.play([b"l", key("l"), "icanon\r\n"])
+        assert it.settings() == it.settings_before
+        it.play([f"{line}\n".encode(), f"line {line}\r\n", "command: 0\r\n"])
+        it.wait_for(it.is_raw, "raw mode")
+        it.wait_for(lambda: it.modes() == MODES, "modes")
     it.quit()
 
 
@@ -265,7 +267,18 @@ def test_settings_that_another_program_changed(start):
 def test_memory_that_is_refused(start):
     """The failure is told, and the next call has the event."""
     it = start()
-    it.play([b"m", key("m"), START + b"ab" + END, "failed: out of memory\r\n", "paste of 2 bytes"])
+    for count in (2, 2000):
+        it.play([b"m", key("m"), START + b"a" * count + END, "failed: out of memory\r\n"])
+        it.play([f"paste of {count} bytes\r\n"])
+    it.quit()
+
+
+def test_reply_while_memory_is_refused(start):
+    """It is told once, and counted, whichever request is refused."""
+    it = start()
+    for word in "mnmn":
+        it.ask()
+        it.play([word.encode(), key(word), ATTRIBUTES, "reply ?62;22c, 0 open\r\n"])
     it.quit()
 
 
@@ -436,19 +449,23 @@ def test_settings_that_were_changed_at_a_stop(start):
 
 
 # What is typed before the terminal is lent, and behind that, and what comes of both.
+PASTE_OF_4 = "paste of 4 bytes\r\n"
 LENT = {
-    "an open paste": (START + b"ab", b"cd" + END, "paste of 4 bytes"),
-    "a beginning": (b"\033[", b"A", "key 1, 65"),
-    "a key, and an open paste": (b"x" + START + b"ab", b"cd" + END, "paste of 4 bytes"),
+    "an open paste": (START + b"ab", b"cd" + END, [PASTE_OF_4]),
+    "a beginning": (b"\033[", b"A", [key("A")]),
+    "a key": (b"w", b"y", [key("w"), key("y")]),
+    "a key, and an open paste": (b"w" + START + b"ab", b"cd" + END, [key("w"), PASTE_OF_4]),
 }
 
 
 @pytest.mark.parametrize("before, after, told", LENT.values(), ids=LENT)
 def test_lent_after(start, before, after, told):
+    """What came before is told."""
     it = start()
-    it.play([b"l" + before, key("l"), "icanon\r\n", b"hello\n", "command: 0\r\n"])
-    it.wait_for(it.is_raw, "raw mode")
-    it.play([after, f"{told}\r\n"])
+    for _ in range(2):
+        it.play([b"l" + before, key("l"), "icanon\r\n", b"hello\n", "command: 0\r\n"])
+        it.wait_for(it.is_raw, "raw mode")
+        it.play([after, *told])
     it.quit()
 
 
@@ -499,6 +516,17 @@ def test_questions_before_a_stop(start, begun, rest):
     it.quit()
 
 
+def test_question_before_a_child_without_the_terminal(start):
+    """Nobody waits for the reply any more once the terminal is taken back."""
+    it = start()
+    for _ in range(2):
+        it.ask()
+        it.play([b"c", "command: 0\r\n", POSITION, f"{F3}\r\n"])
+    it.ask()
+    it.play([ATTRIBUTES, "reply ?62;22c, 0 open\r\n"])
+    it.quit()
+
+
 def test_question_before_it_is_lent(start):
     """The other program doesn't get the reply."""
     it = start()
@@ -512,11 +540,16 @@ def test_question_before_it_is_lent(start):
     it.quit()
 
 
-def test_question_at_once_when_it_is_back(start):
-    """It isn't forgotten with those of before."""
+# Replies that came before the question, and what is told of them.
+OLD_REPLIES = POSITION + ATTRIBUTES, [f"{F3}\r\n", "reply ?62;22c, 1 open\r\n"]
+
+
+@pytest.mark.parametrize("before, told", [(b"", []), OLD_REPLIES], ids=["nothing", "replies"])
+def test_question_at_once_when_it_is_back(start, before, told):
+    """It isn't forgotten with those of before, and no reply that came before answers it."""
     it = start()
     for _ in range(2):
-        it.play([b"r", "asked: yes, 1 open\r\n", POSITION + ATTRIBUTES])
+        it.play([b"r" + before, "asked: yes, 1 open\r\n", *told, POSITION + ATTRIBUTES])
         it.play(["reply 1, 5, 1 open\r\n", "reply ?62;22c, 0 open\r\n"])
     it.quit()
 
