@@ -33,5 +33,16 @@ pub use sending::{
 };
 pub use timer::{Age, Seen, Timer};
 
+use crate::raw;
+
 // What is said if the library answers otherwise than its header says.
 pub(crate) const FAULT: &str = "the library answers as c/hedrugal.h says";
+
+// Whether the library did what a call says, or was refused memory.
+pub(crate) fn granted(status: u32) -> Result<(), AllocError> {
+    match status {
+        raw::STATUS_OK => Ok(()),
+        raw::STATUS_NO_MEMORY => Err(AllocError),
+        _ => unreachable!("{FAULT}"),
+    }
+}

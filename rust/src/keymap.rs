@@ -10,7 +10,7 @@
 //! assert_eq!(map.lookup("\x1b[", true), Found::Ambiguous(1, "escape"));
 //! assert_eq!(map.lookup("a", true), Found::None);
 //! ```
-use crate::input::{AllocError, FAULT};
+use crate::input::{granted, AllocError, FAULT};
 use crate::raw;
 use std::error;
 use std::fmt::{self, Debug};
@@ -247,32 +247,34 @@ impl Places {
         let map = self.raw();
         // SAFETY: `map` is a map or none. A slice's pointer isn't null, also if the slice is empty,
         // and leads to as many bytes.
-        let inserted = unsafe {
-            (place > 0 || raw::hed_keymap_init(map))
-                && raw::hed_keymap_insert(map, key.as_ptr(), key.len(), place as u64)
-        };
-        if inserted {
-            Ok(())
-        } else {
-            Err(AllocError)
+        unsafe {
+            if place == 0 {
+                granted(raw::hed_keymap_init(map))?;
+            }
+            granted(raw::hed_keymap_insert(
+                map,
+                key.as_ptr(),
+                key.len(),
+                place as u64,
+            ))
         }
     }
 
     // The place to which the longest key leads that is a prefix of the text.
     fn lookup(&self, text: &[u8], maybe_more: bool) -> Found<usize> {
         let mut found = raw::Match::default();
-        let mut map = self.0.lock().unwrap_or_else(PoisonError::into_inner);
+        let map = self.0.lock().unwrap_or_else(PoisonError::into_inner);
         // SAFETY: `map` is a map or none, `found` another value, and the slice's pointer leads to
         // as many bytes.
         let answer = unsafe {
-            raw::hed_keymap_lookup(&mut *map, text.as_ptr(), text.len(), maybe_more, &mut found)
+            raw::hed_keymap_lookup(&*map, text.as_ptr(), text.len(), maybe_more, &mut found)
         };
         let place = found.value as usize;
         match answer {
-            raw::FOUND_NONE | raw::FOUND_NO_MAP => Found::None,
-            raw::FOUND_EXACT => Found::Exact(found.len, place),
-            raw::FOUND_AMBIGUOUS => Found::Ambiguous(found.len, place),
-            raw::FOUND_NEED_DATA => Found::NeedData,
+            raw::STATUS_NONE | raw::STATUS_NOT_INITIALIZED => Found::None,
+            raw::STATUS_OK => Found::Exact(found.len, place),
+            raw::STATUS_AMBIGUOUS => Found::Ambiguous(found.len, place),
+            raw::STATUS_NEED_DATA => Found::NeedData,
             _ => unreachable!("{FAULT}"),
         }
     }

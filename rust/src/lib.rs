@@ -40,14 +40,14 @@
 //! # If memory is refused
 //!
 //! `new`, `feed`, `next_event`, `parse`, `parse_as_vec`, `end_paste`, `encode` and `insert` panic,
-//! and `take_paste`, `set_policy`, `expire` and the forms whose names begin with `try_` return an
+//! and `take_paste`, `expire` and the forms whose names begin with `try_` return an
 //! error, after which every value may be used again. No event is lost: each error says how to go on.
 //!
 //! # Many parsers
 //!
 //! All parsers of a process share one sequence table. The first call that makes a parser makes the
 //! table too, which takes some half a millisecond, and it stays until the process ends. A further
-//! parser takes well below a microsecond and some hundred bytes, and its buffer grows with what it
+//! parser takes well below a microsecond and some two hundred bytes, and its buffer grows with what it
 //! reads. [`shrink_to`](input::InputParser::shrink_to) gives the memory of a session that is quiet
 //! back.
 //!

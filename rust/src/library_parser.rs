@@ -1,105 +1,77 @@
 // What the parsers of this crate have in common: a parser of the library, and its last event.
-use crate::input::{AllocError, ParseError, ParseVecError, Policy, FAULT};
-use crate::raw;
-use crate::times::{wait_of, Clock};
+use crate::input::{granted, AllocError, ParseError, ParseVecError, Policy, FAULT};
+use crate::times::{wait_of, FedClock};
+use crate::{raw, table};
+use std::collections::VecDeque;
 use std::sync::{Mutex, MutexGuard, PoisonError};
 use std::time::{Duration, Instant};
 
-// The library's calls on a parser.
-pub(crate) struct Calls<Raw, RawEvent> {
-    pub free: unsafe extern "C" fn(*mut Raw),
-    pub feed: unsafe extern "C" fn(*mut Raw, *const u8, usize) -> bool,
-    pub next: unsafe extern "C" fn(*mut Raw, bool, *mut RawEvent) -> u32,
-    pub text: unsafe extern "C" fn(*mut Raw, *mut u8, usize) -> usize,
-    pub drop_text: unsafe extern "C" fn(*mut Raw),
-    pub waiting_len: unsafe extern "C" fn(*mut Raw) -> usize,
-    pub waiting: unsafe extern "C" fn(*mut Raw) -> u32,
-    pub flush_escape: unsafe extern "C" fn(*mut Raw, *mut RawEvent) -> u32,
-    pub is_paste_open: unsafe extern "C" fn(*mut Raw) -> bool,
-    pub take_paste: unsafe extern "C" fn(*mut Raw, usize, *mut RawEvent) -> u32,
-    pub skip_paste: unsafe extern "C" fn(*mut Raw, *mut usize) -> bool,
-    pub end_paste: unsafe extern "C" fn(*mut Raw, *mut RawEvent) -> u32,
-    pub set_policy: unsafe extern "C" fn(*mut Raw, *const raw::Policy) -> bool,
-    pub timeout: unsafe extern "C" fn(*mut Raw, u64) -> i32,
-    pub expire: unsafe extern "C" fn(*mut Raw, u64, *mut RawEvent) -> u32,
-    pub reset: unsafe extern "C" fn(*mut Raw) -> usize,
-    pub shrink_to: unsafe extern "C" fn(*mut Raw, usize),
-}
-
-/// A parser as the library has it.
-///
-/// # Safety
-///
-/// `CALLS` has the library's calls on this parser, each under its name.
-pub(crate) unsafe trait RawParser: Sized {
-    // What the library writes of an event.
-    type RawEvent: Copy + Default;
-    // The event, as this crate emits it.
-    type Event;
-
-    const CALLS: Calls<Self, Self::RawEvent>;
-
-    // Whether the event is a paste.
-    fn is_paste(event: &Self::RawEvent) -> bool;
-
+// An event, as this crate emits it.
+pub(crate) trait LibraryEvent: Sized {
     // The event that the library wrote. `text` returns the bytes that it brought, of which there
     // are so many.
-    fn event(
-        event: &Self::RawEvent,
+    fn of(
+        event: &raw::Event,
         text: impl FnOnce(usize) -> Result<Vec<u8>, AllocError>,
-    ) -> Result<Self::Event, AllocError>;
+    ) -> Result<Self, AllocError>;
 }
 
 // A parser that the library made.
-pub(crate) struct LibraryParser<Raw: RawParser> {
+pub(crate) struct LibraryParser<Event> {
     // The library allows one thread at a time, also in calls that only read, so a call through a
     // shared reference locks it.
-    raw: Mutex<Raw>,
+    raw: Mutex<raw::Parser>,
+    // Events of a flush that wasn't over when bytes were fed. They come before all else.
+    flushed: VecDeque<Event>,
     // The library's last event, and whether this parser has yet to emit it: it stays until memory
     // for it is granted.
-    front: Raw::RawEvent,
+    front: raw::Event,
     has_front: bool,
-    clock: Clock,
+    clock: FedClock,
 }
 
-impl<Raw: RawParser> LibraryParser<Raw> {
-    // Owns a parser that the library's call for it made.
-    pub fn of(raw: Raw) -> LibraryParser<Raw> {
-        LibraryParser {
+impl<Event: LibraryEvent> LibraryParser<Event> {
+    // Makes a parser by the dialect of this number.
+    pub fn new(dialect: u32) -> Result<LibraryParser<Event>, AllocError> {
+        let mut raw = raw::Parser::NONE;
+        // SAFETY: `raw` is no parser yet, which the call allows. `idle` is another one, which this
+        // thread alone has.
+        table::share(|idle| unsafe { raw::hed_parser_init_sharing(&mut raw, dialect, idle) })?;
+        Ok(LibraryParser {
             raw: Mutex::new(raw),
-            front: Raw::RawEvent::default(),
+            flushed: VecDeque::new(),
+            front: raw::Event::default(),
             has_front: false,
-            clock: Clock::default(),
-        }
+            clock: FedClock::default(),
+        })
     }
 
-    // The library's parser, for a call that reads. Only a fault of the library panics while it is
-    // locked.
-    pub fn locked(&self) -> MutexGuard<'_, Raw> {
-        self.raw.lock().unwrap_or_else(PoisonError::into_inner)
-    }
-
-    // The library's parser, for a call that has this one alone.
-    pub fn raw(&mut self) -> &mut Raw {
-        self.raw.get_mut().unwrap_or_else(PoisonError::into_inner)
-    }
-
-    // Appends bytes to the buffer.
+    // Appends bytes to the buffer. A flush that isn't over is told before them.
     pub fn feed(&mut self, bytes: &[u8]) -> Result<(), AllocError> {
-        // SAFETY: `raw` is a parser. A slice's pointer isn't null, also if the slice is empty, and
-        // leads to as many bytes.
-        let fed = unsafe { (Raw::CALLS.feed)(self.raw(), bytes.as_ptr(), bytes.len()) };
-        if fed {
-            Ok(())
-        } else {
-            Err(AllocError)
+        if bytes.is_empty() {
+            return Ok(());
+        }
+        loop {
+            let now = self.clock.millis();
+            // SAFETY: `raw` is a parser. A slice's pointer leads to as many bytes as its length says.
+            let status =
+                unsafe { raw::hed_parser_feed(self.raw(), now, bytes.as_ptr(), bytes.len()) };
+            if status != raw::STATUS_BUSY {
+                self.clock.has_fed |= status == raw::STATUS_OK;
+                return granted(status);
+            }
+            while self.find_front()? {
+                self.flushed.try_reserve(1).map_err(|_| AllocError)?;
+                let event = self.take_front()?;
+                self.flushed.push_back(event);
+            }
         }
     }
 
     // The next event, if there is one. One that is refused memory stays at the front.
-    pub fn next_event(&mut self, maybe_more: bool) -> Result<Option<Raw::Event>, AllocError> {
-        if self.find_front(maybe_more)? {
-            self.take_front().map(Some)
+    pub fn next_event(&mut self, maybe_more: bool) -> Result<Option<Event>, AllocError> {
+        if self.has_next(maybe_more)? {
+            self.take_next().map(Some)
         } else {
             Ok(None)
         }
@@ -109,7 +81,7 @@ impl<Raw: RawParser> LibraryParser<Raw> {
     pub fn parse(
         &mut self,
         bytes: &[u8],
-        mut callback: impl FnMut(Raw::Event),
+        mut callback: impl FnMut(Event),
         maybe_more: bool,
     ) -> Result<(), ParseError> {
         self.feed(bytes).map_err(|_| ParseError::NotTaken)?;
@@ -124,7 +96,7 @@ impl<Raw: RawParser> LibraryParser<Raw> {
         &mut self,
         bytes: &[u8],
         maybe_more: bool,
-    ) -> Result<Vec<Raw::Event>, ParseVecError<Raw::Event>> {
+    ) -> Result<Vec<Event>, ParseVecError<Event>> {
         let mut events = Vec::new();
         let taken = self.feed(bytes).is_ok();
         if taken && self.store_events(&mut events, maybe_more).is_ok() {
@@ -133,54 +105,39 @@ impl<Raw: RawParser> LibraryParser<Raw> {
         Err(ParseVecError { events, taken })
     }
 
-    // The number of bytes that are buffered.
-    pub fn waiting_len(&self) -> usize {
-        // SAFETY: `raw` is a parser, which this thread alone has.
-        unsafe { (Raw::CALLS.waiting_len)(&mut *self.locked()) }
-    }
-
-    // What stays buffered, by the library's number.
-    pub fn waiting(&self) -> u32 {
-        // SAFETY: `raw` is a parser, which this thread alone has.
-        unsafe { (Raw::CALLS.waiting)(&mut *self.locked()) }
-    }
-
     // The Escape key, if ESC or ESC ESC is all that is buffered.
-    pub fn flush_escape(&mut self) -> Option<Raw::Event> {
-        // An event that was refused memory comes before what is buffered.
-        if self.has_front {
+    pub fn flush_escape(&mut self) -> Option<Event> {
+        if self.has_told() || self.waiting() != raw::WAITING_ESCAPE {
             return None;
         }
-        // SAFETY: `raw` is a parser, and `front` another value.
-        let found = unsafe { (Raw::CALLS.flush_escape)(self.raw(), &mut self.front) };
-        let has_escape = is_event(found).expect(FAULT);
-        has_escape.then(|| self.event().expect(FAULT))
+        self.flush();
+        let has_escape = self.find_front().expect(FAULT);
+        has_escape.then(|| self.take_front().expect(FAULT))
     }
 
     // Whether the buffer begins with the start of a paste.
     pub fn is_paste_open(&self) -> bool {
-        // SAFETY: `raw` is a parser, which this thread alone has.
-        unsafe { (Raw::CALLS.is_paste_open)(&mut *self.locked()) }
+        self.waiting() == raw::WAITING_PASTE
     }
 
     // Text of an open paste, if more than `limit` bytes of the text are buffered. A byte makes three
     // of text at most. The room for these comes first, so that what is refused stays buffered.
     pub fn take_paste(&mut self, limit: usize) -> Result<Option<String>, AllocError> {
         let most = self.waiting_len();
-        // An event that was refused memory comes before what is buffered.
-        if self.has_front || most <= limit || !self.is_paste_open() {
+        if self.has_told() || most <= limit || !self.is_paste_open() {
             return Ok(None);
         }
         let mut text = Vec::new();
         text.try_reserve_exact(most.saturating_mul(3))
             .map_err(|_| AllocError)?;
-        let mut part = Raw::RawEvent::default();
-        // SAFETY: `raw` is a parser, and `part` another value.
-        if !is_event(unsafe { (Raw::CALLS.take_paste)(self.raw(), limit, &mut part) })? {
+        self.set_parts(limit);
+        let found = self.find_front();
+        self.set_parts(raw::NO_PARTS);
+        if !found? || self.front.kind != raw::KIND_PASTE_PART {
             return Ok(None);
         }
-        // SAFETY: `raw` is a parser. A vector's pointer isn't null, and nothing is written.
-        let len = unsafe { (Raw::CALLS.text)(self.raw(), text.as_mut_ptr(), 0) };
+        self.has_front = false;
+        let len = self.front.text_len;
         self.copy_text(&mut text, len);
         // A smaller block will do. If it is refused, the larger is kept.
         let mut exact = Vec::new();
@@ -193,103 +150,113 @@ impl<Raw: RawParser> LibraryParser<Raw> {
 
     // Forgets what `take_paste` would take with a limit of 0. Returns how many bytes these were.
     pub fn skip_paste(&mut self) -> Option<usize> {
+        if self.has_told() {
+            return None;
+        }
         let mut count = 0;
         // SAFETY: `raw` is a parser, and `count` another value.
-        let is_skipped =
-            !self.has_front && unsafe { (Raw::CALLS.skip_paste)(self.raw(), &mut count) };
-        is_skipped.then_some(count)
+        let status = unsafe { raw::hed_parser_skip_paste(self.raw(), &mut count) };
+        (status == raw::STATUS_OK).then_some(count)
     }
 
     // Ends an open paste where it is.
-    pub fn end_paste(&mut self) -> Result<Option<Raw::Event>, AllocError> {
-        if !self.has_front {
-            // SAFETY: `raw` is a parser, and `front` another value.
-            self.has_front =
-                is_event(unsafe { (Raw::CALLS.end_paste)(self.raw(), &mut self.front) })?;
+    pub fn end_paste(&mut self) -> Result<Option<Event>, AllocError> {
+        if !self.has_told() && self.is_paste_open() {
+            // SAFETY: `raw` is a parser.
+            unsafe { raw::hed_parser_end(self.raw()) };
+            self.find_front()?;
         }
         // A paste that was refused memory before is at the front, where another call left it.
-        if self.has_front && Raw::is_paste(&self.front) {
+        let is_first = self.has_front && self.flushed.is_empty();
+        if is_first && self.front.kind == raw::KIND_PASTE {
             self.take_front().map(Some)
         } else {
             Ok(None)
         }
     }
 
-    // Sets how long bytes may stay buffered.
-    pub fn set_policy(&mut self, policy: &Policy) -> Result<(), AllocError> {
-        let policy = policy.raw();
-        // SAFETY: `raw` is a parser, and `policy` another value.
-        let is_set = unsafe { (Raw::CALLS.set_policy)(self.raw(), &policy) };
-        is_set.then_some(()).ok_or(AllocError)
-    }
-
     // How long what is buffered may still wait.
     pub fn timeout(&mut self, now: Instant) -> Option<Duration> {
-        // An event that was refused memory waits no longer.
-        if self.has_front {
+        // An event waits no longer, nor does one that is refused memory.
+        if self.has_next(true).unwrap_or(true) {
             return Some(Duration::ZERO);
         }
-        let now = self.clock.begin(now);
+        let now = self.note(now);
         // SAFETY: `raw` is a parser.
-        wait_of(unsafe { (Raw::CALLS.timeout)(self.raw(), now) })
+        wait_of(unsafe { raw::hed_parser_timeout(self.raw(), now) })
     }
 
     // Flushes what has waited too long, and emits the events.
     pub fn expire(
         &mut self,
         now: Instant,
-        mut callback: impl FnMut(Raw::Event),
+        mut callback: impl FnMut(Event),
     ) -> Result<(), AllocError> {
-        // An event that was refused memory comes first, and what is decided behind it.
-        while self.has_front {
-            callback(self.take_front()?);
-            self.find_front(true)?;
+        // What is told already comes first.
+        while let Some(event) = self.next_event(true)? {
+            callback(event);
         }
-        let now = self.clock.begin(now);
-        loop {
-            // SAFETY: `raw` is a parser, and `front` another value.
-            self.has_front =
-                is_event(unsafe { (Raw::CALLS.expire)(self.raw(), now, &mut self.front) })?;
-            if !self.has_front {
-                return Ok(());
-            }
-            callback(self.take_front()?);
+        let now = self.note(now);
+        // SAFETY: `raw` is a parser.
+        unsafe { raw::hed_parser_idle(self.raw(), now) };
+        while let Some(event) = self.next_event(true)? {
+            callback(event);
         }
+        Ok(())
     }
 
-    // Forgets all that is buffered, and an event that was refused memory. Returns how many bytes
+    // Forgets all that is buffered, and the events that aren't emitted yet. Returns how many bytes
     // were buffered.
     pub fn reset(&mut self) -> usize {
+        self.flushed.clear();
         self.has_front = false;
+        self.clock.is_front_new = true;
         // SAFETY: `raw` is a parser. The library may still have the text of an event that was
         // refused memory.
         unsafe {
-            (Raw::CALLS.drop_text)(self.raw());
-            (Raw::CALLS.reset)(self.raw())
+            raw::hed_parser_drop_text(self.raw());
+            raw::hed_parser_reset(self.raw())
         }
     }
 
-    // Gives back memory that holds nothing, but for room for so many bytes. A text that the library
-    // still has stays.
-    pub fn shrink_to(&mut self, min_capacity: usize) {
-        // SAFETY: `raw` is a parser.
-        unsafe { (Raw::CALLS.shrink_to)(self.raw(), min_capacity) }
+    // Whether there is an event. `take_next` then moves it out.
+    fn has_next(&mut self, maybe_more: bool) -> Result<bool, AllocError> {
+        if self.has_told() {
+            return Ok(true);
+        }
+        if !maybe_more {
+            self.flush();
+        }
+        self.find_front()
     }
 
-    // Whether there is an event at the front. It is `front` then, and stays there until
+    // Moves the next event out of the parser. If memory is refused, it stays there.
+    fn take_next(&mut self) -> Result<Event, AllocError> {
+        match self.flushed.pop_front() {
+            Some(event) => Ok(event),
+            None => self.take_front(),
+        }
+    }
+
+    // Whether the library's event is at the front. It is `front` then, and stays there until
     // `take_front` moves it out.
-    fn find_front(&mut self, maybe_more: bool) -> Result<bool, AllocError> {
+    fn find_front(&mut self) -> Result<bool, AllocError> {
         if !self.has_front {
             // SAFETY: `raw` is a parser, and `front` another value.
-            self.has_front =
-                is_event(unsafe { (Raw::CALLS.next)(self.raw(), maybe_more, &mut self.front) })?;
+            let status = unsafe { raw::hed_parser_next(self.raw(), &mut self.front) };
+            if status != raw::STATUS_NONE {
+                granted(status)?;
+                self.has_front = true;
+                self.clock.is_front_new = true;
+            }
         }
         Ok(self.has_front)
     }
 
     // Moves the event at the front out of the parser. If memory is refused, it stays there.
-    fn take_front(&mut self) -> Result<Raw::Event, AllocError> {
-        let event = self.event()?;
+    fn take_front(&mut self) -> Result<Event, AllocError> {
+        let front = self.front;
+        let event = Event::of(&front, |len| self.text(len))?;
         self.has_front = false;
         Ok(event)
     }
@@ -298,20 +265,77 @@ impl<Raw: RawParser> LibraryParser<Raw> {
     // the parser.
     fn store_events(
         &mut self,
-        events: &mut Vec<Raw::Event>,
+        events: &mut Vec<Event>,
         maybe_more: bool,
     ) -> Result<(), AllocError> {
-        while self.find_front(maybe_more)? {
+        while self.has_next(maybe_more)? {
             events.try_reserve(1).map_err(|_| AllocError)?;
-            events.push(self.take_front()?);
+            events.push(self.take_next()?);
         }
         Ok(())
     }
+}
 
-    // The event at the front.
-    fn event(&mut self) -> Result<Raw::Event, AllocError> {
-        let event = self.front;
-        Raw::event(&event, |len| self.text(len))
+// What says nothing of events.
+impl<Event> LibraryParser<Event> {
+    // The library's parser, for a call that reads. Only a fault of the library panics while it is
+    // locked.
+    pub fn locked(&self) -> MutexGuard<'_, raw::Parser> {
+        self.raw.lock().unwrap_or_else(PoisonError::into_inner)
+    }
+
+    // The library's parser, for a call that has this one alone.
+    pub fn raw(&mut self) -> &mut raw::Parser {
+        self.raw.get_mut().unwrap_or_else(PoisonError::into_inner)
+    }
+
+    // The number of bytes that are buffered.
+    pub fn waiting_len(&self) -> usize {
+        // SAFETY: this is a parser, which this thread alone has.
+        unsafe { raw::hed_parser_waiting_len(&*self.locked()) }
+    }
+
+    // What stays buffered, by the library's number.
+    pub fn waiting(&self) -> u32 {
+        // SAFETY: this is a parser, which this thread alone has.
+        unsafe { raw::hed_parser_waiting(&*self.locked()) }
+    }
+
+    // Sets how long bytes may stay buffered.
+    pub fn set_policy(&mut self, policy: &Policy) -> Result<(), AllocError> {
+        let policy = policy.raw();
+        // SAFETY: `raw` is a parser, and `policy` another value.
+        granted(unsafe { raw::hed_parser_set_policy(self.raw(), &policy) })
+    }
+
+    // Gives back memory that holds nothing, but for room for so many bytes. A text that the library
+    // still has stays.
+    pub fn shrink_to(&mut self, min_capacity: usize) {
+        // SAFETY: `raw` is a parser.
+        unsafe { raw::hed_parser_shrink_to(self.raw(), min_capacity) }
+    }
+
+    // Whether an event is told that this parser has yet to emit.
+    fn has_told(&self) -> bool {
+        self.has_front || !self.flushed.is_empty()
+    }
+
+    // Reads what is buffered with no more to come.
+    fn flush(&mut self) {
+        // SAFETY: `raw` is a parser.
+        unsafe { raw::hed_parser_flush(self.raw()) }
+    }
+
+    // Has a paste told in parts of more than so many bytes.
+    fn set_parts(&mut self, limit: usize) {
+        // SAFETY: `raw` is a parser.
+        unsafe { raw::hed_parser_set_parts(self.raw(), limit) }
+    }
+
+    // Notes a time. Returns it as the library is told it.
+    fn note(&mut self, now: Instant) -> u64 {
+        let waiting = self.waiting();
+        self.clock.note(now, waiting)
     }
 
     // The bytes that the last event brought. Once they are copied, the library keeps them no
@@ -328,26 +352,16 @@ impl<Raw: RawParser> LibraryParser<Raw> {
         text.resize(len, 0);
         // SAFETY: `raw` is a parser. A vector's pointer isn't null, and leads to as many bytes,
         // which no other value has.
-        let whole = unsafe { (Raw::CALLS.text)(self.raw(), text.as_mut_ptr(), text.len()) };
+        let whole = unsafe { raw::hed_parser_text(self.raw(), text.as_mut_ptr(), text.len()) };
         assert_eq!(whole, len, "{FAULT}");
         // SAFETY: `raw` is a parser.
-        unsafe { (Raw::CALLS.drop_text)(self.raw()) };
+        unsafe { raw::hed_parser_drop_text(self.raw()) };
     }
 }
 
-impl<Raw: RawParser> Drop for LibraryParser<Raw> {
+impl<Event> Drop for LibraryParser<Event> {
     fn drop(&mut self) {
         // SAFETY: `raw` is a parser, and isn't used again.
-        unsafe { (Raw::CALLS.free)(self.raw()) }
-    }
-}
-
-// Whether the library answers that it wrote an event.
-fn is_event(answer: u32) -> Result<bool, AllocError> {
-    match answer {
-        raw::NEXT_NONE => Ok(false),
-        raw::NEXT_EVENT => Ok(true),
-        raw::NEXT_NO_MEMORY => Err(AllocError),
-        _ => unreachable!("{FAULT}"),
+        unsafe { raw::hed_parser_free(self.raw()) }
     }
 }

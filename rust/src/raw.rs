@@ -6,15 +6,57 @@ use std::ffi::c_void;
 use std::mem::{offset_of, size_of};
 
 // What the calls answer, and the kinds and encodings.
-// numbers.txt: next const
-/// There is no such event. Nothing changed.
-pub const NEXT_NONE: u32 = 0;
-/// An event was written, and its bytes were consumed.
-pub const NEXT_EVENT: u32 = 1;
-/// Memory was refused. Nothing changed, and the call may be made again.
-pub const NEXT_NO_MEMORY: u32 = 2;
-/// There is no parser: it wasn't made yet, or it was freed.
-pub const NEXT_NO_PARSER: u32 = 3;
+// numbers.txt: status const
+/// The call did what it says.
+pub const STATUS_OK: u32 = 0;
+/// There is nothing more, or nothing was found.
+pub const STATUS_NONE: u32 = 1;
+/// Memory was refused. The call may be made again.
+pub const STATUS_NO_MEMORY: u32 = 2;
+/// A number stands for nothing.
+pub const STATUS_BAD_NUMBER: u32 = 3;
+/// Events are left: call hed_parser_next until it returns HED_NONE, and then make the call again.
+pub const STATUS_BUSY: u32 = 4;
+/// There is no parser, no map or no bindings: they weren't made yet, or they were freed.
+pub const STATUS_NOT_INITIALIZED: u32 = 5;
+/// The key has no text. Of hed_encode it is a function key, since only F1 to F24 have one.
+pub const STATUS_REFUSED_KEY: u32 = 6;
+/// No bytes are read as the event.
+pub const STATUS_NO_TEXT: u32 = 7;
+/// The bytes would be more than a sequence or a string may have.
+pub const STATUS_TOO_LONG: u32 = 8;
+/// The text isn't UTF-8.
+pub const STATUS_BAD_TEXT: u32 = 9;
+/// The place of the mouse report is above 223, which its encoding can't tell.
+pub const STATUS_TOO_FAR: u32 = 10;
+/// A key of the map is a prefix of the text, and the text is a prefix of a longer one.
+pub const STATUS_AMBIGUOUS: u32 = 11;
+/// No key of the map is a prefix of the text, but the text is a prefix of some key.
+pub const STATUS_NEED_DATA: u32 = 12;
+/// 32 presses are pending, and the press isn't.
+pub const STATUS_FULL: u32 = 13;
+/// A control character but the tab is in the text.
+pub const STATUS_NAME_CONTROL_CHARACTER: u32 = 20;
+/// A modifier is there twice, as in `M-A-x`.
+pub const STATUS_NAME_MODIFIER_TWICE: u32 = 21;
+/// A word before `+` or `-` is no modifier, as in `foo+x`.
+pub const STATUS_NAME_UNKNOWN_MODIFIER: u32 = 22;
+/// No key stands behind the modifiers, as in `ctrl+`.
+pub const STATUS_NAME_MISSING_KEY: u32 = 23;
+/// A number names no key, as in `f256`, `f01`, `kitty1` or `U+D800`.
+pub const STATUS_NAME_BAD_NUMBER: u32 = 24;
+/// No key has this name.
+pub const STATUS_NAME_UNKNOWN_NAME: u32 = 25;
+/// `DEL` in capitals is Backspace to Emacs, and Delete to others: write `backspace` or `delete`.
+pub const STATUS_NAME_AMBIGUOUS: u32 = 26;
+/// The key makes no press by itself, as a modifier or a lock.
+pub const STATUS_NAME_NOT_A_KEY: u32 = 27;
+/// Shift with a sign that shows it, as in `shift+!`: write the sign alone.
+pub const STATUS_NAME_SHIFTED_CHARACTER: u32 = 28;
+/// A chord has at most 32 keys, and this is the 33rd.
+pub const STATUS_NAME_TOO_LONG: u32 = 29;
+/// No key is in the text.
+pub const STATUS_NAME_EMPTY: u32 = 30;
 // numbers.txt: end
 
 // numbers.txt: waiting const
@@ -39,44 +81,10 @@ pub const AGE_LAST: u8 = 0;
 pub const AGE_FRONT: u8 = 1;
 // numbers.txt: end
 
-// numbers.txt: encoded const
-/// The bytes, of which there may be none.
-pub const ENCODED_TEXT: u32 = 0;
-/// The key has no text. Of hed_encode it is a function key, since only F1 to F24 have one.
-pub const ENCODED_REFUSED_KEY: u32 = 1;
-/// Memory was refused. The call may be made again.
-pub const ENCODED_REFUSED_MEMORY: u32 = 2;
-/// A number names nothing.
-pub const ENCODED_BAD_NUMBER: u32 = 3;
-/// The bytes would be more than a sequence or a string may have.
-pub const ENCODED_TOO_LONG: u32 = 4;
-/// The text of a key report or of a paste isn't UTF-8.
-pub const ENCODED_BAD_TEXT: u32 = 5;
-/// The place of the mouse report is above 223, which its encoding can't tell.
-pub const ENCODED_TOO_FAR: u32 = 6;
-/// No bytes are read as the event.
-pub const ENCODED_NO_TEXT: u32 = 7;
-/// There is no parser: it wasn't made yet, or it was freed.
-pub const ENCODED_NO_PARSER: u32 = 8;
-// numbers.txt: end
-
-// numbers.txt: found const
-/// No key is a prefix of the text, and the text is a prefix of no key.
-pub const FOUND_NONE: u32 = 0;
-/// The longest key that is a prefix of the text was written to *match.
-pub const FOUND_EXACT: u32 = 1;
-/// The same, but more may follow, and the text is a prefix of a longer key too.
-pub const FOUND_AMBIGUOUS: u32 = 2;
-/// No key is a prefix of the text, but the text is a prefix of some key.
-pub const FOUND_NEED_DATA: u32 = 3;
-/// There is no map: it wasn't made yet, or it was freed.
-pub const FOUND_NO_MAP: u32 = 4;
-// numbers.txt: end
-
 // numbers.txt: kind const
 /// None of these. No event has this kind.
 pub const KIND_OTHER: u8 = 0;
-/// A key: of a hed_parser one that was pressed, and of an extended parser a key report.
+/// A key: it was typed, or reported with what happened to it.
 pub const KIND_KEY: u8 = 1;
 /// The mouse was moved, one of its buttons was pressed or released, or a wheel was turned.
 pub const KIND_MOUSE: u8 = 2;
@@ -162,88 +170,11 @@ pub const ENCODING_WIN32: u8 = 2;
 pub const ENCODING_KITTY: u8 = 3;
 // numbers.txt: end
 
-// numbers.txt: named const
-/// The text is the name of a chord, and nothing is wrong with it.
-pub const NAMED_KEYS: u32 = 0;
-/// A control character but the tab is in the text.
-pub const NAMED_CONTROL_CHARACTER: u32 = 1;
-/// A modifier is there twice, as in `M-A-x`.
-pub const NAMED_MODIFIER_TWICE: u32 = 2;
-/// A word before `+` or `-` is no modifier, as in `foo+x`.
-pub const NAMED_UNKNOWN_MODIFIER: u32 = 3;
-/// No key stands behind the modifiers, as in `ctrl+`.
-pub const NAMED_MISSING_KEY: u32 = 4;
-/// A number names no key, as in `f256`, `f01`, `kitty1` or `U+D800`.
-pub const NAMED_BAD_NUMBER: u32 = 5;
-/// No key has this name.
-pub const NAMED_UNKNOWN_NAME: u32 = 6;
-/// `DEL` in capitals is Backspace to Emacs, and Delete to others: write `backspace` or `delete`.
-pub const NAMED_AMBIGUOUS: u32 = 7;
-/// The key makes no press by itself, as a modifier or a lock.
-pub const NAMED_NOT_A_KEY: u32 = 8;
-/// Shift with a sign that shows it, as in `shift+!`: write the sign alone.
-pub const NAMED_SHIFTED_CHARACTER: u32 = 9;
-/// A chord has at most 32 keys, and this is the 33rd.
-pub const NAMED_TOO_LONG: u32 = 10;
-/// No key is in the text.
-pub const NAMED_EMPTY: u32 = 11;
-/// The text isn't UTF-8.
-pub const NAMED_BAD_TEXT: u32 = 12;
-// numbers.txt: end
-
-// numbers.txt: printed const
-/// The name of the keys.
-pub const PRINTED_NAME: u32 = 0;
-/// Memory was refused. The call may be made again.
-pub const PRINTED_NO_MEMORY: u32 = 1;
-/// The numbers of a key are those of no press, or there are no keys, or more than 32.
-pub const PRINTED_BAD_NUMBER: u32 = 2;
-// numbers.txt: end
-
-// numbers.txt: bound const
-/// There is no such chord.
-pub const BOUND_NONE: u32 = 0;
-/// The chord has a value: it was set, written or taken away.
-pub const BOUND_VALUE: u32 = 1;
-/// Memory was refused. Nothing changed, and the call may be made again.
-pub const BOUND_NO_MEMORY: u32 = 2;
-/// The numbers of a key are those of no press, there are more than 32 keys, or a chord has none.
-pub const BOUND_BAD_NUMBER: u32 = 3;
-/// There are no bindings: they weren't made yet, or they were freed.
-pub const BOUND_NO_BINDINGS: u32 = 4;
-// numbers.txt: end
-
-// numbers.txt: pressed const
-/// The press is pending.
-pub const PRESSED_KEY: u32 = 0;
-/// 32 presses are pending, and the press isn't. Nothing changed.
-pub const PRESSED_FULL: u32 = 1;
-/// The numbers are those of no press, or those of the matcher are. Nothing changed.
-pub const PRESSED_BAD_NUMBER: u32 = 2;
-/// There are no bindings: they weren't made yet, or they were freed. Nothing changed.
-pub const PRESSED_NO_BINDINGS: u32 = 3;
-// numbers.txt: end
-
 // numbers.txt: outcome const
-/// Nothing is pending, or more may come, and the presses may become a longer chord.
-pub const OUTCOME_NONE: u32 = 0;
 /// A chord was pressed.
 pub const OUTCOME_BOUND: u32 = 1;
 /// The first press begins no chord that was pressed.
 pub const OUTCOME_UNBOUND: u32 = 2;
-/// The numbers of the matcher are those of no presses.
-pub const OUTCOME_BAD_NUMBER: u32 = 3;
-/// There are no bindings: they weren't made yet, or they were freed.
-pub const OUTCOME_NO_BINDINGS: u32 = 4;
-// numbers.txt: end
-
-// numbers.txt: replied const
-/// The event is no reply that is known.
-pub const REPLIED_NONE: u32 = 0;
-/// What the reply says was written.
-pub const REPLIED_VALUES: u32 = 1;
-/// Memory was refused. The call may be made again.
-pub const REPLIED_NO_MEMORY: u32 = 2;
 // numbers.txt: end
 
 // numbers.txt: reply const
@@ -366,24 +297,14 @@ pub const MOUSE_ENCODING_SGR: u32 = 2;
 #[repr(C)]
 pub struct Parser {
     live: bool,
-    timed: bool,
-    fed: bool,
-    taken: bool,
-    expiring: bool,
     state: *mut c_void,
-    timing: *mut c_void,
 }
 
 impl Parser {
     /// No parser.
     pub const NONE: Parser = Parser {
         live: false,
-        timed: false,
-        fed: false,
-        taken: false,
-        expiring: false,
         state: std::ptr::null_mut(),
-        timing: std::ptr::null_mut(),
     };
 }
 
@@ -392,21 +313,44 @@ impl Parser {
 // atomically.
 unsafe impl Send for Parser {}
 
-/// An event. What its kind has no use for is 0.
+/// The code point that the terminal didn't report.
+pub const NO_CODE: u32 = 0xffff_ffff;
+
+/// An event. What its kind doesn't have is 0.
 #[repr(C)]
 #[derive(Clone, Copy, Default)]
 pub struct Event {
     pub kind: u8,
+    pub modifiers: u8,
+    pub key_event_kind: u8,
+    pub mouse_kind: u8,
+    pub button: u8,
     pub buttons: u8,
-    pub modifiers: u16,
+    pub flags: u8,
+    pub string_kind: u8,
     pub key: u16,
     pub x: u16,
     pub y: u16,
+    pub row: u16,
+    pub column: u16,
+    pub rows: u16,
+    pub columns: u16,
+    pub height: u16,
+    pub width: u16,
     pub detail: u32,
-    pub paste_len: usize,
+    pub shifted: u32,
+    pub base: u32,
+    pub text_len: usize,
 }
 
-/// How long each kind of bytes may stay buffered, in milliseconds. Negative: forever.
+/// The most milliseconds of a limit.
+pub const LIMIT_MOST: i32 = 2_147_418_111;
+
+/// The limit of parts of a paste with which there are none.
+pub const NO_PARTS: usize = usize::MAX;
+
+/// How long each kind of bytes may stay buffered, in milliseconds. 0: the usual limit. Negative:
+/// forever.
 #[repr(C)]
 pub struct Policy {
     pub escape: i32,
@@ -422,7 +366,7 @@ pub struct Policy {
 pub struct SentMouse {
     pub x: u16,
     pub y: u16,
-    pub modifiers: u16,
+    pub modifiers: u8,
     pub button: u8,
 }
 
@@ -502,61 +446,6 @@ pub struct Match {
     pub value: u64,
 }
 
-/// An extended parser, or none.
-#[repr(C)]
-pub struct Extended {
-    live: bool,
-    timed: bool,
-    fed: bool,
-    taken: bool,
-    expiring: bool,
-    state: *mut c_void,
-    timing: *mut c_void,
-}
-
-impl Extended {
-    /// No parser.
-    pub const NONE: Extended = Extended {
-        live: false,
-        timed: false,
-        fed: false,
-        taken: false,
-        expiring: false,
-        state: std::ptr::null_mut(),
-        timing: std::ptr::null_mut(),
-    };
-}
-
-// SAFETY: as for a `Parser`.
-unsafe impl Send for Extended {}
-
-/// The code point that the terminal didn't report.
-pub const NO_CODE: u32 = 0xffff_ffff;
-
-/// A key, what happened to it, and what the terminal reported of it.
-#[repr(C)]
-#[derive(Clone, Copy, Default)]
-pub struct KeyReport {
-    pub kind: u8,
-    pub modifiers: u8,
-    pub key: u16,
-    pub detail: u32,
-    pub shifted: u32,
-    pub base: u32,
-}
-
-/// A mouse report that was read.
-#[repr(C)]
-#[derive(Clone, Copy, Default)]
-pub struct MouseReport {
-    pub kind: u8,
-    pub button: u8,
-    pub buttons: u8,
-    pub modifiers: u16,
-    pub x: u16,
-    pub y: u16,
-}
-
 /// A key, and the modifiers held with it.
 #[repr(C)]
 #[derive(Clone, Copy, Default, PartialEq, Eq, Hash)]
@@ -599,26 +488,10 @@ pub struct Outcome {
     pub keys: usize,
     pub value: u64,
     pub press: KeyPress,
+    pub kind: u32,
 }
 
-/// An event of the extended parser. What its kind has no use for is 0.
-#[repr(C)]
-#[derive(Clone, Copy, Default)]
-pub struct ExtendedEvent {
-    pub kind: u8,
-    pub flags: u8,
-    pub row: u16,
-    pub column: u16,
-    pub rows: u16,
-    pub columns: u16,
-    pub height: u16,
-    pub width: u16,
-    pub report: KeyReport,
-    pub mouse: MouseReport,
-    pub text_len: usize,
-}
-
-/// How an extended parser reads.
+/// How a parser reads.
 #[repr(C)]
 #[derive(Clone, Copy, Default)]
 pub struct Reading {
@@ -652,18 +525,33 @@ pub struct Reply {
 
 // The layouts that the library was proved with.
 const _: () = {
-    assert!(size_of::<Parser>() == 24 && offset_of!(Parser, expiring) == 4);
-    assert!(offset_of!(Parser, state) == 8 && offset_of!(Parser, timing) == 16);
-    assert!(size_of::<Policy>() == 24 && offset_of!(Policy, paste) == 20);
+    assert!(size_of::<Parser>() == 16 && offset_of!(Parser, state) == 8);
+    assert!(
+        size_of::<Event>() == 48
+            && offset_of!(Event, string_kind) == 7
+            && offset_of!(Event, key) == 8
+            && offset_of!(Event, width) == 24
+    );
+    assert!(
+        offset_of!(Event, detail) == 28
+            && offset_of!(Event, base) == 36
+            && offset_of!(Event, text_len) == 40
+    );
+    assert!(
+        size_of::<Policy>() == 24
+            && offset_of!(Policy, string) == 12
+            && offset_of!(Policy, paste) == 20
+    );
     assert!(size_of::<Seen>() == 8 && offset_of!(Seen, by) == 4 && offset_of!(Seen, empty) == 7);
     assert!(size_of::<Timer>() == 40 && offset_of!(Timer, by) == 32);
     assert!(offset_of!(Timer, millis) == 24 && offset_of!(Timer, holds) == 35);
-    assert!(
-        size_of::<Event>() == 24 && offset_of!(Event, modifiers) == 2 && offset_of!(Event, y) == 8
-    );
-    assert!(offset_of!(Event, detail) == 12 && offset_of!(Event, paste_len) == 16);
     assert!(size_of::<Modes>() == 16 && offset_of!(Modes, encoding) == 8);
     assert!(offset_of!(Modes, has_modify_other_keys) == 12);
+    assert!(
+        size_of::<SentMouse>() == 6
+            && offset_of!(SentMouse, modifiers) == 4
+            && offset_of!(SentMouse, button) == 5
+    );
     assert!(size_of::<KeyMap>() == 16 && offset_of!(KeyMap, state) == 8);
     assert!(
         size_of::<Entries>() == 24
@@ -673,13 +561,10 @@ const _: () = {
     assert!(size_of::<Match>() == 16 && offset_of!(Match, value) == 8);
     assert!(size_of::<Bindings>() == 16 && offset_of!(Bindings, state) == 8);
     assert!(size_of::<Matcher>() == 264 && offset_of!(Matcher, keys) == 8);
-    assert!(size_of::<Outcome>() == 24 && offset_of!(Outcome, press) == 16);
-    assert!(size_of::<Extended>() == 24 && offset_of!(Extended, expiring) == 4);
-    assert!(offset_of!(Extended, state) == 8 && offset_of!(Extended, timing) == 16);
     assert!(
-        size_of::<KeyReport>() == 16
-            && offset_of!(KeyReport, key) == 2
-            && offset_of!(KeyReport, base) == 12
+        size_of::<Outcome>() == 32
+            && offset_of!(Outcome, press) == 16
+            && offset_of!(Outcome, kind) == 24
     );
     assert!(
         size_of::<KeyPress>() == 8
@@ -687,23 +572,11 @@ const _: () = {
             && offset_of!(KeyPress, detail) == 4
     );
     assert!(
-        size_of::<ExtendedEvent>() == 56
-            && offset_of!(ExtendedEvent, row) == 2
-            && offset_of!(ExtendedEvent, width) == 12
-    );
-    assert!(offset_of!(ExtendedEvent, report) == 16 && offset_of!(ExtendedEvent, mouse) == 32);
-    assert!(offset_of!(ExtendedEvent, text_len) == 48);
-    assert!(
-        size_of::<MouseReport>() == 10
-            && offset_of!(MouseReport, modifiers) == 4
-            && offset_of!(MouseReport, y) == 8
-    );
-    assert!(
         size_of::<Reading>() == 16
             && offset_of!(Reading, erase) == 4
-            && offset_of!(Reading, x10_mouse) == 12
-            && offset_of!(Reading, questions) == 13
+            && offset_of!(Reading, newline) == 8
     );
+    assert!(offset_of!(Reading, x10_mouse) == 12 && offset_of!(Reading, questions) == 13);
     assert!(
         size_of::<Reply>() == 32
             && offset_of!(Reply, is_private) == 3
@@ -714,27 +587,29 @@ const _: () = {
 };
 
 extern "C" {
-    pub fn hed_parser_init(parser: *mut Parser) -> bool;
-    pub fn hed_parser_init_sharing(parser: *mut Parser, other: *mut Parser) -> bool;
-    pub fn hed_parser_init_sharing_extended(parser: *mut Parser, other: *mut Extended) -> bool;
+    pub fn hed_parser_init(parser: *mut Parser, dialect: u32) -> u32;
+    pub fn hed_parser_init_sharing(parser: *mut Parser, dialect: u32, other: *const Parser) -> u32;
     pub fn hed_parser_free(parser: *mut Parser);
-    pub fn hed_parser_feed(parser: *mut Parser, bytes: *const u8, len: usize) -> bool;
-    pub fn hed_parser_next(parser: *mut Parser, more: bool, event: *mut Event) -> u32;
-    pub fn hed_parser_paste(parser: *mut Parser, out: *mut u8, len: usize) -> usize;
-    pub fn hed_parser_drop_paste(parser: *mut Parser);
-    pub fn hed_parser_shrink_to(parser: *mut Parser, min_capacity: usize);
-    pub fn hed_parser_waiting_len(parser: *mut Parser) -> usize;
-    pub fn hed_parser_waiting(parser: *mut Parser) -> u32;
-    pub fn hed_parser_flush_escape(parser: *mut Parser, event: *mut Event) -> u32;
-    pub fn hed_parser_is_paste_open(parser: *mut Parser) -> bool;
-    pub fn hed_parser_take_paste(parser: *mut Parser, limit: usize, event: *mut Event) -> u32;
-    pub fn hed_parser_skip_paste(parser: *mut Parser, count: *mut usize) -> bool;
-    pub fn hed_parser_end_paste(parser: *mut Parser, event: *mut Event) -> u32;
-    pub fn hed_parser_set_policy(parser: *mut Parser, policy: *const Policy) -> bool;
-    pub fn hed_parser_timeout(parser: *mut Parser, now: u64) -> i32;
-    pub fn hed_parser_expire(parser: *mut Parser, now: u64, event: *mut Event) -> u32;
+    pub fn hed_parser_feed(parser: *mut Parser, now: u64, bytes: *const u8, len: usize) -> u32;
+    pub fn hed_parser_next(parser: *mut Parser, event: *mut Event) -> u32;
+    pub fn hed_parser_text(parser: *const Parser, out: *mut u8, len: usize) -> usize;
+    pub fn hed_parser_drop_text(parser: *mut Parser);
+    pub fn hed_parser_timeout(parser: *const Parser, now: u64) -> i32;
+    pub fn hed_parser_idle(parser: *mut Parser, now: u64);
+    pub fn hed_parser_flush(parser: *mut Parser);
+    pub fn hed_parser_end(parser: *mut Parser);
+    pub fn hed_parser_set_parts(parser: *mut Parser, limit: usize);
+    pub fn hed_parser_skip_paste(parser: *mut Parser, count: *mut usize) -> u32;
     pub fn hed_parser_reset(parser: *mut Parser) -> usize;
-    pub fn hed_timer_note(timer: *mut Timer, now: u64, seen: *const Seen) -> bool;
+    pub fn hed_parser_shrink_to(parser: *mut Parser, min_capacity: usize);
+    pub fn hed_parser_waiting_len(parser: *const Parser) -> usize;
+    pub fn hed_parser_waiting(parser: *const Parser) -> u32;
+    pub fn hed_parser_set_reading(parser: *mut Parser, reading: *const Reading) -> u32;
+    pub fn hed_parser_reading(parser: *const Parser, reading: *mut Reading) -> u32;
+    pub fn hed_parser_expect_position(parser: *mut Parser);
+    pub fn hed_parser_forget_positions(parser: *mut Parser);
+    pub fn hed_parser_set_policy(parser: *mut Parser, policy: *const Policy) -> u32;
+    pub fn hed_timer_note(timer: *mut Timer, now: u64, seen: *const Seen) -> u32;
     pub fn hed_timer_timeout(timer: *const Timer, now: u64) -> i32;
     pub fn hed_encode(
         key: u16,
@@ -747,71 +622,25 @@ extern "C" {
         text_len: *mut usize,
     ) -> u32;
     pub fn hed_parser_entry(
-        parser: *mut Parser,
+        parser: *const Parser,
         place: usize,
         bytes: *mut u8,
         capacity: usize,
         event: *mut Event,
     ) -> usize;
-    pub fn hed_parser_completions(parser: *mut Parser, entries: *mut Entries) -> bool;
-    pub fn hed_keymap_init(map: *mut KeyMap) -> bool;
+    pub fn hed_parser_completions(parser: *const Parser, entries: *mut Entries) -> u32;
+    pub fn hed_keymap_init(map: *mut KeyMap) -> u32;
     pub fn hed_keymap_free(map: *mut KeyMap);
-    pub fn hed_keymap_insert(map: *mut KeyMap, key: *const u8, len: usize, value: u64) -> bool;
+    pub fn hed_keymap_insert(map: *mut KeyMap, key: *const u8, len: usize, value: u64) -> u32;
     pub fn hed_keymap_lookup(
-        map: *mut KeyMap,
+        map: *const KeyMap,
         text: *const u8,
         len: usize,
         maybe_more: bool,
         found: *mut Match,
     ) -> u32;
-    pub fn hed_keymap_len(map: *mut KeyMap) -> usize;
-    pub fn hed_extended_init(parser: *mut Extended, dialect: u32) -> bool;
-    pub fn hed_extended_init_sharing(
-        parser: *mut Extended,
-        dialect: u32,
-        other: *mut Extended,
-    ) -> bool;
-    pub fn hed_extended_init_sharing_parser(
-        parser: *mut Extended,
-        dialect: u32,
-        other: *mut Parser,
-    ) -> bool;
-    pub fn hed_extended_free(parser: *mut Extended);
-    pub fn hed_extended_feed(parser: *mut Extended, bytes: *const u8, len: usize) -> bool;
-    pub fn hed_extended_next(parser: *mut Extended, more: bool, event: *mut ExtendedEvent) -> u32;
-    pub fn hed_extended_next_events(
-        parser: *mut Extended,
-        more: bool,
-        events: *mut ExtendedEvent,
-        room: usize,
-        text: *mut u8,
-        text_room: usize,
-        count: *mut usize,
-    ) -> u32;
-    pub fn hed_extended_text(parser: *mut Extended, out: *mut u8, len: usize) -> usize;
-    pub fn hed_extended_drop_text(parser: *mut Extended);
-    pub fn hed_extended_shrink_to(parser: *mut Extended, min_capacity: usize);
-    pub fn hed_extended_waiting_len(parser: *mut Extended) -> usize;
-    pub fn hed_extended_waiting(parser: *mut Extended) -> u32;
-    pub fn hed_extended_flush_escape(parser: *mut Extended, event: *mut ExtendedEvent) -> u32;
-    pub fn hed_extended_is_paste_open(parser: *mut Extended) -> bool;
-    pub fn hed_extended_take_paste(
-        parser: *mut Extended,
-        limit: usize,
-        event: *mut ExtendedEvent,
-    ) -> u32;
-    pub fn hed_extended_skip_paste(parser: *mut Extended, count: *mut usize) -> bool;
-    pub fn hed_extended_end_paste(parser: *mut Extended, event: *mut ExtendedEvent) -> u32;
-    pub fn hed_extended_set_policy(parser: *mut Extended, policy: *const Policy) -> bool;
-    pub fn hed_extended_timeout(parser: *mut Extended, now: u64) -> i32;
-    pub fn hed_extended_expire(parser: *mut Extended, now: u64, event: *mut ExtendedEvent) -> u32;
-    pub fn hed_extended_reset(parser: *mut Extended) -> usize;
-    pub fn hed_extended_set_reading(parser: *mut Extended, reading: *const Reading) -> bool;
-    pub fn hed_extended_reading(parser: *mut Extended, reading: *mut Reading) -> bool;
-    pub fn hed_extended_expect_position(parser: *mut Extended);
-    pub fn hed_extended_forget_positions(parser: *mut Extended);
     pub fn hed_encode_kitty(
-        report: *const KeyReport,
+        event: *const Event,
         text: *const u8,
         text_len: usize,
         flags: u8,
@@ -836,10 +665,10 @@ extern "C" {
         sent_len: *mut usize,
     ) -> u32;
     pub fn hed_encode_event(
-        event: *const ExtendedEvent,
+        event: *const Event,
         text: *const u8,
         text_len: usize,
-        parser: *const Extended,
+        parser: *const Parser,
         out: *mut u8,
         len: usize,
         sent_len: *mut usize,
@@ -865,15 +694,14 @@ extern "C" {
         len: usize,
         sent_len: *mut usize,
     ) -> u32;
-    pub fn hed_key_of_event(event: *const Event, press: *mut KeyPress) -> bool;
-    pub fn hed_key_of_report(
-        report: *const KeyReport,
+    pub fn hed_event_press(
+        event: *const Event,
         text: *const u8,
         text_len: usize,
         press: *mut KeyPress,
-    ) -> bool;
-    pub fn hed_key_second(report: *const KeyReport, press: *mut KeyPress) -> bool;
-    pub fn hed_key_text(press: *const KeyPress) -> u32;
+    ) -> u32;
+    pub fn hed_event_second(event: *const Event, press: *mut KeyPress) -> u32;
+    pub fn hed_press_text(press: *const KeyPress, out: *mut u8, len: usize) -> usize;
     pub fn hed_key_read(
         text: *const u8,
         text_len: usize,
@@ -889,7 +717,7 @@ extern "C" {
         len: usize,
         name_len: *mut usize,
     ) -> u32;
-    pub fn hed_bindings_init(bindings: *mut Bindings) -> bool;
+    pub fn hed_bindings_init(bindings: *mut Bindings) -> u32;
     pub fn hed_bindings_free(bindings: *mut Bindings);
     pub fn hed_bindings_bind(
         bindings: *mut Bindings,
@@ -904,14 +732,14 @@ extern "C" {
         value: *mut u64,
     ) -> u32;
     pub fn hed_bindings_lookup(
-        bindings: *mut Bindings,
+        bindings: *const Bindings,
         keys: *const KeyPress,
         count: usize,
         value: *mut u64,
     ) -> u32;
-    pub fn hed_bindings_len(bindings: *mut Bindings) -> usize;
+    pub fn hed_bindings_len(bindings: *const Bindings) -> usize;
     pub fn hed_bindings_entry(
-        bindings: *mut Bindings,
+        bindings: *const Bindings,
         place: usize,
         keys: *mut KeyPress,
         room: usize,
@@ -919,7 +747,7 @@ extern "C" {
         value: *mut u64,
     ) -> u32;
     pub fn hed_bindings_continuations(
-        bindings: *mut Bindings,
+        bindings: *const Bindings,
         keys: *const KeyPress,
         count: usize,
         first: *mut usize,
@@ -928,22 +756,22 @@ extern "C" {
     pub fn hed_matcher_press(matcher: *mut Matcher, press: *const KeyPress) -> u32;
     pub fn hed_matcher_press_either(
         matcher: *mut Matcher,
-        bindings: *mut Bindings,
+        bindings: *const Bindings,
         presses: *const KeyPress,
         count: usize,
     ) -> u32;
     pub fn hed_matcher_next(
         matcher: *mut Matcher,
-        bindings: *mut Bindings,
+        bindings: *const Bindings,
         maybe_more: bool,
         outcome: *mut Outcome,
     ) -> u32;
     pub fn hed_matcher_on_pause(
         matcher: *const Matcher,
-        bindings: *mut Bindings,
+        bindings: *const Bindings,
         outcome: *mut Outcome,
     ) -> u32;
-    pub fn hed_matcher_is_dead_end(matcher: *const Matcher, bindings: *mut Bindings) -> bool;
+    pub fn hed_matcher_is_dead_end(matcher: *const Matcher, bindings: *const Bindings) -> bool;
     pub fn hed_matcher_pending(matcher: *const Matcher, keys: *mut KeyPress, room: usize) -> usize;
     pub fn hed_matcher_cancel(matcher: *mut Matcher, keys: *mut KeyPress, room: usize) -> usize;
     pub fn hed_read_reply(

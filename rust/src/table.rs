@@ -2,7 +2,7 @@
 //
 // The library makes a parser with a table of its own, or one that shares the table of another. Here
 // one idle parser has the table. It is made with the first parser that a program asks for, and is
-// never freed. Every other parser, of either kind, is made from it.
+// never freed. Every other parser is made from it.
 //
 // Parsers of several threads read the table at the same time. That is sound: no call changes a
 // table, and the library counts those that share it by an atomic counter (an `Arc`), so each of
@@ -12,7 +12,7 @@
 // A child of fork has a copy of the table, and may make parsers. If its parent has threads, it may
 // not before exec, as the library's header says: another thread may have held this lock at the
 // fork, or malloc's.
-use crate::input::AllocError;
+use crate::input::{granted, AllocError};
 use crate::raw;
 use std::sync::{Mutex, PoisonError};
 
@@ -20,8 +20,8 @@ use std::sync::{Mutex, PoisonError};
 static IDLE: Mutex<Option<raw::Parser>> = Mutex::new(None);
 
 // Makes a parser by `init`, which is called with the idle parser while this thread alone has it,
-// and returns whether memory was granted.
-pub(crate) fn share(init: impl FnOnce(&mut raw::Parser) -> bool) -> Result<(), AllocError> {
+// and returns the library's answer.
+pub(crate) fn share(init: impl FnOnce(&raw::Parser) -> u32) -> Result<(), AllocError> {
     // Nothing panics while it is locked.
     let mut locked = IDLE.lock().unwrap_or_else(PoisonError::into_inner);
     let idle = match &mut *locked {
@@ -35,10 +35,6 @@ pub(crate) fn share(init: impl FnOnce(&mut raw::Parser) -> bool) -> Result<(), A
 fn parser_with_table() -> Result<raw::Parser, AllocError> {
     let mut raw = raw::Parser::NONE;
     // SAFETY: `raw` is no parser yet, which the call allows.
-    granted(unsafe { raw::hed_parser_init(&mut raw) })?;
+    granted(unsafe { raw::hed_parser_init(&mut raw, raw::DIALECT_EXTENDED) })?;
     Ok(raw)
-}
-
-fn granted(is_granted: bool) -> Result<(), AllocError> {
-    is_granted.then_some(()).ok_or(AllocError)
 }

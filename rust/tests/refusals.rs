@@ -120,7 +120,7 @@ fn goes_on_with_try_parse_as_vec() {
 const REPLIES: &[u8] =
     b"q\x1b[97;5:3u\x1b[97;2;65u\x1b[24;80R\x1b[?62;22c\x1b]11;rgb:1e1e/1e1e/1e1e\x1b\\\x1bP>|kitty\x1b\x1b[200~text\x1b[201~\x1b]l\x07";
 
-// Reads these in pieces by the extended parser with one request refused. Returns the events, and
+// Reads these in pieces by `ExtendedParser` with one request refused. Returns the events, and
 // how many refusals were told.
 fn read_replies(piece: usize, number: usize) -> (Vec<Event>, usize) {
     let mut parser = ExtendedParser::new(Dialect::Extended);
@@ -156,6 +156,33 @@ fn goes_on_with_the_extended_parser() {
             number += 1;
         }
         assert!(number > 8);
+    }
+}
+
+// Bytes are fed in the middle of a flush with each request refused in turn. A refusal takes none of
+// them, and what the flush tells comes first.
+#[test]
+fn feeds_within_a_flush_after_a_refusal() {
+    for number in 1.. {
+        let mut parser = ExtendedParser::new(Dialect::Extended);
+        parser.feed(b"q\x1b]11;rgb");
+        let mut events = Vec::from_iter(parser.next_event(false));
+        let (fed, refused) = refusing(number, || parser.try_feed(b"\x1b[I"));
+        assert_eq!(fed.is_err(), refused > 0);
+        if refused > 0 {
+            parser.feed(b"\x1b[I");
+        }
+        events.extend(std::iter::from_fn(|| parser.next_event(true)));
+        let cut = Event::StringCut {
+            kind: StringKind::Osc,
+            bytes: b"11;rgb".to_vec(),
+        };
+        assert!(events[0].key().is_some());
+        assert_eq!(events[1..], [cut, Event::FocusGained]);
+        if refused == 0 {
+            assert!(number > 3);
+            break;
+        }
     }
 }
 
@@ -480,43 +507,22 @@ const PASTE_IN_TIME: Policy = Policy {
     ..Policy::usual()
 };
 
-// The first call of the three that is made takes memory, each time. Refused, it changes nothing.
+// No call that has to do with time takes memory.
 #[test]
-fn tells_time_after_a_refusal() {
-    let (start, mut told) = (Instant::now(), 0);
-    let escape = || {
-        let mut parser = InputParser::new();
+fn tells_time_without_memory() {
+    let (start, mut parser) = (Instant::now(), InputParser::new());
+    for _ in 0..2 {
         assert_eq!(parser.parse_as_vec(b"\x1b", true), []);
-        parser
-    };
-    for number in 1.. {
-        let mut parser = escape();
-        let policy = Policy {
-            escape: Some(TEN_SECONDS),
-            ..PASTE_IN_TIME
-        };
-        let (set, refused) = refusing(number, || parser.set_policy(policy));
-        assert_eq!(set.is_err(), refused > 0);
-        let limit = if refused > 0 { Policy::usual() } else { policy }.escape;
-        assert_eq!(parser.timeout(start), limit, "request {number}");
-        let mut parser = escape();
-        let (left, refused) = refusing(number, || parser.timeout(start));
-        if refused > 0 {
-            assert_eq!(left, Some(Duration::ZERO));
-            let refuse = || parser.expire(start, |event| panic!("{event:?}"));
-            assert_eq!(refusing(1, refuse), (Err(AllocError), 1));
-        }
-        assert_eq!(parser.timeout(start), Policy::usual().escape);
-        let refuse = || parser.expire(start + TEN_SECONDS, drop);
-        assert_eq!(refusing(1, refuse), (Ok(()), 0));
-        assert_eq!(refusing(1, || parser.set_policy(policy)).0, Ok(()));
+        assert_eq!(
+            refusing(1, || parser.set_policy(PASTE_IN_TIME)),
+            (Ok(()), 0)
+        );
+        let left = refusing(1, || parser.timeout(start));
+        assert_eq!(left, (Policy::usual().escape, 0));
+        let expire = || parser.expire(start + TEN_SECONDS, drop);
+        assert_eq!(refusing(1, expire), (Ok(()), 0));
         assert_eq!(parser.waiting(), Waiting::Nothing);
-        told += refused;
-        if refused == 0 {
-            break;
-        }
     }
-    assert!(told > 0);
 }
 
 // A paste that stalls is ended with each request refused in turn: it is still due, and not lost.
@@ -562,19 +568,12 @@ fn reads_on_after_a_paste_was_refused_in_time() {
             break;
         }
         told += refused;
-        // The library had ended the paste, and this crate was refused its text, or neither.
-        let is_ended = parser.waiting_len() == 0;
         let events = parser.parse_as_vec(b"q", true);
-        if is_ended {
-            let [paste, key] = &events[..] else {
-                panic!("{events:?}");
-            };
-            assert_eq!(paste, &InputEvent::Paste(OPEN_TEXT.to_string()));
-            assert!(matches!(key, InputEvent::Key(_)));
-        } else {
-            assert_eq!((events, parser.waiting()), (Vec::new(), Waiting::Paste));
-            assert_eq!(parser.timeout(due), Some(TEN_SECONDS));
-        }
+        let [paste, InputEvent::Key(_)] = &events[..] else {
+            panic!("{events:?}");
+        };
+        assert_eq!(paste, &InputEvent::Paste(OPEN_TEXT.to_string()));
+        assert_eq!(parser.timeout(due), None);
     }
     assert!(told > 1, "{told}");
 }

@@ -1,6 +1,6 @@
 // What a program does at which keys: a map from chords to values.
 use super::Chord;
-use crate::input::{AllocError, FAULT};
+use crate::input::{granted, AllocError, FAULT};
 use crate::raw;
 use std::error;
 use std::fmt::{self, Debug};
@@ -376,11 +376,8 @@ impl Places {
     fn new() -> Result<Places, AllocError> {
         let mut bindings = raw::Bindings::NONE;
         // SAFETY: the pointer leads to bindings that are none.
-        if unsafe { raw::hed_bindings_init(&mut bindings) } {
-            Ok(Places(Mutex::new(bindings)))
-        } else {
-            Err(AllocError)
-        }
+        granted(unsafe { raw::hed_bindings_init(&mut bindings) })?;
+        Ok(Places(Mutex::new(bindings)))
     }
 
     fn lock(&self) -> MutexGuard<'_, raw::Bindings> {
@@ -396,13 +393,9 @@ impl Places {
     fn bind(&mut self, chord: &Chord, place: usize) -> Result<(), AllocError> {
         let keys = chord.held();
         // SAFETY: the slice's pointer leads to as many presses as the length says.
-        let answer =
-            unsafe { raw::hed_bindings_bind(self.raw(), keys.as_ptr(), keys.len(), place as u64) };
-        match answer {
-            raw::BOUND_VALUE => Ok(()),
-            raw::BOUND_NO_MEMORY => Err(AllocError),
-            _ => unreachable!("{FAULT}"),
-        }
+        granted(unsafe {
+            raw::hed_bindings_bind(self.raw(), keys.as_ptr(), keys.len(), place as u64)
+        })
     }
 
     // Has a chord lead nowhere, and returns the place to which it led.
@@ -412,7 +405,7 @@ impl Places {
         // SAFETY: as above, and `place` is another value.
         let answer =
             unsafe { raw::hed_bindings_unbind(self.raw(), keys.as_ptr(), keys.len(), &mut place) };
-        (answer == raw::BOUND_VALUE).then_some(place as usize)
+        (answer == raw::STATUS_OK).then_some(place as usize)
     }
 
     // The place to which a chord leads, if it leads to one.
@@ -421,14 +414,14 @@ impl Places {
         let mut place = 0;
         // SAFETY: as above.
         let answer = unsafe {
-            raw::hed_bindings_lookup(&mut *self.lock(), keys.as_ptr(), keys.len(), &mut place)
+            raw::hed_bindings_lookup(&*self.lock(), keys.as_ptr(), keys.len(), &mut place)
         };
-        (answer == raw::BOUND_VALUE).then_some(place as usize)
+        (answer == raw::STATUS_OK).then_some(place as usize)
     }
 
     fn len(&self) -> usize {
         // SAFETY: these are bindings of the library.
-        unsafe { raw::hed_bindings_len(&mut *self.lock()) }
+        unsafe { raw::hed_bindings_len(&*self.lock()) }
     }
 
     // The chord at a place in the order of chords, and the place to which it leads.
@@ -439,7 +432,7 @@ impl Places {
             // SAFETY: `keys` has as much room as its length says, and the others are other values.
             let answer = unsafe {
                 raw::hed_bindings_entry(
-                    &mut *self.lock(),
+                    &*self.lock(),
                     place,
                     keys.as_mut_ptr(),
                     keys.len(),
@@ -447,7 +440,7 @@ impl Places {
                     &mut leads_to,
                 )
             };
-            assert!(answer == raw::BOUND_VALUE, "{FAULT}");
+            assert!(answer == raw::STATUS_OK, "{FAULT}");
             count
         });
         (chord, leads_to)
@@ -460,7 +453,7 @@ impl Places {
         // SAFETY: as above.
         unsafe {
             raw::hed_bindings_continuations(
-                &mut *self.lock(),
+                &*self.lock(),
                 keys.as_ptr(),
                 keys.len(),
                 &mut places.start,

@@ -141,21 +141,22 @@ impl KeyReport {
             )
         };
         match answer {
-            raw::ENCODED_TEXT => Ok(len),
-            raw::ENCODED_REFUSED_KEY => Err(KittyEncodeError::UnknownKey),
-            raw::ENCODED_TOO_LONG => Err(KittyEncodeError::TooLong),
+            raw::STATUS_OK => Ok(len),
+            raw::STATUS_REFUSED_KEY => Err(KittyEncodeError::UnknownKey),
+            raw::STATUS_TOO_LONG => Err(KittyEncodeError::TooLong),
             // The only number of a report that may name nothing is that of the flags.
-            raw::ENCODED_BAD_NUMBER => Err(KittyEncodeError::UnnamedBits),
-            raw::ENCODED_REFUSED_MEMORY => Err(KittyEncodeError::Memory),
+            raw::STATUS_BAD_NUMBER => Err(KittyEncodeError::UnnamedBits),
+            raw::STATUS_NO_MEMORY => Err(KittyEncodeError::Memory),
             _ => unreachable!("{FAULT}"),
         }
     }
 
     // The report as the library has it. Its text is passed beside it.
-    pub(super) fn raw(&self) -> raw::KeyReport {
+    pub(super) fn raw(&self) -> raw::Event {
         let (key, detail) = self.key.numbers();
-        raw::KeyReport {
-            kind: match self.kind {
+        raw::Event {
+            kind: raw::KIND_KEY,
+            key_event_kind: match self.kind {
                 KeyEventKind::Press => raw::KEY_EVENT_KIND_PRESS,
                 KeyEventKind::Repeat => raw::KEY_EVENT_KIND_REPEAT,
                 KeyEventKind::Release => raw::KEY_EVENT_KIND_RELEASE,
@@ -165,6 +166,7 @@ impl KeyReport {
             detail,
             shifted: self.shifted.map_or(raw::NO_CODE, u32::from),
             base: self.base.map_or(raw::NO_CODE, u32::from),
+            ..raw::Event::default()
         }
     }
 }

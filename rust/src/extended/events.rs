@@ -1,6 +1,7 @@
 // What happens at a terminal, and what it replies.
 use super::KittyModifiers;
 use crate::input::{AllocError, KeyCode, Modifiers, MouseButtons, FAULT};
+use crate::library_parser::LibraryEvent;
 use crate::raw;
 
 /// What happened to a key.
@@ -262,16 +263,16 @@ impl Event {
             _ => None,
         }
     }
+}
 
-    // An event of the library. `text` returns the bytes that it brought, of which there are so
-    // many.
-    pub(super) fn of(
-        event: &raw::ExtendedEvent,
+impl LibraryEvent for Event {
+    fn of(
+        event: &raw::Event,
         text: impl FnOnce(usize) -> Result<Vec<u8>, AllocError>,
     ) -> Result<Event, AllocError> {
         Ok(match event.kind {
-            raw::KIND_KEY => Event::Key(KeyReport::of(&event.report, text(event.text_len)?)),
-            raw::KIND_MOUSE => Event::Mouse(MouseReport::of(&event.mouse)),
+            raw::KIND_KEY => Event::Key(KeyReport::of(event, text(event.text_len)?)),
+            raw::KIND_MOUSE => Event::Mouse(MouseReport::of(event)),
             raw::KIND_PASTE => Event::Paste(String::from_utf8(text(event.text_len)?).expect(FAULT)),
             raw::KIND_FOCUS_GAINED => Event::FocusGained,
             raw::KIND_FOCUS_LOST => Event::FocusLost,
@@ -291,11 +292,11 @@ impl Event {
             raw::KIND_DCS => Event::Dcs(text(event.text_len)?),
             raw::KIND_APC => Event::Apc(text(event.text_len)?),
             raw::KIND_STRING_PART => Event::StringPart {
-                kind: StringKind::of(event.flags),
+                kind: StringKind::of(event.string_kind),
                 bytes: text(event.text_len)?,
             },
             raw::KIND_STRING_CUT => Event::StringCut {
-                kind: StringKind::of(event.flags),
+                kind: StringKind::of(event.string_kind),
                 bytes: text(event.text_len)?,
             },
             _ => unreachable!("{FAULT}"),
@@ -319,13 +320,13 @@ impl MouseKind {
 
 impl MouseReport {
     // A report of the library.
-    fn of(report: &raw::MouseReport) -> MouseReport {
+    fn of(report: &raw::Event) -> MouseReport {
         MouseReport {
             x: report.x,
             y: report.y,
-            modifiers: Modifiers::from_bits(report.modifiers).expect(FAULT),
+            modifiers: Modifiers::of_kitty(report.modifiers),
             buttons: MouseButtons::from_bits(report.buttons).expect(FAULT),
-            kind: MouseKind::of(report.kind),
+            kind: MouseKind::of(report.mouse_kind),
             button: (report.button != 0).then_some(report.button),
         }
     }
@@ -363,11 +364,11 @@ impl ReportedKey {
 
 impl KeyReport {
     // A report of the library, and the text that the key types.
-    fn of(report: &raw::KeyReport, text: Vec<u8>) -> KeyReport {
+    fn of(report: &raw::Event, text: Vec<u8>) -> KeyReport {
         KeyReport {
             key: ReportedKey::of(report.key, report.detail),
             modifiers: KittyModifiers::from_bits(report.modifiers).expect(FAULT),
-            kind: match report.kind {
+            kind: match report.key_event_kind {
                 raw::KEY_EVENT_KIND_PRESS => KeyEventKind::Press,
                 raw::KEY_EVENT_KIND_REPEAT => KeyEventKind::Repeat,
                 raw::KEY_EVENT_KIND_RELEASE => KeyEventKind::Release,

@@ -166,12 +166,7 @@ impl Matcher {
         let count = 1 + usize::from(second.is_some());
         // SAFETY: as above, and `presses` has at least `count`.
         pressed(unsafe {
-            raw::hed_matcher_press_either(
-                &mut self.0,
-                &mut *bindings.lock(),
-                presses.as_ptr(),
-                count,
-            )
+            raw::hed_matcher_press_either(&mut self.0, &*bindings.lock(), presses.as_ptr(), count)
         })
     }
 
@@ -186,7 +181,7 @@ impl Matcher {
         let mut outcome = raw::Outcome::default();
         // SAFETY: the pointers lead to different values of their types that live through the call.
         let answer = unsafe {
-            raw::hed_matcher_next(&mut self.0, &mut *bindings.lock(), maybe_more, &mut outcome)
+            raw::hed_matcher_next(&mut self.0, &*bindings.lock(), maybe_more, &mut outcome)
         };
         told(answer, &outcome, bindings)
     }
@@ -197,8 +192,7 @@ impl Matcher {
     pub fn on_pause<'b, V>(&self, bindings: &'b Bindings<V>) -> Option<Outcome<&'b V>> {
         let mut outcome = raw::Outcome::default();
         // SAFETY: as above.
-        let answer =
-            unsafe { raw::hed_matcher_on_pause(&self.0, &mut *bindings.lock(), &mut outcome) };
+        let answer = unsafe { raw::hed_matcher_on_pause(&self.0, &*bindings.lock(), &mut outcome) };
         told(answer, &outcome, bindings)
     }
 
@@ -208,7 +202,7 @@ impl Matcher {
     #[must_use]
     pub fn is_dead_end<V>(&self, bindings: &Bindings<V>) -> bool {
         // SAFETY: as above.
-        unsafe { raw::hed_matcher_is_dead_end(&self.0, &mut *bindings.lock()) }
+        unsafe { raw::hed_matcher_is_dead_end(&self.0, &*bindings.lock()) }
     }
 
     /// Returns the presses that are pending, in the order in which they were pressed.
@@ -245,8 +239,8 @@ impl Debug for Matcher {
 // Whether a press is pending, by the library's answer.
 fn pressed(answer: u32) -> bool {
     match answer {
-        raw::PRESSED_KEY => true,
-        raw::PRESSED_FULL => false,
+        raw::STATUS_OK => true,
+        raw::STATUS_FULL => false,
         _ => unreachable!("{FAULT}"),
     }
 }
@@ -257,13 +251,15 @@ fn told<'b, V>(
     outcome: &raw::Outcome,
     bindings: &'b Bindings<V>,
 ) -> Option<Outcome<&'b V>> {
-    match answer {
-        raw::OUTCOME_NONE => None,
-        raw::OUTCOME_BOUND => Some(Outcome::Bound {
+    match (answer, outcome.kind) {
+        (raw::STATUS_NONE, _) => None,
+        (raw::STATUS_OK, raw::OUTCOME_BOUND) => Some(Outcome::Bound {
             keys: outcome.keys,
             value: bindings.at(outcome.value),
         }),
-        raw::OUTCOME_UNBOUND => Some(Outcome::Unbound(KeyPress::of_raw(outcome.press))),
+        (raw::STATUS_OK, raw::OUTCOME_UNBOUND) => {
+            Some(Outcome::Unbound(KeyPress::of_raw(outcome.press)))
+        }
         _ => unreachable!("{FAULT}"),
     }
 }

@@ -89,17 +89,17 @@ impl KeyNameErrorKind {
     // What is wrong, by the number of the library.
     fn of(number: u32) -> KeyNameErrorKind {
         match number {
-            raw::NAMED_CONTROL_CHARACTER => KeyNameErrorKind::ControlCharacter,
-            raw::NAMED_MODIFIER_TWICE => KeyNameErrorKind::ModifierTwice,
-            raw::NAMED_UNKNOWN_MODIFIER => KeyNameErrorKind::UnknownModifier,
-            raw::NAMED_MISSING_KEY => KeyNameErrorKind::MissingKey,
-            raw::NAMED_BAD_NUMBER => KeyNameErrorKind::BadNumber,
-            raw::NAMED_UNKNOWN_NAME => KeyNameErrorKind::UnknownName,
-            raw::NAMED_AMBIGUOUS => KeyNameErrorKind::Ambiguous,
-            raw::NAMED_NOT_A_KEY => KeyNameErrorKind::NotAKey,
-            raw::NAMED_SHIFTED_CHARACTER => KeyNameErrorKind::ShiftedCharacter,
-            raw::NAMED_TOO_LONG => KeyNameErrorKind::TooLong,
-            raw::NAMED_EMPTY => KeyNameErrorKind::Empty,
+            raw::STATUS_NAME_CONTROL_CHARACTER => KeyNameErrorKind::ControlCharacter,
+            raw::STATUS_NAME_MODIFIER_TWICE => KeyNameErrorKind::ModifierTwice,
+            raw::STATUS_NAME_UNKNOWN_MODIFIER => KeyNameErrorKind::UnknownModifier,
+            raw::STATUS_NAME_MISSING_KEY => KeyNameErrorKind::MissingKey,
+            raw::STATUS_NAME_BAD_NUMBER => KeyNameErrorKind::BadNumber,
+            raw::STATUS_NAME_UNKNOWN_NAME => KeyNameErrorKind::UnknownName,
+            raw::STATUS_NAME_AMBIGUOUS => KeyNameErrorKind::Ambiguous,
+            raw::STATUS_NAME_NOT_A_KEY => KeyNameErrorKind::NotAKey,
+            raw::STATUS_NAME_SHIFTED_CHARACTER => KeyNameErrorKind::ShiftedCharacter,
+            raw::STATUS_NAME_TOO_LONG => KeyNameErrorKind::TooLong,
+            raw::STATUS_NAME_EMPTY => KeyNameErrorKind::Empty,
             _ => unreachable!("{FAULT}"),
         }
     }
@@ -122,7 +122,7 @@ pub(super) fn read(text: &str) -> Result<([raw::KeyPress; Chord::MAX_KEYS], usiz
         )
     };
     match answer {
-        raw::NAMED_KEYS => Ok((keys, count)),
+        raw::STATUS_OK => Ok((keys, count)),
         wrong => Err(KeyNameError {
             kind: KeyNameErrorKind::of(wrong),
             at,
@@ -148,11 +148,11 @@ pub(super) fn print(keys: &[raw::KeyPress], f: &mut fmt::Formatter<'_>) -> fmt::
         )
     };
     match answer {
-        raw::PRINTED_NAME => {
+        raw::STATUS_OK => {
             let name = room.get(..len).expect(FAULT);
             f.pad(str::from_utf8(name).expect(FAULT))
         }
-        raw::PRINTED_NO_MEMORY => Err(fmt::Error),
+        raw::STATUS_NO_MEMORY => Err(fmt::Error),
         _ => unreachable!("{FAULT}"),
     }
 }

@@ -1,8 +1,8 @@
-// The extended parser: bytes of a terminal to events.
+// `ExtendedParser`: bytes of a terminal to events.
 use super::Event;
 use crate::input::{AllocError, ParseError, ParseVecError, Policy, FAULT};
-use crate::library_parser::{Calls, LibraryParser, RawParser};
-use crate::{raw, table};
+use crate::library_parser::LibraryParser;
+use crate::raw;
 use std::fmt;
 use std::sync::MutexGuard;
 use std::time::{Duration, Instant};
@@ -260,43 +260,6 @@ impl ExtendedWaiting {
     }
 }
 
-// SAFETY: these are the library's calls for a `hed_extended`.
-unsafe impl RawParser for raw::Extended {
-    type RawEvent = raw::ExtendedEvent;
-    type Event = Event;
-
-    const CALLS: Calls<raw::Extended, raw::ExtendedEvent> = Calls {
-        free: raw::hed_extended_free,
-        feed: raw::hed_extended_feed,
-        next: raw::hed_extended_next,
-        text: raw::hed_extended_text,
-        drop_text: raw::hed_extended_drop_text,
-        waiting_len: raw::hed_extended_waiting_len,
-        waiting: raw::hed_extended_waiting,
-        flush_escape: raw::hed_extended_flush_escape,
-        is_paste_open: raw::hed_extended_is_paste_open,
-        take_paste: raw::hed_extended_take_paste,
-        skip_paste: raw::hed_extended_skip_paste,
-        end_paste: raw::hed_extended_end_paste,
-        set_policy: raw::hed_extended_set_policy,
-        timeout: raw::hed_extended_timeout,
-        expire: raw::hed_extended_expire,
-        reset: raw::hed_extended_reset,
-        shrink_to: raw::hed_extended_shrink_to,
-    };
-
-    fn is_paste(event: &raw::ExtendedEvent) -> bool {
-        event.kind == raw::KIND_PASTE
-    }
-
-    fn event(
-        event: &raw::ExtendedEvent,
-        text: impl FnOnce(usize) -> Result<Vec<u8>, AllocError>,
-    ) -> Result<Event, AllocError> {
-        Event::of(event, text)
-    }
-}
-
 /// Reads events from the bytes that a terminal sends, however they are cut into calls: keys, mouse
 /// reports, pastes, and what terminals reply.
 ///
@@ -309,12 +272,12 @@ unsafe impl RawParser for raw::Extended {
 /// assert_eq!(parser.parse_as_vec(b"0R", true), [position]);
 /// ```
 pub struct ExtendedParser {
-    parser: LibraryParser<raw::Extended>,
+    parser: LibraryParser<Event>,
 }
 
 impl ExtendedParser {
-    /// Makes a parser with an empty buffer. It shares the process's sequence table with all parsers
-    /// of both kinds.
+    /// Makes a parser with an empty buffer. It shares the process's sequence table with all other
+    /// parsers.
     ///
     /// ```
     /// use hedrugal::extended::{Dialect, ExtendedParser};
@@ -343,13 +306,7 @@ impl ExtendedParser {
     /// If memory is refused, for the parser or for the table of the process's first one. Call
     /// again.
     pub fn try_new(dialect: Dialect) -> Result<ExtendedParser, AllocError> {
-        let mut raw = raw::Extended::NONE;
-        // SAFETY: `raw` is no parser yet, which the call allows. `idle` is another one, which this
-        // thread alone has.
-        table::share(|idle| unsafe {
-            raw::hed_extended_init_sharing_parser(&mut raw, dialect.number(), idle)
-        })?;
-        let parser = LibraryParser::of(raw);
+        let parser = LibraryParser::new(dialect.number())?;
         Ok(ExtendedParser { parser })
     }
 
@@ -370,13 +327,13 @@ impl ExtendedParser {
         let mut reading = raw::Reading::default();
         // SAFETY: the pointer leads to a parser, which this thread alone has, and `reading` is
         // another value.
-        let is_read = unsafe { raw::hed_extended_reading(&mut *self.locked(), &mut reading) };
-        assert!(is_read, "{FAULT}");
+        let status = unsafe { raw::hed_parser_reading(&*self.locked(), &mut reading) };
+        assert_eq!(status, raw::STATUS_OK, "{FAULT}");
         Reading::of(&reading)
     }
 
     // The library's parser, for calls that leave it as it is.
-    pub(super) fn locked(&self) -> MutexGuard<'_, raw::Extended> {
+    pub(super) fn locked(&self) -> MutexGuard<'_, raw::Parser> {
         self.parser.locked()
     }
 
@@ -395,8 +352,8 @@ impl ExtendedParser {
     pub fn set_reading(&mut self, reading: Reading) {
         let reading = reading.raw();
         // SAFETY: the pointer leads to a parser, and `reading` is another value.
-        let is_set = unsafe { raw::hed_extended_set_reading(self.parser.raw(), &reading) };
-        assert!(is_set, "{FAULT}");
+        let status = unsafe { raw::hed_parser_set_reading(self.parser.raw(), &reading) };
+        assert_eq!(status, raw::STATUS_OK, "{FAULT}");
     }
 
     /// Expects one more reply to a question for the cursor's position, up to 255. Call it with each
@@ -417,7 +374,7 @@ impl ExtendedParser {
     /// ```
     pub fn expect_position(&mut self) {
         // SAFETY: the pointer leads to a parser.
-        unsafe { raw::hed_extended_expect_position(self.parser.raw()) }
+        unsafe { raw::hed_parser_expect_position(self.parser.raw()) }
     }
 
     /// Expects no reply any more to questions for the cursor's position. Call it when a reply is
@@ -433,7 +390,7 @@ impl ExtendedParser {
     /// ```
     pub fn forget_positions(&mut self) {
         // SAFETY: the pointer leads to a parser.
-        unsafe { raw::hed_extended_forget_positions(self.parser.raw()) }
+        unsafe { raw::hed_parser_forget_positions(self.parser.raw()) }
     }
 
     /// Returns by which grammar the parser reads, as [`ExtendedParser::new`] or
@@ -483,7 +440,8 @@ impl ExtendedParser {
     }
 
     /// Consumes the item at the front of the buffer, and returns its event. Returns `None` if the
-    /// bytes are no event yet. Pass `maybe_more` as to [`ExtendedParser::parse`].
+    /// bytes are no event yet. Pass `maybe_more` as to [`ExtendedParser::parse`]. Once it was false, what is
+    /// buffered is flushed until this returns `None`, also if bytes are fed meanwhile: they follow.
     ///
     /// ```
     /// use hedrugal::extended::{Dialect, Event, ExtendedParser};
@@ -786,7 +744,7 @@ impl ExtendedParser {
     ///
     /// # Errors
     ///
-    /// If memory is refused. The limits are those from before: call again.
+    /// None: it asks for no memory.
     pub fn set_policy(&mut self, policy: Policy) -> Result<(), AllocError> {
         self.parser.set_policy(&policy)
     }
@@ -795,9 +753,9 @@ impl ExtendedParser {
     /// call [`ExtendedParser::expire`].
     ///
     /// Call it before each wait, once all events are emitted, with the time of that moment. It notes
-    /// the time, and what was buffered since the last note. If memory is refused, here or before for
-    /// an event, it returns zero, and [`ExtendedParser::expire`] says so or goes on. The loop is that
-    /// of [`InputParser::timeout`](crate::input::InputParser::timeout).
+    /// the time, and what was buffered since the last note. If memory is refused for an event, it
+    /// returns zero, and [`ExtendedParser::expire`] says so or goes on. The loop is that of
+    /// [`InputParser::timeout`](crate::input::InputParser::timeout).
     ///
     /// ```
     /// use hedrugal::extended::{Dialect, ExtendedParser};

@@ -2,7 +2,7 @@
 use super::{
     names, KeyEventKind, KeyNameError, KeyNameErrorKind, KeyReport, KittyModifiers, ReportedKey,
 };
-use crate::input::{KeyEvent, Modifiers, FAULT};
+use crate::input::{KeyEvent, FAULT};
 use crate::raw;
 use std::cmp::Ordering;
 use std::fmt;
@@ -92,15 +92,15 @@ impl KeyPress {
     pub fn of_event(event: &KeyEvent) -> Option<KeyPress> {
         let event = raw::Event {
             kind: raw::KIND_KEY,
-            modifiers: event.modifiers.intersection(Modifiers::all()).bits(),
+            modifiers: event.modifiers.kitty().0,
+            key_event_kind: raw::KEY_EVENT_KIND_PRESS,
             key: event.key.number(),
             detail: event.key.detail(),
+            shifted: raw::NO_CODE,
+            base: raw::NO_CODE,
             ..raw::Event::default()
         };
-        KeyPress::written(|press| {
-            // SAFETY: the pointers lead to values of their types that live through the call.
-            unsafe { raw::hed_key_of_event(&event, press) }
-        })
+        KeyPress::typing(&event, "")
     }
 
     /// Returns the press of a key report. `None` is for a release, for a modifier or a lock by
@@ -121,7 +121,7 @@ impl KeyPress {
     /// ```
     #[must_use]
     pub fn of_report(report: &KeyReport) -> Option<KeyPress> {
-        KeyPress::typing(report, &report.text)
+        KeyPress::typing(&report.raw(), &report.text)
     }
 
     /// Returns a second press of a key report, for a program in which the first one leads nowhere.
@@ -145,8 +145,8 @@ impl KeyPress {
     pub fn second(report: &KeyReport) -> Option<KeyPress> {
         let report = report.raw();
         KeyPress::written(|press| {
-            // SAFETY: as above.
-            unsafe { raw::hed_key_second(&report, press) }
+            // SAFETY: the pointers lead to values of their types that live through the call.
+            unsafe { raw::hed_event_second(&report, press) }
         })
     }
 
@@ -176,24 +176,28 @@ impl KeyPress {
     /// ```
     #[must_use]
     pub fn text(self) -> Option<char> {
-        // SAFETY: the pointer leads to a press that lives through the call.
-        char::from_u32(unsafe { raw::hed_key_text(&self.raw()) })
+        let mut text = [0; 4];
+        // SAFETY: the pointers lead to a press and to as many bytes, which live through the call.
+        let len = unsafe { raw::hed_press_text(&self.raw(), text.as_mut_ptr(), text.len()) };
+        std::str::from_utf8(&text[..len])
+            .expect(FAULT)
+            .chars()
+            .next()
     }
 
-    // The press of a report with this text in place of its own.
-    fn typing(report: &KeyReport, text: &str) -> Option<KeyPress> {
-        let report = report.raw();
+    // The press of a key that types this text.
+    fn typing(event: &raw::Event, text: &str) -> Option<KeyPress> {
         KeyPress::written(|press| {
             // SAFETY: the pointers lead to values of their types that live through the call, with as
             // many bytes as the length says.
-            unsafe { raw::hed_key_of_report(&report, text.as_ptr(), text.len(), press) }
+            unsafe { raw::hed_event_press(event, text.as_ptr(), text.len(), press) }
         })
     }
 
     // The press that a call wrote, if it did.
-    fn written(call: impl FnOnce(&mut raw::KeyPress) -> bool) -> Option<KeyPress> {
+    fn written(call: impl FnOnce(&mut raw::KeyPress) -> u32) -> Option<KeyPress> {
         let mut press = raw::KeyPress::default();
-        call(&mut press).then(|| KeyPress::of_raw(press))
+        (call(&mut press) == raw::STATUS_OK).then(|| KeyPress::of_raw(press))
     }
 
     // A press of the library.
@@ -272,7 +276,8 @@ impl Ord for KeyPress {
 pub fn typed_text(report: &KeyReport) -> &str {
     // With a text of one character such a report has a press. A release has none, and neither has a
     // modifier.
-    let types = KeyPress::of_report(report).is_none() && KeyPress::typing(report, "a").is_some();
+    let types =
+        KeyPress::of_report(report).is_none() && KeyPress::typing(&report.raw(), "a").is_some();
     if types && !report.text.chars().any(char::is_control) {
         &report.text
     } else {

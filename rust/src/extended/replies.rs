@@ -237,9 +237,9 @@ impl Event {
             )
         };
         match answer {
-            raw::REPLIED_NONE => Ok(None),
-            raw::REPLIED_VALUES => Reply::of(&reply, numbers, out).map(Some),
-            raw::REPLIED_NO_MEMORY => Err(AllocError),
+            raw::STATUS_NONE => Ok(None),
+            raw::STATUS_OK => Reply::of(&reply, numbers, out).map(Some),
+            raw::STATUS_NO_MEMORY => Err(AllocError),
             _ => unreachable!("{FAULT}"),
         }
     }

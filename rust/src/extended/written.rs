@@ -1,7 +1,7 @@
 // Events to the bytes that a parser reads as them, and what a terminal replies.
 use super::{Event, ExtendedParser, MouseKind, MouseReport, StringKind};
 use crate::input::sending::sent;
-use crate::input::{AllocError, FAULT};
+use crate::input::{AllocError, Modifiers, FAULT};
 use crate::raw;
 use std::{error, fmt};
 
@@ -100,9 +100,8 @@ impl Event {
     ///
     /// The same, and `Memory` if memory is refused.
     pub fn try_encode(&self, parser: &ExtendedParser) -> Result<Vec<u8>, EncodeEventError> {
-        // The library's number 0 is for no button.
-        if matches!(self, Event::Mouse(report) if report.button == Some(0)) {
-            return Err(EncodeEventError::NoText);
+        if let Event::Mouse(report) = self {
+            report.check()?;
         }
         let (event, text) = (self.raw(), self.bytes());
         let parser = parser.locked();
@@ -122,12 +121,10 @@ impl Event {
             }
         };
         match sent(call)? {
-            (raw::ENCODED_TEXT, bytes) => Ok(bytes),
-            (raw::ENCODED_NO_TEXT, _) => Err(EncodeEventError::NoText),
-            (raw::ENCODED_TOO_LONG, _) => Err(EncodeEventError::TooLong),
-            // The only numbers of an event that may name nothing are those of the modifiers.
-            (raw::ENCODED_BAD_NUMBER, _) => Err(EncodeEventError::UnnamedBits),
-            (raw::ENCODED_REFUSED_MEMORY, _) => Err(EncodeEventError::Memory),
+            (raw::STATUS_OK, bytes) => Ok(bytes),
+            (raw::STATUS_NO_TEXT, _) => Err(EncodeEventError::NoText),
+            (raw::STATUS_TOO_LONG, _) => Err(EncodeEventError::TooLong),
+            (raw::STATUS_NO_MEMORY, _) => Err(EncodeEventError::Memory),
             _ => unreachable!("{FAULT}"),
         }
     }
@@ -148,23 +145,15 @@ impl Event {
     }
 
     // The event as the library has it. Its bytes are passed beside it.
-    fn raw(&self) -> raw::ExtendedEvent {
-        let none = raw::ExtendedEvent::default();
+    fn raw(&self) -> raw::Event {
+        let none = raw::Event::default();
         match self {
-            Event::Key(report) => raw::ExtendedEvent {
-                kind: raw::KIND_KEY,
-                report: report.raw(),
-                ..none
-            },
-            Event::Mouse(report) => raw::ExtendedEvent {
-                kind: raw::KIND_MOUSE,
-                mouse: report.raw(),
-                ..none
-            },
+            Event::Key(report) => report.raw(),
+            Event::Mouse(report) => report.raw(),
             Event::Paste(_) => of_kind(raw::KIND_PASTE),
             Event::FocusGained => of_kind(raw::KIND_FOCUS_GAINED),
             Event::FocusLost => of_kind(raw::KIND_FOCUS_LOST),
-            Event::CursorPosition { row, column } => raw::ExtendedEvent {
+            Event::CursorPosition { row, column } => raw::Event {
                 kind: raw::KIND_CURSOR_POSITION,
                 row: *row,
                 column: *column,
@@ -175,7 +164,7 @@ impl Event {
                 columns,
                 height,
                 width,
-            } => raw::ExtendedEvent {
+            } => raw::Event {
                 kind: raw::KIND_RESIZE,
                 rows: *rows,
                 columns: *columns,
@@ -183,7 +172,7 @@ impl Event {
                 width: *width,
                 ..none
             },
-            Event::KeyboardFlags(flags) => raw::ExtendedEvent {
+            Event::KeyboardFlags(flags) => raw::Event {
                 kind: raw::KIND_KEYBOARD_FLAGS,
                 flags: *flags,
                 ..none
@@ -192,12 +181,12 @@ impl Event {
             Event::Osc(_) => of_kind(raw::KIND_OSC),
             Event::Dcs(_) => of_kind(raw::KIND_DCS),
             Event::Apc(_) => of_kind(raw::KIND_APC),
-            Event::StringPart { kind, .. } => raw::ExtendedEvent {
-                flags: kind.number(),
+            Event::StringPart { kind, .. } => raw::Event {
+                string_kind: kind.number(),
                 ..of_kind(raw::KIND_STRING_PART)
             },
-            Event::StringCut { kind, .. } => raw::ExtendedEvent {
-                flags: kind.number(),
+            Event::StringCut { kind, .. } => raw::Event {
+                string_kind: kind.number(),
                 ..of_kind(raw::KIND_STRING_CUT)
             },
         }
@@ -205,18 +194,31 @@ impl Event {
 }
 
 // An event of which only the kind is told.
-fn of_kind(kind: u8) -> raw::ExtendedEvent {
-    raw::ExtendedEvent {
+fn of_kind(kind: u8) -> raw::Event {
+    raw::Event {
         kind,
-        ..raw::ExtendedEvent::default()
+        ..raw::Event::default()
     }
 }
 
 impl MouseReport {
+    // No parser makes a report of a button 0, nor of modifiers that Kitty's protocol hasn't.
+    fn check(&self) -> Result<(), EncodeEventError> {
+        let (_, is_whole) = self.modifiers.kitty();
+        if !Modifiers::all().contains(self.modifiers) {
+            Err(EncodeEventError::UnnamedBits)
+        } else if self.button == Some(0) || !is_whole {
+            Err(EncodeEventError::NoText)
+        } else {
+            Ok(())
+        }
+    }
+
     // The report as the library has it. No button has the number 0.
-    fn raw(&self) -> raw::MouseReport {
-        raw::MouseReport {
-            kind: match self.kind {
+    fn raw(&self) -> raw::Event {
+        raw::Event {
+            kind: raw::KIND_MOUSE,
+            mouse_kind: match self.kind {
                 MouseKind::Press => raw::MOUSE_KIND_PRESS,
                 MouseKind::Release => raw::MOUSE_KIND_RELEASE,
                 MouseKind::Drag => raw::MOUSE_KIND_DRAG,
@@ -225,9 +227,10 @@ impl MouseReport {
             },
             button: self.button.unwrap_or(0),
             buttons: self.buttons.bits(),
-            modifiers: self.modifiers.bits(),
+            modifiers: self.modifiers.kitty().0,
             x: self.x,
             y: self.y,
+            ..raw::Event::default()
         }
     }
 }
@@ -328,9 +331,9 @@ pub fn encode_device_attributes(numbers: &[u16]) -> Result<Vec<u8>, EncodeEventE
 // The bytes of a call that gives a reply.
 fn written(call: impl Fn(&mut [u8], &mut usize) -> u32) -> Result<Vec<u8>, EncodeEventError> {
     match sent(call)? {
-        (raw::ENCODED_TEXT, bytes) => Ok(bytes),
-        (raw::ENCODED_TOO_LONG, _) => Err(EncodeEventError::TooLong),
-        (raw::ENCODED_REFUSED_MEMORY, _) => Err(EncodeEventError::Memory),
+        (raw::STATUS_OK, bytes) => Ok(bytes),
+        (raw::STATUS_TOO_LONG, _) => Err(EncodeEventError::TooLong),
+        (raw::STATUS_NO_MEMORY, _) => Err(EncodeEventError::Memory),
         _ => unreachable!("{FAULT}"),
     }
 }

@@ -200,16 +200,16 @@ impl KeyCode {
             )
         };
         match (answer, self) {
-            (raw::ENCODED_TEXT, _) => {
+            (raw::STATUS_OK, _) => {
                 let bytes = room.get(..len).expect(FAULT);
                 copied(str::from_utf8(bytes).expect(FAULT))
             }
-            (raw::ENCODED_REFUSED_KEY, KeyCode::Function(number)) => {
+            (raw::STATUS_REFUSED_KEY, KeyCode::Function(number)) => {
                 Err(EncodeError::UnhandledFunctionKey(*number))
             }
             // The only number here that may name nothing is that of a set.
-            (raw::ENCODED_BAD_NUMBER, _) => Err(EncodeError::UnnamedBits),
-            (raw::ENCODED_REFUSED_MEMORY, _) => Err(EncodeError::Memory),
+            (raw::STATUS_BAD_NUMBER, _) => Err(EncodeError::UnnamedBits),
+            (raw::STATUS_NO_MEMORY, _) => Err(EncodeError::Memory),
             _ => unreachable!("{FAULT}"),
         }
     }

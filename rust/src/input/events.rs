@@ -1,5 +1,6 @@
 // What happens at a terminal.
 use super::{AllocError, KeyCode, Modifiers, MouseButtons, FAULT};
+use crate::library_parser::LibraryEvent;
 use crate::raw;
 
 /// A key press: which key, and the modifiers held with it.
@@ -119,24 +120,18 @@ pub enum InputEvent {
     Wake,
 }
 
-// The modifiers of an event of the library.
-fn modifiers_of(event: &raw::Event) -> Modifiers {
-    Modifiers::from_bits(event.modifiers).expect(FAULT)
-}
-
 impl KeyEvent {
     // The key of an event of the library.
     pub(crate) fn of(event: &raw::Event) -> KeyEvent {
         KeyEvent {
             key: KeyCode::of(event.key, event.detail).expect(FAULT),
-            modifiers: modifiers_of(event),
+            modifiers: Modifiers::of_kitty(event.modifiers),
         }
     }
 }
 
-impl InputEvent {
-    // An event of the library. `text` returns the bytes of a paste, of which there are so many.
-    pub(crate) fn of(
+impl LibraryEvent for InputEvent {
+    fn of(
         event: &raw::Event,
         text: impl FnOnce(usize) -> Result<Vec<u8>, AllocError>,
     ) -> Result<InputEvent, AllocError> {
@@ -146,10 +141,10 @@ impl InputEvent {
                 x: event.x,
                 y: event.y,
                 mouse_buttons: MouseButtons::from_bits(event.buttons).expect(FAULT),
-                modifiers: modifiers_of(event),
+                modifiers: Modifiers::of_kitty(event.modifiers),
             }),
             raw::KIND_PASTE => {
-                InputEvent::Paste(String::from_utf8(text(event.paste_len)?).expect(FAULT))
+                InputEvent::Paste(String::from_utf8(text(event.text_len)?).expect(FAULT))
             }
             _ => unreachable!("{FAULT}"),
         })

@@ -1,4 +1,5 @@
 // Sets of flags, each a number whose bits have names.
+use super::FAULT;
 use std::ops::{
     BitAnd, BitAndAssign, BitOr, BitOrAssign, BitXor, BitXorAssign, Not, Sub, SubAssign,
 };
@@ -666,6 +667,25 @@ impl Modifiers {
         u8::from(self.contains(Modifiers::SHIFT))
             + 2 * u8::from(self.contains(Modifiers::ALT))
             + 4 * u8::from(self.contains(Modifiers::CTRL))
+    }
+
+    // The modifiers that have a bit in Kitty's protocol, which is half of theirs.
+    const OF_KITTY: Modifiers = Modifiers::SHIFT
+        .union(Modifiers::ALT)
+        .union(Modifiers::CTRL)
+        .union(Modifiers::SUPER);
+
+    // The set of Kitty's bits, of which the library has these alone.
+    pub(crate) fn of_kitty(bits: u8) -> Modifiers {
+        let set = Modifiers(u16::from(bits) << 1);
+        assert!(Modifiers::OF_KITTY.contains(set), "{FAULT}");
+        set
+    }
+
+    // Kitty's bits of the set, and whether it has no other modifier.
+    pub(crate) fn kitty(self) -> (u8, bool) {
+        let set = self.intersection(Modifiers::OF_KITTY);
+        ((set.0 >> 1) as u8, set == self)
     }
 }
 

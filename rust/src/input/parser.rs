@@ -1,7 +1,7 @@
 // The parser: bytes of a terminal to events.
 use super::{Completions, EntryBytes, InputEvent, KeyEvent, Policy, FAULT};
-use crate::library_parser::{Calls, LibraryParser, RawParser};
-use crate::{raw, table};
+use crate::library_parser::LibraryParser;
+use crate::raw;
 use std::time::{Duration, Instant};
 use std::{error, fmt};
 
@@ -136,44 +136,7 @@ impl Waiting {
 /// assert_eq!(parser.parse_as_vec(b"A", true).len(), 1);
 /// ```
 pub struct InputParser {
-    parser: LibraryParser<raw::Parser>,
-}
-
-// SAFETY: these are the library's calls for a `hed_parser`.
-unsafe impl RawParser for raw::Parser {
-    type RawEvent = raw::Event;
-    type Event = InputEvent;
-
-    const CALLS: Calls<raw::Parser, raw::Event> = Calls {
-        free: raw::hed_parser_free,
-        feed: raw::hed_parser_feed,
-        next: raw::hed_parser_next,
-        text: raw::hed_parser_paste,
-        drop_text: raw::hed_parser_drop_paste,
-        waiting_len: raw::hed_parser_waiting_len,
-        waiting: raw::hed_parser_waiting,
-        flush_escape: raw::hed_parser_flush_escape,
-        is_paste_open: raw::hed_parser_is_paste_open,
-        take_paste: raw::hed_parser_take_paste,
-        skip_paste: raw::hed_parser_skip_paste,
-        end_paste: raw::hed_parser_end_paste,
-        set_policy: raw::hed_parser_set_policy,
-        timeout: raw::hed_parser_timeout,
-        expire: raw::hed_parser_expire,
-        reset: raw::hed_parser_reset,
-        shrink_to: raw::hed_parser_shrink_to,
-    };
-
-    fn is_paste(event: &raw::Event) -> bool {
-        event.kind == raw::KIND_PASTE
-    }
-
-    fn event(
-        event: &raw::Event,
-        text: impl FnOnce(usize) -> Result<Vec<u8>, AllocError>,
-    ) -> Result<InputEvent, AllocError> {
-        InputEvent::of(event, text)
-    }
+    parser: LibraryParser<InputEvent>,
 }
 
 impl InputParser {
@@ -206,11 +169,7 @@ impl InputParser {
     ///
     /// If memory is refused, for the parser or for the table of the first. Call again.
     pub fn try_new() -> Result<InputParser, AllocError> {
-        let mut raw = raw::Parser::NONE;
-        // SAFETY: `raw` is no parser yet, which the call allows. `idle` is another one, which this
-        // thread alone has.
-        table::share(|idle| unsafe { raw::hed_parser_init_sharing(&mut raw, idle) })?;
-        let parser = LibraryParser::of(raw);
+        let parser = LibraryParser::new(raw::DIALECT_TERMWIZ)?;
         Ok(InputParser { parser })
     }
 
@@ -248,7 +207,8 @@ impl InputParser {
     }
 
     /// Consumes the item at the front of the buffer, and returns its event. Returns `None` if the
-    /// bytes are no event yet. Pass `maybe_more` as to [`InputParser::parse`].
+    /// bytes are no event yet. Pass `maybe_more` as to [`InputParser::parse`]. Once it was false, what is
+    /// buffered is flushed until this returns `None`, also if bytes are fed meanwhile: they follow.
     ///
     /// ```
     /// use hedrugal::input::{InputEvent, InputParser, KeyCode};
@@ -549,7 +509,7 @@ impl InputParser {
     ///
     /// # Errors
     ///
-    /// If memory is refused. The limits are those from before: call again.
+    /// None: it asks for no memory.
     pub fn set_policy(&mut self, policy: Policy) -> Result<(), AllocError> {
         self.parser.set_policy(&policy)
     }
@@ -558,9 +518,9 @@ impl InputParser {
     /// call [`InputParser::expire`].
     ///
     /// Call it before each wait, once all events are emitted, with the time of that moment. It notes
-    /// the time, and what was buffered since the last note. If memory is refused, here or before for
-    /// an event, it returns zero, and [`InputParser::expire`] says so or goes on. A program whose
-    /// reads come from a thread:
+    /// the time, and what was buffered since the last note. If memory is refused for an event, it
+    /// returns zero, and [`InputParser::expire`] says so or goes on. A program whose reads come from
+    /// a thread:
     ///
     /// ```
     /// use hedrugal::input::InputParser;
@@ -698,7 +658,7 @@ impl InputParser {
         // many bytes, and `event` is another value.
         let len = unsafe {
             raw::hed_parser_entry(
-                &mut *self.parser.locked(),
+                &*self.parser.locked(),
                 place,
                 bytes.as_mut_ptr(),
                 bytes.len(),
@@ -736,8 +696,8 @@ impl InputParser {
     pub fn completions(&self) -> Completions {
         let mut found = raw::Entries::default();
         // SAFETY: `raw` is a parser, which this thread alone has, and `found` another value.
-        let told = unsafe { raw::hed_parser_completions(&mut *self.parser.locked(), &mut found) };
-        assert!(told, "{FAULT}");
+        let status = unsafe { raw::hed_parser_completions(&*self.parser.locked(), &mut found) };
+        assert_eq!(status, raw::STATUS_OK, "{FAULT}");
         Completions {
             entries: found.first..found.first + found.count,
             with_alt: found.with_alt,

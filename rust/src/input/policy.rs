@@ -6,7 +6,7 @@ use std::time::Duration;
 /// How long each kind of bytes may stay buffered, as [`InputParser::timeout`] and
 /// [`ExtendedParser::timeout`] count it. `None` is forever.
 ///
-/// Of a limit whole milliseconds count: at least one, and at most `i32::MAX` of them.
+/// Of a limit whole milliseconds count: at least one, and at most 2147418111 of them.
 ///
 /// [`InputParser::timeout`]: super::InputParser::timeout
 /// [`ExtendedParser::timeout`]: crate::extended::ExtendedParser::timeout
@@ -33,7 +33,7 @@ pub struct Policy {
     /// A longer beginning of a sequence, since its first byte came. Then its bytes are keys.
     pub sequence: Option<Duration>,
     /// A string without its end, since its first byte came, and a millisecond more for each byte
-    /// that is buffered. Only the extended parser reads strings.
+    /// that is buffered. An [`InputParser`](super::InputParser) reads no strings.
     pub string: Option<Duration>,
     /// The beginning of a character, since its first byte came.
     pub character: Option<Duration>,
@@ -82,7 +82,7 @@ impl Policy {
 fn raw_limit(limit: Option<Duration>) -> i32 {
     match limit_millis(limit) {
         0 => 1,
-        millis => millis,
+        millis => millis.min(raw::LIMIT_MOST),
     }
 }
 

@@ -51,8 +51,8 @@ pub fn try_encode_paste(text: &[u8], bracketed: bool) -> Result<String, AllocErr
         }
     };
     match sent(call)? {
-        (raw::ENCODED_TEXT, bytes) => Ok(String::from_utf8(bytes).expect(FAULT)),
-        (raw::ENCODED_REFUSED_MEMORY, _) => Err(AllocError),
+        (raw::STATUS_OK, bytes) => Ok(String::from_utf8(bytes).expect(FAULT)),
+        (raw::STATUS_NO_MEMORY, _) => Err(AllocError),
         _ => unreachable!("{FAULT}"),
     }
 }
@@ -264,10 +264,13 @@ impl MouseReport {
         tracking: MouseTracking,
         encoding: MouseEncoding,
     ) -> Result<Vec<u8>, MouseError> {
+        if !Modifiers::all().contains(self.modifiers) {
+            return Err(MouseError::UnnamedBits);
+        }
         let report = raw::SentMouse {
             x: self.x,
             y: self.y,
-            modifiers: self.modifiers.bits(),
+            modifiers: self.modifiers.kitty().0,
             button: self.button as u8,
         };
         let call = |out: &mut [u8], len: &mut usize| {
@@ -285,11 +288,9 @@ impl MouseReport {
             }
         };
         match sent(call)? {
-            (raw::ENCODED_TEXT, bytes) => Ok(bytes),
-            (raw::ENCODED_TOO_FAR, _) => Err(MouseError::TooFar),
-            // The only number of a report that may name nothing is that of the modifiers.
-            (raw::ENCODED_BAD_NUMBER, _) => Err(MouseError::UnnamedBits),
-            (raw::ENCODED_REFUSED_MEMORY, _) => Err(MouseError::Memory),
+            (raw::STATUS_OK, bytes) => Ok(bytes),
+            (raw::STATUS_TOO_FAR, _) => Err(MouseError::TooFar),
+            (raw::STATUS_NO_MEMORY, _) => Err(MouseError::Memory),
             _ => unreachable!("{FAULT}"),
         }
     }

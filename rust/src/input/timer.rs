@@ -1,5 +1,5 @@
 // A timer for a limit in time of a program's own.
-use super::FAULT;
+use super::{granted, FAULT};
 use crate::raw;
 use crate::times::{limit_millis, wait_of, Clock};
 use std::time::{Duration, Instant};
@@ -122,8 +122,8 @@ impl Timer {
             empty: seen.empty,
         };
         // SAFETY: the pointers lead to values of their types that live through the call.
-        let is_noted = unsafe { raw::hed_timer_note(&mut self.raw, now, &seen) };
-        assert!(is_noted, "{FAULT}");
+        let noted = granted(unsafe { raw::hed_timer_note(&mut self.raw, now, &seen) });
+        noted.expect(FAULT);
     }
 
     /// Returns how long what is pending may still wait: [`Duration::ZERO`] if it is due, and `None`

@@ -140,7 +140,7 @@ impl EventDecoder {
     ///
     /// # Errors
     ///
-    /// With `OutOfMemory`. The limits are those from before.
+    /// None: it asks for no memory.
     pub fn set_policy(&mut self, policy: Policy) -> io::Result<()> {
         self.events.set_policy(policy).map_err(refused)
     }

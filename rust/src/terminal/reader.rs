@@ -324,7 +324,7 @@ impl Terminal {
     ///
     /// # Errors
     ///
-    /// With `OutOfMemory`. The limits are those from before.
+    /// None: it asks for no memory.
     pub fn set_policy(&mut self, policy: Policy) -> io::Result<()> {
         self.events.set_policy(policy).map_err(refused)
     }

@@ -1,4 +1,4 @@
-// Texts that the extended parser reads as the plain reader does.
+// Texts that `ExtendedParser` reads as the plain reader does.
 use crate::draws::Draws;
 use crate::examples::{Step, BOTH, LAST, MORE};
 use crate::generated::any_text;

@@ -1,4 +1,4 @@
-// The extended parser, by the crate's public calls alone.
+// `ExtendedParser`, by the crate's public calls alone.
 mod bindings;
 mod compared;
 mod cuts;

@@ -1,4 +1,4 @@
-// The extended parser on worked examples.
+// `ExtendedParser` on worked examples.
 use crate::compared::Comparison;
 use crate::cuts::check_cuts;
 use crate::examples::{

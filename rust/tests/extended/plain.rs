@@ -1,5 +1,5 @@
 // A slow reader. It follows docs/EXTENDED.md sentence by sentence and by trying everything, and
-// shares nothing with the extended parser but the types of events. What the port knows it asks the
+// shares nothing with `ExtendedParser` but the types of events. What the port knows it asks the
 // port's plain reader. A number in a comment is that of the page's sentence.
 pub mod chords;
 mod forms;

@@ -122,6 +122,26 @@ fn flushes() {
     }
 }
 
+// Bytes that are fed in the middle of a flush follow what it tells, and aren't read with that.
+#[test]
+fn feeds_within_a_flush() {
+    let mut parser = InputParser::new();
+    for _ in 0..2 {
+        parser.feed(b"\x1b[1;5");
+        let mut events = Vec::from_iter(parser.next_event(false));
+        parser.feed(b"A");
+        parser.feed(b"\x1b");
+        events.extend(std::iter::from_fn(|| parser.next_event(true)));
+        assert_eq!(
+            lines(&events),
+            "key U+005B ALT,key U+0031 NONE,key U+003B NONE,key U+0035 NONE,key U+0041 NONE"
+        );
+        check_rest(&parser, b"\x1b", Waiting::Escape);
+        assert_eq!(parser.timeout(at(0)), Policy::usual().escape);
+        assert!(parser.flush_escape().is_some());
+    }
+}
+
 #[test]
 fn flushes_escapes() {
     let mut parser = InputParser::new();
@@ -495,7 +515,9 @@ fn expires_by_each_limit() {
     }
 }
 
-// Of a limit whole milliseconds count: at least one, and at most `i32::MAX` of them.
+// Of a limit whole milliseconds count: at least one, and at most so many.
+const LIMIT_MOST: u64 = 2_147_418_111;
+
 #[test]
 fn rounds_limits() {
     let mut parser = InputParser::new();
@@ -504,8 +526,9 @@ fn rounds_limits() {
         (Duration::ZERO, 1),
         (Duration::from_micros(999), 1),
         (Duration::from_micros(1999), 1),
-        (Duration::from_millis(i32::MAX as u64), i32::MAX as u64),
-        (Duration::MAX, i32::MAX as u64),
+        (Duration::from_millis(LIMIT_MOST), LIMIT_MOST),
+        (Duration::from_millis(LIMIT_MOST + 1), LIMIT_MOST),
+        (Duration::MAX, LIMIT_MOST),
     ] {
         let policy = Policy {
             escape: Some(limit),
