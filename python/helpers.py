@@ -105,7 +105,7 @@ def events_in_time(parser, reads, step=None):
         due = None if timeout is None else now + round(1000 * (step or timeout))
         if reads and (due is None or reads[0][0] <= due):
             now, data = reads.pop(0)
-            events = parser.parse(data)
+            events = parser.parse(data, now=now / 1000)
         elif due is not None:
             now = due
             events = parser.expire(now / 1000)

@@ -7,6 +7,7 @@ import weakref
 
 import pytest
 
+import hedrugal
 from hedrugal import (
     Bindings,
     Bound,
@@ -223,7 +224,7 @@ def test_memory_that_is_refused_leaves_them_unchanged(monkeypatch):
             return getattr(library, name)
 
         def hed_bindings_bind(self, *_):
-            return extended._BOUND_NO_MEMORY
+            return hedrugal._STATUS_NO_MEMORY
 
     library = extended._library
     monkeypatch.setattr(extended, "_library", Refusing())

@@ -72,7 +72,7 @@ def test_types(words):
 @pytest.mark.parametrize(
     "text, wanted",
     listings()[3:],
-    ids=["key map", "extended parser", "replies", "key report", "presses", "names", "bindings"],
+    ids=["key map", "key releases", "replies", "key report", "presses", "names", "bindings"],
 )
 def test_listings(text, wanted):
     assert_prints(text, wanted)

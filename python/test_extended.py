@@ -567,7 +567,7 @@ def read(parser, pieces):
     events = [event for piece in pieces for event in parser.parse(piece)]
     events += parser.flush()
     assert_rest(parser, 0, Waiting.NOTHING)
-    assert parser._calls.text(parser._raw, b"", 0) == 0
+    assert hedrugal._library.hed_parser_text(parser._raw, b"", 0) == 0
     return events
 
 
@@ -767,7 +767,8 @@ def test_wrong_readings(parser):
         assert parser.reading == before
     for wrong in ((2, 0, 0), (0, 2, 0), (0, 0, 2)):
         raw = extended._RawReading(*wrong, False, 0)
-        assert not hedrugal._library.hed_extended_set_reading(parser._raw, raw)
+        answer = hedrugal._library.hed_parser_set_reading(parser._raw, raw)
+        assert answer == hedrugal._STATUS_BAD_NUMBER
         assert parser.reading == before
 
 
@@ -907,25 +908,23 @@ def test_wrong_dialects():
     for wrong in (None, 0, "EXTENDED", KeyEventKind.PRESS):
         with pytest.raises(TypeError, match="^a member of Dialect is required, not"):
             ExtendedParser(wrong)
-    raw = extended._RawExtended()
-    assert not hedrugal._library.hed_extended_init(raw, 2)
+    raw = hedrugal._RawParser()
+    assert hedrugal._library.hed_parser_init(raw, 2) == hedrugal._STATUS_BAD_NUMBER
     assert not raw.live
 
 
 def test_unknown_numbers(parser):
-    report = extended._RawReport(kind=4, key=1, detail=97)
-    mouse = extended._RawMouse(kind=6)
     for fields in (
         {"kind": 0},
         {"kind": 14},
-        {"kind": 15, "flags": 3},
+        {"kind": 15, "string_kind": 3},
         {"kind": 4},
         {"kind": 17},
-        {"kind": 1, "report": report},
-        {"kind": 2, "mouse": mouse},
+        {"kind": 1, "key_event_kind": 4, "key": 1, "detail": 97},
+        {"kind": 2, "mouse_kind": 6},
         {"kind": 10, "text_len": 5},
     ):
-        parser._front = extended._RawExtendedEvent(**fields)
+        parser._front = hedrugal._RawEvent(**fields)
         with pytest.raises(RuntimeError):
             parser._front_event()
 
@@ -1056,12 +1055,12 @@ def test_other_calls(parser):
 
 def test_open_strings(parser):
     for rest, cut in OPEN_STRINGS:
-        assert parser.parse(rest) == []
+        assert parser.parse(rest, now=7) == []
         assert_rest(parser, len(rest), Waiting.STRING)
         assert parser.flush_escape() is None and parser.end_paste() is None
         assert (parser.timeout(7), parser.flush()) == (5 + len(rest) / 1000, [cut])
         escape = [KeyReport(KeyCode.ESCAPE)]
-        assert parser.parse(b"\x1b" + rest) == escape
+        assert parser.parse(b"\x1b" + rest, now=8) == escape
         assert parser.timeout(8) == 5 + len(rest) / 1000
         assert parser.expire(12.999 + len(rest) / 1000) == []
         assert parser.expire(13 + len(rest) / 1000) == [cut]
@@ -1121,9 +1120,7 @@ def test_a_character(parser):
 def check_report(parser, data):
     parser.feed(data)
     event = parser.next_event(False)
-    wanted = extended._key_report(
-        *extended._report_fields_of(parser._front, extended._REPORT_AT), ""
-    )
+    wanted = extended._key_report(*extended._report_fields_of(parser._front), "")
     assert event == wanted and parser.next_event(False) is None
     return event
 
@@ -1294,7 +1291,7 @@ def test_refused_memory():
         MemoryError
     ):
         KeyReport("a").encode(ALL)
-    with mock.patch.object(hedrugal._library, "hed_encode_kitty", lambda *_: 6), pytest.raises(
+    with mock.patch.object(hedrugal._library, "hed_encode_kitty", lambda *_: 99), pytest.raises(
         RuntimeError
     ):
         KeyReport("a").encode(ALL)

@@ -436,7 +436,7 @@ def test_insert():
 
 
 def test_new():
-    with mock.patch.object(hedrugal._library, "hed_keymap_init", lambda raw: False), pytest.raises(
+    with mock.patch.object(hedrugal._library, "hed_keymap_init", lambda raw: 2), pytest.raises(
         MemoryError
     ):
         KeyMap()
@@ -478,7 +478,7 @@ def test_refused_delete(keys, call, at):
 
     def refuse(raw, *words):
         made.append(raw)
-        return len(made) <= at and of_library(raw, *words)
+        return of_library(raw, *words) if len(made) <= at else hedrugal._STATUS_NO_MEMORY
 
     def note(raw):
         freed.append(raw)

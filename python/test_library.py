@@ -91,16 +91,17 @@ def test_keys():
     } == keys_of_header()
 
 
-@pytest.mark.parametrize("module, least", [(hedrugal, 29), (extended, 20)])
+@pytest.mark.parametrize("module, least", [(hedrugal, 43), (extended, 33), (replies, 10)])
 def test_other_numbers(module, least):
     """So have the modules' constants for the numbers that no enum has."""
     found = {
         name: number
         for name, number in vars(module).items()
-        if re.match("_(KIND|NEXT|ENCODED|KEY|FOUND|NO)_[A-Z]", name)
+        if re.match("_((KIND|STATUS|KEY|OUTCOME|REPLY)_[A-Z]|NO_CODE)", name)
     }
     known = constants("HED_")
-    assert found == {name: known[name[1:]] for name in found} and len(found) >= least
+    wanted = {name: known[re.sub("^_(STATUS_)?", "", name)] for name in found}
+    assert found == wanted and len(found) >= least
 
 
 def test_key_names():
@@ -115,10 +116,10 @@ def test_key_names():
 
 def test_layouts():
     parser, event, modes = hedrugal._RawParser, hedrugal._RawEvent, hedrugal._RawModes
-    assert [ctypes.sizeof(it) for it in (parser, event, modes)] == [24, 24, 16]
-    offsets = [event.modifiers.offset, event.y.offset, event.detail.offset, event.paste_len.offset]
-    assert offsets == [2, 8, 12, 16]
-    assert [parser.expiring.offset, parser.state.offset, parser.timing.offset] == [4, 8, 16]
+    assert [ctypes.sizeof(it) for it in (parser, event, modes)] == [16, 48, 16]
+    assert parser.state.offset == 8
+    offsets = [event.string_kind.offset, event.key.offset, event.width.offset, event.detail.offset]
+    assert offsets + [event.base.offset, event.text_len.offset] == [7, 8, 24, 28, 36, 40]
     assert [modes.encoding.offset, modes.has_modify_other_keys.offset] == [8, 12]
     policy = hedrugal._RawPolicy
     assert [ctypes.sizeof(policy), policy.alt_key.offset, policy.paste.offset] == [24, 4, 20]
@@ -131,8 +132,9 @@ def test_layouts():
         16,
         8,
     ]
-    raw = event(1, 2, 3, 4, 5, 6, 7, 8)
-    assert hedrugal._fields_of(raw) == (1, 2, 3, 4, 5, 6, 7, 8)
+    raw = event(kind=1, modifiers=2, key_event_kind=3, key=4, detail=5, shifted=6, base=7)
+    assert hedrugal._key_fields_of(raw) == (1, 2, 4, 5)
+    assert extended._report_fields_of(raw) == (2, 3, 4, 5, 6, 7)
 
 
 def test_calls():
@@ -149,31 +151,17 @@ def test_version():
     assert f'#define HED_VERSION "{hedrugal.__version__}"\n' in read("c/hedrugal.h")
 
 
-def test_layouts_of_the_extended_parser():
-    parser, report, event = extended._RawExtended, extended._RawReport, extended._RawExtendedEvent
-    assert [ctypes.sizeof(it) for it in (parser, report, event)] == [24, 16, 56]
-    assert [parser.expiring.offset, parser.state.offset, parser.timing.offset] == [4, 8, 16]
-    assert [report.key.offset, report.base.offset] == [2, 12]
-    offsets = [
-        event.row.offset,
-        event.width.offset,
-        event.report.offset,
-        event.mouse.offset,
-        event.text_len.offset,
-    ]
-    assert offsets == [2, 12, 16, 32, 48]
-    mouse = extended._RawMouse
-    assert [ctypes.sizeof(mouse), mouse.buttons.offset, mouse.modifiers.offset] == [10, 2, 4]
+def test_layouts_of_readings_and_outcomes():
     reading = extended._RawReading
     offsets = [ctypes.sizeof(reading), reading.erase.offset, reading.newline.offset]
     assert offsets + [reading.x10_mouse.offset, reading.questions.offset] == [16, 4, 8, 12, 13]
-    raw = event(report=report(1, 2, 3, 4, 5, 6))
-    assert extended._report_fields_of(raw, extended._REPORT_AT) == (1, 2, 3, 4, 5, 6)
+    outcome = extended._RawOutcome
+    assert [ctypes.sizeof(outcome), outcome.press.offset, outcome.kind.offset] == [32, 16, 24]
 
 
 def test_layout_of_mouse_reports_that_are_sent():
     raw = sending._RawSentMouse
-    assert (ctypes.sizeof(raw), raw.modifiers.offset, raw.button.offset) == (8, 4, 6)
+    assert (ctypes.sizeof(raw), raw.modifiers.offset, raw.button.offset) == (6, 4, 5)
 
 
 def test_layout_of_replies():

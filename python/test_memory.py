@@ -5,7 +5,7 @@ from unittest import mock
 import pytest
 
 import hedrugal
-from hedrugal import InputParser, KeyCode, Modifiers, ParseError, Paste, Policy, Waiting
+from hedrugal import KeyCode, Modifiers, ParseError, Paste, Waiting
 from helpers import LIMITS, STREAM, assert_prints, assert_rest, needs_limits
 
 REFUSED_FEED = (
@@ -40,12 +40,11 @@ data = [b"\\x1b[200~" + body.encode(), b"\\x1b[201~ab"]
 refusals = grants = 0
 for more in range(0, 64, 2):
     parser = InputParser()
-    assert parser.parse(data[0]) == []
+    assert parser.parse(data[0], now=0) == []
     if how == "end":
         ask = lambda: [parser.end_paste()]
     elif how == "expire":
         parser.policy = Policy(paste=10)
-        parser.timeout(0)
         ask = lambda: parser.expire(10)
     elif how == "take":
         ask = lambda: [Paste(parser.take_paste())]
@@ -174,16 +173,16 @@ def test_refused_parsers(make, key):
     """The table is refused memory, and the next parser makes it. Or a parser is refused memory,
     once the table is there."""
     with mock.patch.object(hedrugal, "_idle", hedrugal._RawParser()):
-        with mock.patch.object(
-            hedrugal._library, "hed_parser_init", lambda raw: False
-        ), pytest.raises(MemoryError):
+        with mock.patch.object(hedrugal._library, "hed_parser_init", lambda *_: 2), pytest.raises(
+            MemoryError
+        ):
             make()
         with make() as parser:
             assert hedrugal._idle.live
             hedrugal._library.hed_parser_free(hedrugal._idle)
             assert parser.parse(b"q") == [key("q")]
-    init = "hed_parser_init_sharing" if make is InputParser else "hed_extended_init_sharing_parser"
-    with mock.patch.object(hedrugal._library, init, lambda *_: False), pytest.raises(MemoryError):
+    init = "hed_parser_init_sharing"
+    with mock.patch.object(hedrugal._library, init, lambda *_: 2), pytest.raises(MemoryError):
         make()
 
 
@@ -324,7 +323,7 @@ def test_what_is_due_goes_on(parser, key):
             (lambda: parser.expire(0), []),
             (lambda: parser.parse(b"q"), [key("q")]),
         ]:
-            assert [parser.timeout(0), *parser.parse(b"\x1b[1;5")] == [None]
+            assert parser.parse(b"\x1b[1;5", now=5) == []
             assert parser.timeout(5) == 1
             grant = refuse_after(parser, count)
             with pytest.raises(MemoryError) as caught:
@@ -341,29 +340,11 @@ def test_what_was_refused_is_due(parser, key):
     """So are the events behind it."""
     grant = refuse_after(parser, 1)
     with pytest.raises(ParseError):
-        parser.parse(b"ab\x1b[200~c\x1b[201~d\x1b")
+        parser.parse(b"ab\x1b[200~c\x1b[201~d\x1b", now=0)
     grant()
     assert parser.timeout(0) == 0
     assert parser.expire(0) == [key("a"), key("b"), Paste("c"), key("d")]
     assert (parser.timeout(0), parser.expire(1)) == (0.05, [key(KeyCode.ESCAPE)])
-
-
-def test_time_without_memory(parser, key):
-    """A refused policy is not set. A timer that is refused is due, and nothing is lost."""
-    assert parser.parse(b"\x1b") == []
-    calls = parser._calls
-    parser._calls = calls._replace(
-        set_policy=lambda *_: False,
-        timeout=lambda *_: 0,
-        expire=lambda *_: hedrugal._NEXT_NO_MEMORY,
-    )
-    with pytest.raises(MemoryError):
-        parser.policy = Policy(escape=1)
-    with pytest.raises(MemoryError):
-        parser.expire(0)
-    assert (parser.timeout(0), parser.policy) == (0, Policy())
-    parser._calls = calls
-    assert (parser.timeout(0), parser.expire(0.05)) == (0.05, [key(KeyCode.ESCAPE)])
 
 
 TWO_PARSERS = """

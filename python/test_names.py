@@ -6,6 +6,7 @@ from unittest import mock
 
 import pytest
 
+import hedrugal
 from hedrugal import (
     Chord,
     EncodeError,
@@ -145,7 +146,7 @@ def test_names_are_read_back():
 
 
 def test_refused_memory():
-    no_memory = mock.Mock(return_value=extended._PRINTED_NO_MEMORY)
+    no_memory = mock.Mock(return_value=hedrugal._STATUS_NO_MEMORY)
     chord = Chord.read("a b")
     with mock.patch.object(extended._library, "hed_key_print", no_memory):
         for it in (chord, KeyPress("a")):

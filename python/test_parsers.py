@@ -1,4 +1,4 @@
-"""What both parsers read in the same way."""
+"""What InputParser and ExtendedParser read in the same way."""
 import copy
 import ctypes
 import gc
@@ -91,7 +91,7 @@ def test_pastes(parser, key):
     assert parser.parse(b"\x1b[200~\x1b[201~") == [Paste("")]
     # The library keeps no text that was copied.
     assert parser.parse(b"\x1b[200~a\x1b[201~") == [Paste("a")]
-    assert parser._calls.text(parser._raw, b"", 0) == 0
+    assert hedrugal._library.hed_parser_text(parser._raw, b"", 0) == 0
 
 
 def test_pastes_in_a_row(parser):
@@ -214,9 +214,9 @@ def test_a_long_paste(parser):
 # What stays buffered, and what becomes of it.
 
 
-def feed_rest(parser, rest, kind):
+def feed_rest(parser, rest, kind, now=None):
     assert_rest(parser, 0, Waiting.NOTHING)
-    assert parser.parse(rest) == []
+    assert parser.parse(rest, now=now) == []
     assert_rest(parser, len(rest), kind)
 
 
@@ -266,6 +266,22 @@ def test_flush_escape(parser, key):
     assert parser.flush_escape() is None
 
 
+def test_bytes_in_a_flush(parser, key):
+    """A flush goes on to its end, and bytes that come in its middle are read behind it."""
+    flushed = [key("[", Modifiers.ALT), key("A")]
+    for _ in range(2):
+        parser.feed(b"a\x1b[")
+        assert parser.next_event(False) == key("a")
+        parser.feed(b"A\x1b")
+        parser.feed(b"[B")
+        assert [*parser] == [*flushed, key(KeyCode.DOWN_ARROW)]
+        parser.feed(b"a\x1b[")
+        assert parser.next_event(False) == key("a")
+        assert parser.parse(b"A\x1b") == flushed
+        assert parser.parse(b"[B") == [key(KeyCode.DOWN_ARROW)]
+        assert_rest(parser, 0, Waiting.NOTHING)
+
+
 def test_end_paste(parser, key):
     for body, text in [
         (b"", ""),
@@ -288,7 +304,6 @@ def test_end_paste_ends_open_pastes_alone(parser):
             parser.reset()
     parser.feed(b"\x1b[200~ab\x1b[201~\x1b[200~c")
     assert parser.end_paste() is None
-    assert parser.waiting_len == 21
     assert [parser.next_event(), parser.end_paste()] == [Paste("ab"), Paste("c")]
 
 
@@ -312,6 +327,7 @@ def test_take_paste_and_skip_paste(parser, text, limit, part, held, key):
     assert parser.take_paste(limit) == part
     left = held if part else text
     assert_rest(parser, 6 + len(left), Waiting.PASTE)
+    assert parser.timeout() is None
     assert parser.skip_paste() == len(left) - len(held)
     assert parser.parse(b"\x1b[201~q") == [Paste(held.decode("utf-8", "replace")), key("q")]
 
@@ -375,7 +391,7 @@ def test_limits(parser, policy):
     parser.policy = policy or parser.policy
     for rest, kind in RESTS:
         wanted = [*parser.parse(rest, False), *filter(None, [parser.end_paste()])]
-        feed_rest(parser, rest, kind)
+        feed_rest(parser, rest, kind, 7)
         limit = limit_of(parser.policy, rest, kind)
         assert parser.timeout(7) == limit, rest
         if limit is None:
@@ -404,7 +420,8 @@ def test_time_is_read(parser, key):
 
 def test_a_clock_that_steps_back(parser, key):
     """The time that has passed counts, and no other."""
-    assert [parser.timeout(1.0), *parser.parse(b"\x1b[1")] == [None]
+    assert parser.timeout(1.0) is None
+    assert parser.parse(b"\x1b[1", now=6) == []
     for now, left in [(6, 1), (6.4, 0.6), (2, 0.6), (2.1, 0.5), (0, 0.5), (0.499, 0.001)]:
         assert parser.timeout(now) == left
         assert parser.expire(now) == []
@@ -440,20 +457,20 @@ def test_a_long_paste_that_stalls(parser, key):
 
 def test_times_are_rounded(parser):
     """Whole milliseconds count, also those that a float just misses."""
-    assert parser.parse(b"\x1b") == []
+    assert parser.parse(b"\x1b", now=8.001) == []
     for limit, left in [
         (0, 0.001),
         (0.0009, 0.001),
         (0.0019, 0.001),
         (1.001, 1.001),
         (3, 3.0),
-        (1e99, 2147483.647),
-        (math.inf, 2147483.647),
+        (1e99, 2147418.111),
+        (math.inf, 2147418.111),
     ]:
         parser.policy = Policy(escape=limit)
-        assert parser.policy.escape == limit and parser.timeout(9) == left
+        assert parser.policy.escape == limit and parser.timeout(8) == left
     parser.policy = Policy(escape=2)
-    for now, left in [(8.001, 2), (8.0019, 2), (9.001, 1), (9.999, 0.002), (1e99, 0), (0, 0)]:
+    for now, left in [(8.001, 2), (8.0019, 2), (9.001, 1), (9.999, 0.002), (1e99, 0), (0, 2)]:
         assert parser.timeout(now) == left
     assert len(parser.expire(math.inf)) == 1
 
@@ -464,11 +481,15 @@ def test_what_is_no_time(parser):
             parser.timeout(wrong)
         with pytest.raises(error):
             parser.expire(wrong)
+        for use in (parser.feed, parser.parse):
+            with pytest.raises(error):
+                use(b"q", now=wrong)
         with pytest.raises(error):
             parser.policy = Policy(paste=wrong)
     with pytest.raises(TypeError, match="^a Policy is required, not tuple$"):
         parser.policy = (1, 1, 1, 1, 1, 1)
     assert parser.policy == Policy()
+    assert_rest(parser, 0, Waiting.NOTHING)
 
 
 # Each call of a parser, but close. The calls on entries are those of an InputParser alone.

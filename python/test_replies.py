@@ -154,7 +154,7 @@ def test_long_clipboard():
 
 
 def test_refused_memory():
-    answer = mock.Mock(return_value=replies._REPLIED_NO_MEMORY)
+    answer = mock.Mock(return_value=hedrugal._STATUS_NO_MEMORY)
     with mock.patch.object(replies._library, "hed_read_reply", answer):
         with pytest.raises(MemoryError):
             reply(Csi(b"?62c"))

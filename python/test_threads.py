@@ -186,7 +186,7 @@ def test_signals(parser, key, events_of_stream):
     before = signal.signal(signal.SIGUSR1, handle)
     try:
         in_the_middle(parser, lambda: signal.raise_signal(signal.SIGUSR1))
-        assert parser.parse(STREAM, False) == [
+        assert parser.parse(STREAM) == [
             *events_of_stream[:-1],
             key("z", hedrugal.Modifiers.ALT),
         ]
@@ -194,6 +194,18 @@ def test_signals(parser, key, events_of_stream):
         assert parser.parse(STREAM, False) == events_of_stream
     finally:
         signal.signal(signal.SIGUSR1, before)
+
+
+def test_a_handler_in_the_middle_of_a_flush(parser, events_of_stream):
+    """It can't feed either."""
+
+    def feed():
+        with pytest.raises(RuntimeError, match="^the parser is in the middle of a call of "):
+            parser.feed(b"z")
+
+    for _ in range(2):
+        in_the_middle(parser, feed)
+        assert parser.parse(STREAM, False) == events_of_stream
 
 
 def test_values_that_use_the_map_as_they_go():

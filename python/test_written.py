@@ -366,7 +366,7 @@ def test_bad_values():
         encode_colour_scheme("dark")
 
 
-@pytest.mark.parametrize("answer, error", [(2, MemoryError), (9, RuntimeError)])
+@pytest.mark.parametrize("answer, error", [(2, MemoryError), (99, RuntimeError)])
 def test_answers(answer, error):
     with mock.patch.object(hedrugal._library, "hed_encode_event", lambda *_: answer):
         with pytest.raises(error):

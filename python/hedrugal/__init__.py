@@ -39,7 +39,6 @@ from dataclasses import dataclass
 from typing import (
     Any,
     Callable,
-    ClassVar,
     Dict,
     Generic,
     Iterator,
@@ -570,37 +569,38 @@ class ParseError(MemoryError):
 # The structs of hedrugal.h.
 
 
-# The fields of a parser of either kind.
-_PARSER_FIELDS: List[Tuple[str, Any]] = [
-    ("live", ctypes.c_bool),
-    ("timed", ctypes.c_bool),
-    ("fed", ctypes.c_bool),
-    ("taken", ctypes.c_bool),
-    ("expiring", ctypes.c_bool),
-    ("state", ctypes.c_void_p),
-    ("timing", ctypes.c_void_p),
-]
-
-
 class _RawParser(ctypes.Structure):
-    _fields_ = _PARSER_FIELDS
+    _fields_ = [("live", ctypes.c_bool), ("state", ctypes.c_void_p)]
 
 
 class _RawEvent(ctypes.Structure):
     _fields_ = [
         ("kind", ctypes.c_uint8),
+        ("modifiers", ctypes.c_uint8),
+        ("key_event_kind", ctypes.c_uint8),
+        ("mouse_kind", ctypes.c_uint8),
+        ("button", ctypes.c_uint8),
         ("buttons", ctypes.c_uint8),
-        ("modifiers", ctypes.c_uint16),
+        ("flags", ctypes.c_uint8),
+        ("string_kind", ctypes.c_uint8),
         ("key", ctypes.c_uint16),
         ("x", ctypes.c_uint16),
         ("y", ctypes.c_uint16),
+        ("row", ctypes.c_uint16),
+        ("column", ctypes.c_uint16),
+        ("rows", ctypes.c_uint16),
+        ("columns", ctypes.c_uint16),
+        ("height", ctypes.c_uint16),
+        ("width", ctypes.c_uint16),
         ("detail", ctypes.c_uint32),
-        ("paste_len", ctypes.c_size_t),
+        ("shifted", ctypes.c_uint32),
+        ("base", ctypes.c_uint32),
+        ("text_len", ctypes.c_size_t),
     ]
 
 
-# The fields of a _RawEvent, all at once: in native layout it has the same gaps.
-_fields_of = struct.Struct("@BBHHHHIN").unpack_from
+# The kind, the modifiers, the key and the detail of a _RawEvent, all at once.
+_key_fields_of = struct.Struct("@BB6xH18xI").unpack_from
 
 
 class _RawPolicy(ctypes.Structure):
@@ -654,29 +654,32 @@ class _RawEntries(ctypes.Structure):
 
 
 # The numbers of hedrugal.h that no enum above has.
-# numbers.txt: next private
-_NEXT_NONE = 0
-_NEXT_EVENT = 1
-_NEXT_NO_MEMORY = 2
-_NEXT_NO_PARSER = 3
-# numbers.txt: end
-# numbers.txt: encoded private
-_ENCODED_TEXT = 0
-_ENCODED_REFUSED_KEY = 1
-_ENCODED_REFUSED_MEMORY = 2
-_ENCODED_BAD_NUMBER = 3
-_ENCODED_TOO_LONG = 4
-_ENCODED_BAD_TEXT = 5
-_ENCODED_TOO_FAR = 6
-_ENCODED_NO_TEXT = 7
-_ENCODED_NO_PARSER = 8
-# numbers.txt: end
-# numbers.txt: found private
-_FOUND_NONE = 0
-_FOUND_EXACT = 1
-_FOUND_AMBIGUOUS = 2
-_FOUND_NEED_DATA = 3
-_FOUND_NO_MAP = 4
+# numbers.txt: status private
+_STATUS_OK = 0
+_STATUS_NONE = 1
+_STATUS_NO_MEMORY = 2
+_STATUS_BAD_NUMBER = 3
+_STATUS_BUSY = 4
+_STATUS_NOT_INITIALIZED = 5
+_STATUS_REFUSED_KEY = 6
+_STATUS_NO_TEXT = 7
+_STATUS_TOO_LONG = 8
+_STATUS_BAD_TEXT = 9
+_STATUS_TOO_FAR = 10
+_STATUS_AMBIGUOUS = 11
+_STATUS_NEED_DATA = 12
+_STATUS_FULL = 13
+_STATUS_NAME_CONTROL_CHARACTER = 20
+_STATUS_NAME_MODIFIER_TWICE = 21
+_STATUS_NAME_UNKNOWN_MODIFIER = 22
+_STATUS_NAME_MISSING_KEY = 23
+_STATUS_NAME_BAD_NUMBER = 24
+_STATUS_NAME_UNKNOWN_NAME = 25
+_STATUS_NAME_AMBIGUOUS = 26
+_STATUS_NAME_NOT_A_KEY = 27
+_STATUS_NAME_SHIFTED_CHARACTER = 28
+_STATUS_NAME_TOO_LONG = 29
+_STATUS_NAME_EMPTY = 30
 # numbers.txt: end
 # numbers.txt: kind private
 _KIND_OTHER = 0
@@ -704,46 +707,54 @@ _KEY_FUNCTION = 60
 # More bytes than an entry or the text of a key has.
 _ROOM = 64
 
+# With this limit a paste has no parts, and the longest limit in time.
+_NO_PARTS, _MOST_MILLIS = 2**64 - 1, 2**31 - 65537
+
 _PARSER: Any = ctypes.POINTER(_RawParser)
-_EVENT = ctypes.POINTER(_RawEvent)
+_EVENT: Any = ctypes.POINTER(_RawEvent)
 _MAP = ctypes.POINTER(_RawKeyMap)
 _POLICY: Any = ctypes.POINTER(_RawPolicy)
 _TIMER: Any = ctypes.POINTER(_RawTimer)
 # A uint8_t *, as which ctypes passes a bytes object without a copy.
 _BYTES = ctypes.c_void_p
 _COUNT: Any = ctypes.POINTER(ctypes.c_size_t)
+_STATUS = ctypes.c_uint32
 
 # The calls of hedrugal.h: the type of the result, and those of the arguments.
 _CALLS: Dict[str, Tuple[Any, List[Any]]] = {
-    "hed_parser_init": (ctypes.c_bool, [_PARSER]),
-    "hed_parser_init_sharing": (ctypes.c_bool, [_PARSER, _PARSER]),
+    "hed_parser_init": (_STATUS, [_PARSER, ctypes.c_uint32]),
+    "hed_parser_init_sharing": (_STATUS, [_PARSER, ctypes.c_uint32, _PARSER]),
     "hed_parser_free": (None, [_PARSER]),
-    "hed_parser_feed": (ctypes.c_bool, [_PARSER, _BYTES, ctypes.c_size_t]),
-    "hed_parser_next": (ctypes.c_uint32, [_PARSER, ctypes.c_bool, _EVENT]),
-    "hed_parser_paste": (ctypes.c_size_t, [_PARSER, _BYTES, ctypes.c_size_t]),
-    "hed_parser_drop_paste": (None, [_PARSER]),
+    "hed_parser_feed": (_STATUS, [_PARSER, ctypes.c_uint64, _BYTES, ctypes.c_size_t]),
+    "hed_parser_next": (_STATUS, [_PARSER, _EVENT]),
+    "hed_parser_next_events": (
+        _STATUS,
+        [_PARSER, _EVENT, ctypes.c_size_t, _BYTES, ctypes.c_size_t, _COUNT],
+    ),
+    "hed_parser_text": (ctypes.c_size_t, [_PARSER, _BYTES, ctypes.c_size_t]),
+    "hed_parser_drop_text": (None, [_PARSER]),
+    "hed_parser_timeout": (ctypes.c_int32, [_PARSER, ctypes.c_uint64]),
+    "hed_parser_idle": (None, [_PARSER, ctypes.c_uint64]),
+    "hed_parser_flush": (None, [_PARSER]),
+    "hed_parser_end": (None, [_PARSER]),
+    "hed_parser_interrupted": (_STATUS, [_PARSER, ctypes.c_uint64]),
+    "hed_parser_set_parts": (None, [_PARSER, ctypes.c_size_t]),
+    "hed_parser_skip_paste": (_STATUS, [_PARSER, _COUNT]),
+    "hed_parser_reset": (ctypes.c_size_t, [_PARSER]),
     "hed_parser_shrink_to": (None, [_PARSER, ctypes.c_size_t]),
     "hed_parser_waiting_len": (ctypes.c_size_t, [_PARSER]),
     "hed_parser_waiting": (ctypes.c_uint32, [_PARSER]),
-    "hed_parser_flush_escape": (ctypes.c_uint32, [_PARSER, _EVENT]),
-    "hed_parser_is_paste_open": (ctypes.c_bool, [_PARSER]),
-    "hed_parser_take_paste": (ctypes.c_uint32, [_PARSER, ctypes.c_size_t, _EVENT]),
-    "hed_parser_skip_paste": (ctypes.c_bool, [_PARSER, _COUNT]),
-    "hed_parser_end_paste": (ctypes.c_uint32, [_PARSER, _EVENT]),
-    "hed_parser_set_policy": (ctypes.c_bool, [_PARSER, _POLICY]),
-    "hed_parser_timeout": (ctypes.c_int32, [_PARSER, ctypes.c_uint64]),
-    "hed_parser_expire": (ctypes.c_uint32, [_PARSER, ctypes.c_uint64, _EVENT]),
-    "hed_parser_reset": (ctypes.c_size_t, [_PARSER]),
+    "hed_parser_set_policy": (_STATUS, [_PARSER, _POLICY]),
     "hed_parser_entry": (
         ctypes.c_size_t,
         [_PARSER, ctypes.c_size_t, _BYTES, ctypes.c_size_t, _EVENT],
     ),
-    "hed_parser_completions": (ctypes.c_bool, [_PARSER, ctypes.POINTER(_RawEntries)]),
-    "hed_timer_note": (ctypes.c_bool, [_TIMER, ctypes.c_uint64, ctypes.POINTER(_RawSeen)]),
+    "hed_parser_completions": (_STATUS, [_PARSER, ctypes.POINTER(_RawEntries)]),
+    "hed_timer_note": (_STATUS, [_TIMER, ctypes.c_uint64, ctypes.POINTER(_RawSeen)]),
     "hed_timer_timeout": (ctypes.c_int32, [_TIMER, ctypes.c_uint64]),
     "hed_key_name": (ctypes.c_size_t, [ctypes.c_uint16, _BYTES, ctypes.c_size_t]),
     "hed_encode": (
-        ctypes.c_uint32,
+        _STATUS,
         [
             ctypes.c_uint16,
             ctypes.c_uint32,
@@ -755,11 +766,11 @@ _CALLS: Dict[str, Tuple[Any, List[Any]]] = {
             _COUNT,
         ],
     ),
-    "hed_keymap_init": (ctypes.c_bool, [_MAP]),
+    "hed_keymap_init": (_STATUS, [_MAP]),
     "hed_keymap_free": (None, [_MAP]),
-    "hed_keymap_insert": (ctypes.c_bool, [_MAP, _BYTES, ctypes.c_size_t, ctypes.c_uint64]),
+    "hed_keymap_insert": (_STATUS, [_MAP, _BYTES, ctypes.c_size_t, ctypes.c_uint64]),
     "hed_keymap_lookup": (
-        ctypes.c_uint32,
+        _STATUS,
         [_MAP, _BYTES, ctypes.c_size_t, ctypes.c_bool, ctypes.POINTER(_RawMatch)],
     ),
     "hed_keymap_len": (ctypes.c_size_t, [_MAP]),
@@ -865,16 +876,16 @@ def _closed(what: str) -> ValueError:
     return ValueError(f"the {what} is closed")
 
 
-def _is_event(answer: int) -> bool:
-    """Whether the library answers that it wrote an event."""
-    if answer == _NEXT_EVENT:
+def _is_ok(answer: int, what: str) -> bool:
+    """Whether a call did what it says. If not, it found nothing. Raises what else it answers."""
+    if answer == _STATUS_OK:
         return True
-    if answer == _NEXT_NONE:
+    if answer == _STATUS_NONE:
         return False
-    if answer == _NEXT_NO_MEMORY:
+    if answer == _STATUS_NO_MEMORY:
         raise _refused()
-    if answer == _NEXT_NO_PARSER:
-        raise _closed("parser")
+    if answer == _STATUS_NOT_INITIALIZED:
+        raise _closed(what)
     _fault()
 
 
@@ -905,7 +916,7 @@ class _Closable:
     """What owns memory of the library until it is closed: a parser or a map."""
 
     def __init__(self, what: str, raw: Any, init: Any, free: Any) -> None:
-        if not init(raw):
+        if init(raw) != _STATUS_OK:
             raise _refused()
         self._what, self._raw, self._free = what, raw, weakref.finalize(self, free, raw)
         # At the exit a thread may still be in a call, and the system takes the memory anyway.
@@ -950,6 +961,8 @@ class _Closable:
 
 # A program sees few different sets and key events, and finding one again is quicker than making it.
 _modifiers = functools.lru_cache(maxsize=None)(Modifiers)
+# Each of these is twice the same flag of Kitty's, which the library has in events.
+_HELD = Modifiers.SHIFT | Modifiers.ALT | Modifiers.CTRL | Modifiers.SUPER
 _buttons = functools.lru_cache(maxsize=None)(MouseButtons)
 _key_codes = {code.value: code for code in KeyCode}
 _waitings = {kind.value: kind for kind in Waiting}
@@ -963,19 +976,14 @@ def _key(number: int, detail: int) -> Key:
     return _key_codes.get(number) or _fault()
 
 
+def _kitty_bits(modifiers: Modifiers) -> int:
+    """The bits of Kitty's for these modifiers. It has no others of them."""
+    return (modifiers & _HELD).value >> 1
+
+
 @functools.lru_cache(maxsize=4096)
-def _key_event(number: int, detail: int, modifiers: int) -> KeyEvent:
-    return KeyEvent(_key(number, detail), _modifiers(modifiers))
-
-
-def _key_or_mouse(raw: _RawEvent) -> Union[KeyEvent, MouseEvent, None]:
-    """The key or mouse event of a struct, if it is one."""
-    kind, buttons, modifiers, key, x, y, detail, _ = _fields_of(raw)
-    if kind == _KIND_KEY:
-        return _key_event(key, detail, modifiers)
-    if kind == _KIND_MOUSE:
-        return MouseEvent(x, y, _buttons(buttons), _modifiers(modifiers))
-    return None
+def _key_event(number: int, detail: int, held: int) -> KeyEvent:
+    return KeyEvent(_key(number, detail), _modifiers(2 * held))
 
 
 # The idle parser whose sequence table all parsers share. It is never freed, so the table stays
@@ -990,7 +998,7 @@ def _parser_with_table() -> _RawParser:
     A call of the library keeps Python's lock. Between two calls another thread may come in, and
     both may make the idle parser. The second call then frees the first's, whose table stays with
     the parsers that share it."""
-    if not _idle.live and not _library.hed_parser_init(_idle):
+    if not _idle.live and _library.hed_parser_init(_idle, Dialect.EXTENDED.value) != _STATUS_OK:
         raise _refused()
     return _idle
 
@@ -1012,9 +1020,9 @@ def _millis(seconds: float, most: int) -> int:
     return min(round(min(seconds, most) * 1_000_000) // 1000, most)
 
 
-def _limit_millis(limit: Optional[float]) -> int:
-    """A limit in milliseconds, below 0 if there is none."""
-    return -1 if limit is None else _millis(limit, 2**31 - 1)
+def _limit_millis(limit: Optional[float], most: int) -> int:
+    """A limit in milliseconds, at most so many, below 0 if there is none."""
+    return -1 if limit is None else _millis(limit, most)
 
 
 def _wait_of(millis: int) -> Optional[float]:
@@ -1025,7 +1033,7 @@ def _wait_of(millis: int) -> Optional[float]:
 def _raw_policy(policy: Policy) -> _RawPolicy:
     if not isinstance(policy, Policy):
         raise TypeError(f"a Policy is required, not {type(policy).__name__}")
-    return _RawPolicy(*(_limit_millis(limit) or 1 for limit in policy))
+    return _RawPolicy(*(_limit_millis(limit, _MOST_MILLIS) or 1 for limit in policy))
 
 
 def _millis_of_now(now: Optional[float]) -> Callable[[], int]:
@@ -1034,27 +1042,6 @@ def _millis_of_now(now: Optional[float]) -> Callable[[], int]:
         return lambda: time.monotonic_ns() // 1_000_000
     told = _millis(now, 2**64 - 1)
     return lambda: told
-
-
-class _ParserCalls(NamedTuple):
-    """The library's calls for one of its parsers."""
-
-    feed: Any
-    next: Any
-    text: Any
-    drop_text: Any
-    waiting_len: Any
-    waiting: Any
-    flush_escape: Any
-    is_paste_open: Any
-    take_paste: Any
-    skip_paste: Any
-    end_paste: Any
-    set_policy: Any
-    timeout: Any
-    expire: Any
-    reset: Any
-    shrink_to: Any
 
 
 _AnyEvent = TypeVar("_AnyEvent")
@@ -1081,26 +1068,29 @@ def _no_more() -> None:
 
 
 class _EventParser(_Closable, Generic[_AnyEvent]):
-    """What both parsers have in common. Each names the library's calls for it, and makes its
-    events."""
+    """What InputParser and ExtendedParser have in common. Each makes its events."""
 
-    _calls: ClassVar[_ParserCalls]
     _has_front: bool
 
-    def __init__(self, raw: Any, front: Any, init: Any, free: Any) -> None:
-        super().__init__("parser", raw, init, free)
+    def __init__(self, dialect: int) -> None:
+        def init(raw: _RawParser) -> Any:
+            return _library.hed_parser_init_sharing(raw, dialect, _parser_with_table())
+
+        super().__init__("parser", _RawParser(), init, _library.hed_parser_free)
         # The event that the library wrote last, and whether the caller has yet to get it: it stays
         # until memory for it is granted.
-        self._front, self._has_front = front, False
+        self._front, self._has_front = _RawEvent(), False
         # Whether the library may keep a text of that event.
         self._has_text = False
         # Text that `take_paste` took and was refused memory for. It returns that when it is called
         # again; otherwise the Paste begins with it.
         self._part: Bytes = b""
+        # Whether `end_paste` ended a paste whose event has yet to come.
+        self._is_ended = False
         # The call that is made for each event: to find it once makes a loop a little quicker.
-        self._next = self._calls.next
-        # Events that `parse` or `expire` found before it was refused memory. They come before that
-        # at the front.
+        self._next = _library.hed_parser_next
+        # Events that were found before memory was refused, or before bytes came in the middle of a
+        # flush. They come before that at the front.
         self._kept: List[_AnyEvent] = []
         self._policy = Policy()
 
@@ -1109,15 +1099,18 @@ class _EventParser(_Closable, Generic[_AnyEvent]):
             state = "closed" if self.closed else f"{self.waiting_len} bytes are buffered"
         return f"<{type(self).__name__}, {state}>"
 
-    def feed(self, data: Bytes) -> None:
-        """Appends bytes to the buffer. `next_event`, or a loop over the parser, then returns the
-        events.
+    def feed(self, data: Bytes, now: Optional[float] = None) -> None:
+        """Appends bytes to the buffer, which came now. `next_event`, or a loop over the parser,
+        then returns the events. `now` is the time of time.monotonic(), which is read if it is None.
 
         Raises MemoryError if memory is refused. Then none of the bytes is buffered, and the call
         may be made again."""
-        pointer, length = _borrowed(data)
+        (pointer, length), millis = _borrowed(data), _millis_of_now(now)
         with self._lock:
-            self._feed(pointer, length)
+            if self._fed(pointer, length, millis()):
+                return
+        with self._alone():
+            self._feed(pointer, length, millis())
 
     def next_event(self, maybe_more: bool = True) -> Optional[_AnyEvent]:
         """Returns the event at the front of the buffer, and consumes its bytes. Returns None if
@@ -1126,8 +1119,9 @@ class _EventParser(_Closable, Generic[_AnyEvent]):
         While more bytes may come, pass maybe_more as True. Bytes that may still become a longer
         sequence or a character then stay buffered, for as long as `timeout` says.
 
-        At the end of the input pass False. Then only an open paste stays buffered. Before the end,
-        False breaks a sequence or a character whose last bytes are still to come.
+        At the end of the input pass False, until it returns None. Then only an open paste stays
+        buffered. Before the end, False breaks a sequence or a character whose last bytes are still
+        to come.
 
         Raises MemoryError if memory is refused. Nothing changed, and the call may be made again."""
         more = bool(maybe_more)
@@ -1138,18 +1132,20 @@ class _EventParser(_Closable, Generic[_AnyEvent]):
         """Returns the events one by one, as `next_event(True)` does, until there is none."""
         return _UntilNone(self.next_event)
 
-    def parse(self, data: Bytes, maybe_more: bool = True) -> List[_AnyEvent]:
-        """Appends bytes to the buffer, and returns the events in order. Bytes that are no event yet
-        stay buffered, as `next_event` says.
+    def parse(
+        self, data: Bytes, maybe_more: bool = True, now: Optional[float] = None
+    ) -> List[_AnyEvent]:
+        """Appends bytes to the buffer, as `feed` does, and returns the events in order. Bytes that
+        are no event yet stay buffered, as `next_event` says.
 
         Raises ParseError, which is a MemoryError, if memory is refused. It says whether the bytes
         are buffered."""
-        more, taken = bool(maybe_more), False
+        more, taken, millis = bool(maybe_more), False, _millis_of_now(now)
         try:
             pointer, length = _borrowed(data)
             kept: List[_AnyEvent] = []
             with self._alone():
-                self._feed(pointer, length)
+                self._feed(pointer, length, millis())
                 events, taken = self._kept, True
                 self._move_events(events, more)
                 self._kept = kept
@@ -1175,12 +1171,9 @@ class _EventParser(_Closable, Generic[_AnyEvent]):
         with self._alone():
             self._check_open()
             # What was refused memory comes before what is buffered.
-            if self._holds_events():
+            if self._holds_events() or self.waiting is not Waiting.ESCAPE:
                 return None
-            if not _is_event(self._calls.flush_escape(self._raw, self._front)):
-                return None
-            self._has_front = True
-            return self._take(True)
+            return self._take(False)
 
     @property
     def waiting(self) -> Waiting:
@@ -1188,14 +1181,14 @@ class _EventParser(_Closable, Generic[_AnyEvent]):
         None: before that, events may be next. `policy` says how long each may."""
         with self._lock:
             self._check_open()
-            return _waitings.get(self._calls.waiting(self._raw)) or _fault()
+            return _waitings.get(_library.hed_parser_waiting(self._raw)) or _fault()
 
     @property
     def waiting_len(self) -> int:
         """The number of bytes that are buffered."""
         with self._lock:
             self._check_open()
-            return cast(int, self._calls.waiting_len(self._raw))
+            return cast(int, _library.hed_parser_waiting_len(self._raw))
 
     @property
     def is_paste_open(self) -> bool:
@@ -1203,9 +1196,7 @@ class _EventParser(_Closable, Generic[_AnyEvent]):
 
         Such a paste is buffered until its end arrives, whatever its length, unless `take_paste` or
         `skip_paste` is called."""
-        with self._lock:
-            self._check_open()
-            return cast(bool, self._calls.is_paste_open(self._raw))
+        return self.waiting is Waiting.PASTE
 
     def take_paste(self, limit: int = 0) -> Optional[str]:
         """Takes text of an open paste before its end arrives, if more than so many bytes of the
@@ -1244,7 +1235,7 @@ class _EventParser(_Closable, Generic[_AnyEvent]):
             self._check_open()
             if self._holds_events():
                 return None
-            if not self._calls.skip_paste(self._raw, count):
+            if not _is_ok(_library.hed_parser_skip_paste(self._raw, count), self._what):
                 return None
             self._part = b""
             return count.value
@@ -1264,8 +1255,13 @@ class _EventParser(_Closable, Generic[_AnyEvent]):
             self._check_open()
             if self._kept:
                 return None
-            if not self._has_front:
-                self._has_front = _is_event(self._calls.end_paste(self._raw, self._front))
+            if not self._has_front and self.is_paste_open:
+                # A paste whose end came is an event by itself.
+                if not self._is_ended and self._find_front(True):
+                    return None
+                self._is_ended = True
+                _library.hed_parser_end(self._raw)
+                self._find_front(True)
             # A paste that was refused memory before is at the front, where another call left it.
             if not self._has_front or self._front.kind != _KIND_PASTE:
                 return None
@@ -1281,8 +1277,8 @@ class _EventParser(_Closable, Generic[_AnyEvent]):
             ...     parser.policy
             Policy(escape=0.05, alt_key=0.1, sequence=1.0, string=5.0, character=None, paste=10)
 
-        To assign raises TypeError or ValueError for what is no number of seconds from 0 on, and
-        MemoryError if memory is refused. The limits are those from before then."""
+        To assign raises TypeError or ValueError for what is no number of seconds from 0 on. The
+        limits are those from before then."""
         with self._lock:
             self._check_open()
             return self._policy
@@ -1292,17 +1288,15 @@ class _EventParser(_Closable, Generic[_AnyEvent]):
         raw = _raw_policy(policy)
         with self._alone():
             self._check_open()
-            if not self._calls.set_policy(self._raw, raw):
-                raise _refused()
+            _is_ok(_library.hed_parser_set_policy(self._raw, raw), self._what)
             self._policy = policy
 
     def timeout(self, now: Optional[float] = None) -> Optional[float]:
         r"""Returns how many seconds to wait for more bytes, and None for ever. If none come, call
         `expire`.
 
-        Call it before each wait, once all events are taken. It notes the time, and what was
-        buffered since it was called last. `now` is the time of time.monotonic(), which is read if
-        it is None. The loop of a program:
+        Call it before each wait, once all events are taken. `now` is the time of time.monotonic(),
+        which is read if it is None. The loop of a program:
 
             >>> import os, select
             >>> def run(terminal, handle):
@@ -1330,15 +1324,15 @@ class _EventParser(_Closable, Generic[_AnyEvent]):
             KeyCode.UP_ARROW
             KeyCode.ESCAPE
 
-        If memory is refused, it returns 0.0, and `expire` then raises. Raises ValueError if now is
-        negative or NaN, and TypeError if it is no number."""
+        While events are left, it returns 0.0. Raises ValueError if now is negative or NaN, and
+        TypeError if it is no number."""
         millis = _millis_of_now(now)
         with self._alone():
             self._check_open()
             # What was refused memory waits no longer.
             if self._holds_events():
                 return 0.0
-            return _wait_of(self._calls.timeout(self._raw, millis()))
+            return _wait_of(_library.hed_parser_timeout(self._raw, millis()))
 
     def expire(self, now: Optional[float] = None) -> List[_AnyEvent]:
         r"""Flushes what has waited for as long as `timeout` said, and returns the events. ESC is
@@ -1346,10 +1340,11 @@ class _EventParser(_Closable, Generic[_AnyEvent]):
         paste is ended where it is. Before that time there are none.
 
         Call it when no bytes came within that time. If bytes are there, parse them first, since
-        they may complete what is overdue.
+        they may complete what is overdue. Events that are left are returned first, and nothing is
+        flushed then.
 
             >>> with InputParser() as parser:
-            ...     parser.feed(b"\x1b")
+            ...     parser.feed(b"\x1b", 7.0)
             ...     [*parser, parser.timeout(7.0), *parser.expire(7.049), *parser.expire(7.05)]
             [0.05, KeyEvent(key=KeyCode.ESCAPE, modifiers=Modifiers.NONE)]
 
@@ -1359,14 +1354,9 @@ class _EventParser(_Closable, Generic[_AnyEvent]):
         kept: List[_AnyEvent] = []
         with self._alone():
             self._check_open()
+            _library.hed_parser_idle(self._raw, millis())
             events = self._kept
-            # What was refused memory comes first, and what is decided behind it.
-            if self._holds_events():
-                self._move_events(events, True)
-            due = millis()
-            while self._find_due(due):
-                events.append(self._front_event())
-                self._leave_front()
+            self._move_events(events, True)
             self._kept = kept
             return events
 
@@ -1377,8 +1367,8 @@ class _EventParser(_Closable, Generic[_AnyEvent]):
         with self._alone():
             self._check_open()
             self._forget_events()
-            self._calls.drop_text(self._raw)
-            return cast(int, self._calls.reset(self._raw))
+            _library.hed_parser_drop_text(self._raw)
+            return cast(int, _library.hed_parser_reset(self._raw))
 
     def shrink_to(self, min_capacity: int = 0) -> None:
         """Gives back memory that holds no buffered bytes, but for room for so many. What is
@@ -1390,14 +1380,19 @@ class _EventParser(_Closable, Generic[_AnyEvent]):
         _not_negative(min_capacity)
         with self._lock:
             self._check_open()
-            self._calls.shrink_to(self._raw, min(min_capacity, sys.maxsize))
+            _library.hed_parser_shrink_to(self._raw, min(min_capacity, sys.maxsize))
 
     # The rest is called while the lock is held.
 
-    def _feed(self, pointer: Any, length: int) -> None:
-        if not self._calls.feed(self._raw, pointer, length):
-            self._check_open()
-            raise _refused()
+    def _feed(self, pointer: Any, length: int, now: int) -> None:
+        """Appends bytes, behind a flush that isn't over."""
+        while not self._fed(pointer, length, now):
+            self._move_events(self._kept, True)
+
+    def _fed(self, pointer: Any, length: int, now: int) -> bool:
+        """Appends bytes, unless a flush isn't over."""
+        answer = _library.hed_parser_feed(self._raw, now, pointer, length)
+        return answer != _STATUS_BUSY and _is_ok(answer, self._what)
 
     def _take(self, more: bool) -> Optional[_AnyEvent]:
         self._check_open()
@@ -1416,18 +1411,14 @@ class _EventParser(_Closable, Generic[_AnyEvent]):
     def _forget_events(self) -> None:
         """Forgets these events."""
         self._kept.clear()
-        self._has_front, self._part = False, b""
+        self._has_front, self._is_ended, self._part = False, False, b""
 
     def _find_front(self, maybe_more: bool) -> bool:
         """Whether there is an event at the front. It stays there until `_leave_front`."""
         if not self._has_front:
-            self._has_front = _is_event(self._next(self._raw, maybe_more, self._front))
-        return self._has_front
-
-    def _find_due(self, now: int) -> bool:
-        """Whether there is an event at the front, or one of what has waited too long by then."""
-        if not self._has_front:
-            self._has_front = _is_event(self._calls.expire(self._raw, now, self._front))
+            if not maybe_more:
+                _library.hed_parser_flush(self._raw)
+            self._has_front = _is_ok(self._next(self._raw, self._front), self._what)
         return self._has_front
 
     def _move_events(self, events: List[_AnyEvent], more: bool) -> None:
@@ -1441,10 +1432,10 @@ class _EventParser(_Closable, Generic[_AnyEvent]):
         raise NotImplementedError
 
     def _leave_front(self) -> None:
-        self._has_front, self._part = False, b""
+        self._has_front, self._is_ended, self._part = False, False, b""
         if self._has_text:
             self._has_text = False
-            self._calls.drop_text(self._raw)
+            _library.hed_parser_drop_text(self._raw)
 
     def _find_part(self, limit: int) -> bool:
         """Whether there is text of an open paste, of more than so many bytes. It is then `_part`.
@@ -1454,13 +1445,19 @@ class _EventParser(_Closable, Generic[_AnyEvent]):
         if waiting <= limit or not self.is_paste_open:
             return False
         part = bytearray(3 * waiting)
-        if not _is_event(self._calls.take_paste(self._raw, limit, self._front)):
-            return False
-        pointer, room = _borrowed(part)
-        length = self._calls.text(self._raw, pointer, room)
-        self._part = memoryview(part)[:length]
-        self._calls.drop_text(self._raw)
-        return True
+        _library.hed_parser_set_parts(self._raw, limit)
+        try:
+            self._find_front(True)
+        finally:
+            _library.hed_parser_set_parts(self._raw, _NO_PARTS)
+        if self._has_front and self._front.kind == _KIND_PASTE_PART:
+            pointer, room = _borrowed(part)
+            length = _library.hed_parser_text(self._raw, pointer, room)
+            self._part, self._has_front = memoryview(part)[:length], False
+            _library.hed_parser_drop_text(self._raw)
+        # Once parts are off, the library has to say again that nothing is left.
+        self._find_front(True)
+        return bool(self._part)
 
     def _paste(self, length: int) -> Paste:
         """The paste at the front, whose text has so many bytes more."""
@@ -1474,7 +1471,7 @@ class _EventParser(_Closable, Generic[_AnyEvent]):
         self._has_text = True
         room = bytearray(length)
         pointer, _ = _borrowed(room)
-        if self._calls.text(self._raw, pointer, length) != length:
+        if _library.hed_parser_text(self._raw, pointer, length) != length:
             _fault()
         return room
 
@@ -1493,7 +1490,7 @@ class InputParser(_EventParser[Event]):
     others wait, `close` too. `parse` returns the events of its own bytes, after what other threads
     left in the buffer, and each event goes to one thread. A signal's handler or a finalizer that
     comes in the middle of a call of its own thread can't wait. There all but `feed`, `shrink_to`
-    and what only reads raises RuntimeError.
+    and what only reads raises RuntimeError, and `feed` does in the middle of a flush.
 
     All parsers share one sequence table, which the first of them makes and which stays. So a
     program may have thousands of them.
@@ -1501,36 +1498,19 @@ class InputParser(_EventParser[Event]):
     Making a parser raises MemoryError if memory is refused. So do the calls that say it. No event
     is then lost, and the parser may be used again."""
 
-    _calls = _ParserCalls(
-        feed=_library.hed_parser_feed,
-        next=_library.hed_parser_next,
-        text=_library.hed_parser_paste,
-        drop_text=_library.hed_parser_drop_paste,
-        waiting_len=_library.hed_parser_waiting_len,
-        waiting=_library.hed_parser_waiting,
-        flush_escape=_library.hed_parser_flush_escape,
-        is_paste_open=_library.hed_parser_is_paste_open,
-        take_paste=_library.hed_parser_take_paste,
-        skip_paste=_library.hed_parser_skip_paste,
-        end_paste=_library.hed_parser_end_paste,
-        set_policy=_library.hed_parser_set_policy,
-        timeout=_library.hed_parser_timeout,
-        expire=_library.hed_parser_expire,
-        reset=_library.hed_parser_reset,
-        shrink_to=_library.hed_parser_shrink_to,
-    )
-
     def __init__(self) -> None:
-        def init(raw: _RawParser) -> bool:
-            return bool(_library.hed_parser_init_sharing(raw, _parser_with_table()))
-
-        super().__init__(_RawParser(), _RawEvent(), init, _library.hed_parser_free)
+        super().__init__(Dialect.TERMWIZ.value)
 
     def _front_event(self) -> Event:
-        event = _key_or_mouse(self._front)
-        if event is None and self._front.kind != _KIND_PASTE:
-            _fault()
-        return event or self._paste(self._front.paste_len)
+        front = self._front
+        kind, held, key, detail = _key_fields_of(front)
+        if kind == _KIND_KEY:
+            return _key_event(key, detail, held)
+        if kind == _KIND_MOUSE:
+            return MouseEvent(front.x, front.y, _buttons(front.buttons), _modifiers(2 * held))
+        if kind == _KIND_PASTE:
+            return self._paste(front.text_len)
+        _fault()
 
     def entry(self, place: int) -> Optional[Entry]:
         r"""Returns the entry of the sequence table at a place, in the order of the entries' bytes.
@@ -1577,24 +1557,18 @@ class InputParser(_EventParser[Event]):
         found = _RawEntries()
         with self._lock:
             self._check_open()
-            if not _library.hed_parser_completions(self._raw, found):
-                _fault()
+            _is_ok(_library.hed_parser_completions(self._raw, found), self._what)
         return Completions(range(found.first, found.first + found.count), bool(found.with_alt))
 
     def _skip(self, maybe_more: bool, most: int) -> int:
         """Consumes at most so many events, without making them, and returns how many there were. It
         is for the page, which counts them."""
-        count, parser, front, more = (
-            0,
-            ctypes.byref(self._raw),
-            ctypes.byref(self._front),
-            int(maybe_more),
-        )
+        count, parser, front = 0, ctypes.byref(self._raw), ctypes.byref(self._front)
         with self._alone():
             while count < most and self._find_front(maybe_more):
                 self._has_front = False
                 count += 1
-                while count < most and _next_untyped(parser, more, front) == _NEXT_EVENT:
+                while count < most and _next_untyped(parser, front) == _STATUS_OK:
                     count += 1
         return count
 
@@ -1657,9 +1631,8 @@ class Timer:
         Raises ValueError if limit or now is negative or NaN, and TypeError for another type."""
         if not isinstance(by, Age):
             raise TypeError(f"an Age is required, not {type(by).__name__}")
-        seen = _RawSeen(_limit_millis(limit), by, fed, taken, empty)
-        if not _library.hed_timer_note(self._raw, _millis_of_now(now)(), seen):
-            _fault()
+        seen = _RawSeen(_limit_millis(limit, 2**31 - 1), by, fed, taken, empty)
+        _is_ok(_library.hed_timer_note(self._raw, _millis_of_now(now)(), seen), "timer")
 
     def timeout(self, now: Optional[float] = None) -> Optional[float]:
         """Returns how many seconds what is pending may still wait: 0.0 if it is due, and None if it
@@ -1755,7 +1728,7 @@ class KeyMap(_Closable, MutableMapping[bytes, Value]):
                 number = self._number
                 kept = key if type(key) is bytes else memoryview(key).tobytes()
                 self._entries[number] = kept, value
-                if not _library.hed_keymap_insert(self._raw, pointer, length, number):
+                if _library.hed_keymap_insert(self._raw, pointer, length, number) != _STATUS_OK:
                     del self._entries[number]
                     raise _refused()
                 self._number += 1
@@ -1791,17 +1764,14 @@ class KeyMap(_Closable, MutableMapping[bytes, Value]):
         match, more = _RawMatch(), bool(maybe_more)
         with self._lock:
             answer = _lookup(self._raw, pointer, length, more, match)
-            if answer == _FOUND_EXACT:
+            if answer == _STATUS_OK:
                 return Exact(match.len, self._entries[match.value][1])
-            if answer == _FOUND_AMBIGUOUS:
+            if answer == _STATUS_AMBIGUOUS:
                 return Ambiguous(match.len, self._entries[match.value][1])
-        if answer == _FOUND_NEED_DATA:
+        if answer == _STATUS_NEED_DATA:
             return _need_data
-        if answer == _FOUND_NONE:
-            return _nothing
-        if answer == _FOUND_NO_MAP:
-            raise _closed(self._what)
-        _fault()
+        _is_ok(answer, self._what)
+        return _nothing
 
     def close(self) -> None:
         """Frees what the library holds, and lets the values go, once no other thread is in a call.
@@ -1817,16 +1787,16 @@ class KeyMap(_Closable, MutableMapping[bytes, Value]):
         """The number of the entry that has this key."""
         self._check_open()
         match = _RawMatch()
-        is_found = _lookup(self._raw, pointer, length, False, match) == _FOUND_EXACT
+        is_found = _lookup(self._raw, pointer, length, False, match) == _STATUS_OK
         return match.value if is_found and match.len == length else None
 
     def _replace(self, entries: Dict[int, Tuple[bytes, Value]]) -> Dict[int, Tuple[bytes, Value]]:
         """Makes the library's map anew, of these entries, and returns those that there were."""
         raw = _RawKeyMap()
-        if not _library.hed_keymap_init(raw):
+        if _library.hed_keymap_init(raw) != _STATUS_OK:
             raise _refused()
         for number, (key, _) in entries.items():
-            if not _library.hed_keymap_insert(raw, key, len(key), number):
+            if _library.hed_keymap_insert(raw, key, len(key), number) != _STATUS_OK:
                 _library.hed_keymap_free(raw)
                 raise _refused()
         _library.hed_keymap_free(self._raw)
@@ -1880,9 +1850,16 @@ def _sent(call: Callable[[Any, int, ctypes.c_size_t], int]) -> Tuple[int, bytes]
     while True:
         pointer, size = _borrowed(room)
         answer = call(pointer, size, length)
-        if answer != _ENCODED_TEXT or length.value <= size:
+        if answer != _STATUS_OK or length.value <= size:
             return answer, bytes(room[: length.value])
         room = bytearray(length.value)
+
+
+def _text_of(answer: int, sent: bytes) -> bytes:
+    """The bytes that a call of the library wrote. Raises what else it answers."""
+    if answer in (_STATUS_BAD_NUMBER, _STATUS_BAD_TEXT):
+        raise EncodeError("a surrogate names nothing")
+    return sent if _is_ok(answer, "parser") else _fault()
 
 
 def encode(
@@ -1911,19 +1888,13 @@ def encode(
         )
 
     answer, sent = _sent(call)
-    if answer == _ENCODED_TEXT:
-        return sent
-    if answer == _ENCODED_REFUSED_KEY:
+    if answer == _STATUS_REFUSED_KEY:
         raise EncodeError(f"F{detail} has no text: only F1 to F24 have one")
-    if answer == _ENCODED_REFUSED_MEMORY:
-        raise _refused()
-    if answer == _ENCODED_BAD_NUMBER:
-        raise EncodeError("a surrogate names nothing")
-    _fault()
+    return _text_of(answer, sent)
 
 
-# The extended parser, replies and what is sent have files of their own, which import names of this
-# one: so these lines come last.
+# ExtendedParser, replies and what is sent have files of their own, which import names of this one:
+# so these lines come last.
 from .extended import (  # noqa: E402
     Apc,
     Bindings,

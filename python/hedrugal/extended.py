@@ -37,12 +37,8 @@ from typing import (
 from . import (
     _BYTES,
     _COUNT,
-    _ENCODED_BAD_NUMBER,
-    _ENCODED_BAD_TEXT,
-    _ENCODED_REFUSED_KEY,
-    _ENCODED_REFUSED_MEMORY,
-    _ENCODED_TEXT,
-    _ENCODED_TOO_LONG,
+    _EVENT,
+    _HELD,
     _KIND_APC,
     _KIND_CSI,
     _KIND_CURSOR_POSITION,
@@ -57,7 +53,25 @@ from . import (
     _KIND_RESIZE,
     _KIND_STRING_CUT,
     _KIND_STRING_PART,
-    _NEXT_EVENT,
+    _PARSER,
+    _STATUS,
+    _STATUS_BAD_NUMBER,
+    _STATUS_BAD_TEXT,
+    _STATUS_FULL,
+    _STATUS_NAME_AMBIGUOUS,
+    _STATUS_NAME_BAD_NUMBER,
+    _STATUS_NAME_CONTROL_CHARACTER,
+    _STATUS_NAME_EMPTY,
+    _STATUS_NAME_MISSING_KEY,
+    _STATUS_NAME_MODIFIER_TWICE,
+    _STATUS_NAME_NOT_A_KEY,
+    _STATUS_NAME_SHIFTED_CHARACTER,
+    _STATUS_NAME_TOO_LONG,
+    _STATUS_NAME_UNKNOWN_MODIFIER,
+    _STATUS_NAME_UNKNOWN_NAME,
+    _STATUS_OK,
+    _STATUS_REFUSED_KEY,
+    _STATUS_TOO_LONG,
     EncodeError,
     Key,
     KeyEvent,
@@ -69,72 +83,27 @@ from . import (
     _borrowed,
     _buttons,
     _Closable,
-    _closed,
     _declare,
     _EventParser,
     _fault,
     _Flags,
-    _is_event,
+    _is_ok,
     _key,
+    _kitty_bits,
     _library,
     _modifiers,
     _Named,
     _number,
     _number_and_detail,
-    _PARSER as _INPUT_PARSER,
-    _PARSER_FIELDS,
-    _parser_with_table,
-    _ParserCalls,
-    _POLICY,
     _RawEvent,
-    _refused,
     _sent,
+    _text_of,
     _whole,
 )
 
-# What the calls answer that read and print names of keys.
-# numbers.txt: named private
-_NAMED_KEYS = 0
-_NAMED_CONTROL_CHARACTER = 1
-_NAMED_MODIFIER_TWICE = 2
-_NAMED_UNKNOWN_MODIFIER = 3
-_NAMED_MISSING_KEY = 4
-_NAMED_BAD_NUMBER = 5
-_NAMED_UNKNOWN_NAME = 6
-_NAMED_AMBIGUOUS = 7
-_NAMED_NOT_A_KEY = 8
-_NAMED_SHIFTED_CHARACTER = 9
-_NAMED_TOO_LONG = 10
-_NAMED_EMPTY = 11
-_NAMED_BAD_TEXT = 12
-# numbers.txt: end
-# numbers.txt: printed private
-_PRINTED_NAME = 0
-_PRINTED_NO_MEMORY = 1
-_PRINTED_BAD_NUMBER = 2
-# numbers.txt: end
-
-# numbers.txt: bound private
-_BOUND_NONE = 0
-_BOUND_VALUE = 1
-_BOUND_NO_MEMORY = 2
-_BOUND_BAD_NUMBER = 3
-_BOUND_NO_BINDINGS = 4
-# numbers.txt: end
-
-# numbers.txt: pressed private
-_PRESSED_KEY = 0
-_PRESSED_FULL = 1
-_PRESSED_BAD_NUMBER = 2
-_PRESSED_NO_BINDINGS = 3
-# numbers.txt: end
-
 # numbers.txt: outcome private
-_OUTCOME_NONE = 0
 _OUTCOME_BOUND = 1
 _OUTCOME_UNBOUND = 2
-_OUTCOME_BAD_NUMBER = 3
-_OUTCOME_NO_BINDINGS = 4
 # numbers.txt: end
 
 
@@ -274,17 +243,11 @@ class KeyReport:
             return int(_library.hed_encode_kitty(report, text, length, bits, out, size, sent))
 
         answer, sent = _sent(call)
-        if answer == _ENCODED_TEXT:
-            return sent
-        if answer == _ENCODED_REFUSED_KEY:
+        if answer == _STATUS_REFUSED_KEY:
             raise EncodeError(f"{self.key!r} has no bytes under these flags")
-        if answer == _ENCODED_TOO_LONG:
+        if answer == _STATUS_TOO_LONG:
             raise EncodeError("the text is too long: a sequence has at most 256 bytes")
-        if answer in (_ENCODED_BAD_NUMBER, _ENCODED_BAD_TEXT):
-            raise EncodeError("a surrogate names nothing")
-        if answer == _ENCODED_REFUSED_MEMORY:
-            raise _refused()
-        _fault()
+        return _text_of(answer, sent)
 
 
 @dataclass(frozen=True)
@@ -328,9 +291,9 @@ class KeyPress:
             return None
         if not isinstance(event.modifiers, Modifiers):
             raise TypeError("a KeyEvent has Modifiers")
-        number, detail = _number_and_detail(event.key)
-        raw = _RawEvent(_KIND_KEY, 0, event.modifiers.value, number, 0, 0, detail, 0)
-        return _written(functools.partial(_library.hed_key_of_event, raw))
+        return KeyPress.of_report(
+            KeyReport(event.key, KittyModifiers(_kitty_bits(event.modifiers)))
+        )
 
     @staticmethod
     def of_report(report: KeyReport) -> Optional[KeyPress]:
@@ -353,14 +316,17 @@ class KeyPress:
         ctrl+shift+1. U+0008 is tried as ctrl+backspace, and U+000A as enter.
 
         Look at the press first: where the report types its text, this says nothing of it."""
-        return _written(functools.partial(_library.hed_key_second, _raw_report(report)))
+        return _written(functools.partial(_library.hed_event_second, _raw_report(report)))
 
     @property
     def text(self) -> Optional[str]:
         """The character that the press types, or None. Nothing is then held, or SHIFT with the
         space alone. A program inserts it if the press does nothing else. Enter and Tab type
         none."""
-        return _character(_library.hed_key_text(_raw_press(self)))
+        room = bytearray(4)
+        pointer, size = _borrowed(room)
+        length = _library.hed_press_text(_raw_press(self), pointer, size)
+        return room[:length].decode("utf-8") or None
 
     def __str__(self) -> str:
         """The name of the press, as ctrl+shift+up. A KeyPress that was made by hand may be the
@@ -375,27 +341,31 @@ class KeyNameErrorKind(_Named):
     """What is wrong with a text that should name keys. Its text says so in words."""
 
     CONTROL_CHARACTER = _number(
-        _NAMED_CONTROL_CHARACTER, "A control character but the tab is in the text."
+        _STATUS_NAME_CONTROL_CHARACTER, "A control character but the tab is in the text."
     )
-    MODIFIER_TWICE = _number(_NAMED_MODIFIER_TWICE, "A modifier is there twice, as in M-A-x.")
-    UNKNOWN_MODIFIER = _number(_NAMED_UNKNOWN_MODIFIER, "A word before + or - is no modifier.")
-    MISSING_KEY = _number(_NAMED_MISSING_KEY, "No key stands behind the modifiers, as in ctrl+.")
-    BAD_NUMBER = _number(_NAMED_BAD_NUMBER, "A number names no key, as in f256 and f01.")
-    UNKNOWN_NAME = _number(_NAMED_UNKNOWN_NAME, "No key has this name.")
+    MODIFIER_TWICE = _number(_STATUS_NAME_MODIFIER_TWICE, "A modifier is there twice, as in M-A-x.")
+    UNKNOWN_MODIFIER = _number(
+        _STATUS_NAME_UNKNOWN_MODIFIER, "A word before + or - is no modifier."
+    )
+    MISSING_KEY = _number(
+        _STATUS_NAME_MISSING_KEY, "No key stands behind the modifiers, as in ctrl+."
+    )
+    BAD_NUMBER = _number(_STATUS_NAME_BAD_NUMBER, "A number names no key, as in f256 and f01.")
+    UNKNOWN_NAME = _number(_STATUS_NAME_UNKNOWN_NAME, "No key has this name.")
     AMBIGUOUS = _number(
-        _NAMED_AMBIGUOUS,
+        _STATUS_NAME_AMBIGUOUS,
         "DEL in capitals is Backspace to Emacs, and Delete to others: write backspace or delete.",
     )
     NOT_A_KEY = _number(
-        _NAMED_NOT_A_KEY, "The key makes no press by itself, as a modifier or a lock."
+        _STATUS_NAME_NOT_A_KEY, "The key makes no press by itself, as a modifier or a lock."
     )
     SHIFTED_CHARACTER = _number(
-        _NAMED_SHIFTED_CHARACTER,
+        _STATUS_NAME_SHIFTED_CHARACTER,
         "Shift with a sign that shows it, as in shift+!: write the sign alone.",
     )
-    TOO_LONG = _number(_NAMED_TOO_LONG, "The text has more than 32 keys.")
-    EMPTY = _number(_NAMED_EMPTY, "No key is in the text.")
-    BAD_TEXT = _number(_NAMED_BAD_TEXT, "The text has a surrogate, which UTF-8 can't have.")
+    TOO_LONG = _number(_STATUS_NAME_TOO_LONG, "The text has more than 32 keys.")
+    EMPTY = _number(_STATUS_NAME_EMPTY, "No key is in the text.")
+    BAD_TEXT = _number(_STATUS_BAD_TEXT, "The text has a surrogate, which UTF-8 can't have.")
 
     def __str__(self) -> str:
         return _faults[self]
@@ -463,7 +433,7 @@ class Chord:
         keys = (_RawPress * _CHORD_MOST)()
         count, at = ctypes.c_size_t(), ctypes.c_size_t()
         answer = _library.hed_key_read(name, length, keys, _CHORD_MOST, count, at)
-        if answer == _NAMED_KEYS:
+        if answer == _STATUS_OK:
             return Chord(map(_press, keys[: count.value]))
         raise KeyNameError(_name_error_kinds.get(answer) or _fault(), at.value)
 
@@ -542,35 +512,33 @@ class Bindings(_Closable, MutableMapping[Chord, Value]):
         raw, number = _raw_chord(keys), ctypes.c_uint64()
         with self._lock:
             answer = _library.hed_bindings_lookup(self._raw, raw, len(raw), number)
-            if answer == _BOUND_VALUE:
+            if _is_ok(answer, self._what):
                 return self._values[number.value]
-        self._check_bound(answer)
         raise KeyError(keys)
 
     def __setitem__(self, keys: Keys, value: Value) -> None:
         raw, number = _raw_chord(keys), ctypes.c_uint64()
         with self._alone():
             self._check_open()
-            if _library.hed_bindings_lookup(self._raw, raw, len(raw), number) == _BOUND_VALUE:
+            if _library.hed_bindings_lookup(self._raw, raw, len(raw), number) == _STATUS_OK:
                 # The value that it had is let go as the call returns.
                 value, self._values[number.value] = self._values[number.value], value
                 return
             place = self._number
             self._values[place] = value
             answer = _library.hed_bindings_bind(self._raw, raw, len(raw), place)
-            if answer != _BOUND_VALUE:
+            if answer != _STATUS_OK:
                 del self._values[place]
-                self._check_bound(answer)
+                _is_ok(answer, self._what)
             self._number += 1
 
     def __delitem__(self, keys: Keys) -> None:
         raw, number = _raw_chord(keys), ctypes.c_uint64()
         with self._alone():
             answer = _library.hed_bindings_unbind(self._raw, raw, len(raw), number)
-            value = self._values.pop(number.value) if answer == _BOUND_VALUE else None
+            value = self._values.pop(number.value) if answer == _STATUS_OK else None
         del value
-        self._check_bound(answer)
-        if answer == _BOUND_NONE:
+        if not _is_ok(answer, self._what):
             raise KeyError(keys)
 
     def continuations(self, keys: Keys) -> Dict[Chord, Value]:
@@ -583,7 +551,7 @@ class Bindings(_Closable, MutableMapping[Chord, Value]):
         raw, first, end = _raw_chord(keys), ctypes.c_size_t(), ctypes.c_size_t()
         with self._lock:
             answer = _library.hed_bindings_continuations(self._raw, raw, len(raw), first, end)
-            self._check_bound(answer)
+            _is_ok(answer, self._what)
             return dict(self._entries(range(first.value, end.value)))
 
     def close(self) -> None:
@@ -600,18 +568,9 @@ class Bindings(_Closable, MutableMapping[Chord, Value]):
         entries = []
         for place in places:
             answer = _library.hed_bindings_entry(self._raw, place, keys, _CHORD_MOST, count, number)
-            self._check_bound(answer)
+            _is_ok(answer, self._what)
             entries.append((Chord(map(_press, keys[: count.value])), self._values[number.value]))
         return entries
-
-    def _check_bound(self, answer: int) -> None:
-        """Raises what a call of bindings answered, if it did nothing."""
-        if answer == _BOUND_NO_BINDINGS:
-            raise _closed(self._what)
-        if answer == _BOUND_NO_MEMORY:
-            raise _refused()
-        if answer not in (_BOUND_NONE, _BOUND_VALUE):
-            _fault()
 
 
 @dataclass(frozen=True)
@@ -685,14 +644,11 @@ class Matcher(Generic[Value]):
             answer = _library.hed_matcher_press_either(
                 self._raw, self.bindings._raw, raw, len(presses)
             )
-        if answer == _PRESSED_FULL:
+        if answer == _STATUS_FULL:
             raise ValueError(f"{_CHORD_MOST} presses are pending")
-        if answer == _PRESSED_BAD_NUMBER:
+        if answer == _STATUS_BAD_NUMBER:
             raise ValueError(f"{' or '.join(map(repr, presses))} is the press of no key")
-        if answer == _PRESSED_NO_BINDINGS:
-            raise _closed(self.bindings._what)
-        if answer != _PRESSED_KEY:
-            _fault()
+        _is_ok(answer, self.bindings._what)
 
     def take(self, maybe_more: bool = True) -> Optional[Union[Bound[Value], Unbound]]:
         """Takes what comes first of what is pending: the longest chord, or else the first press.
@@ -746,15 +702,12 @@ class Matcher(Generic[Value]):
         """The outcome that a call wrote, if it did."""
         bindings, outcome = self.bindings, _RawOutcome()
         with bindings._lock:
-            answer = call(bindings._raw, outcome)
-            if answer == _OUTCOME_BOUND:
+            if not _is_ok(call(bindings._raw, outcome), bindings._what):
+                return None
+            if outcome.kind == _OUTCOME_BOUND:
                 return Bound(outcome.keys, bindings._values[outcome.value])
-        if answer == _OUTCOME_UNBOUND:
+        if outcome.kind == _OUTCOME_UNBOUND:
             return Unbound(_press(outcome.press))
-        if answer == _OUTCOME_NONE:
-            return None
-        if answer == _OUTCOME_NO_BINDINGS:
-            raise _closed(bindings._what)
         _fault()
 
 
@@ -924,10 +877,6 @@ ExtendedEvent = Union[
 # The structs of hedrugal.h.
 
 
-class _RawExtended(ctypes.Structure):
-    _fields_ = _PARSER_FIELDS
-
-
 class _RawReading(ctypes.Structure):
     _fields_ = [
         ("dialect", ctypes.c_uint32),
@@ -935,28 +884,6 @@ class _RawReading(ctypes.Structure):
         ("newline", ctypes.c_uint32),
         ("x10_mouse", ctypes.c_bool),
         ("questions", ctypes.c_uint8),
-    ]
-
-
-class _RawReport(ctypes.Structure):
-    _fields_ = [
-        ("kind", ctypes.c_uint8),
-        ("modifiers", ctypes.c_uint8),
-        ("key", ctypes.c_uint16),
-        ("detail", ctypes.c_uint32),
-        ("shifted", ctypes.c_uint32),
-        ("base", ctypes.c_uint32),
-    ]
-
-
-class _RawMouse(ctypes.Structure):
-    _fields_ = [
-        ("kind", ctypes.c_uint8),
-        ("button", ctypes.c_uint8),
-        ("buttons", ctypes.c_uint8),
-        ("modifiers", ctypes.c_uint16),
-        ("x", ctypes.c_uint16),
-        ("y", ctypes.c_uint16),
     ]
 
 
@@ -977,41 +904,26 @@ class _RawMatcher(ctypes.Structure):
 
 
 class _RawOutcome(ctypes.Structure):
-    _fields_ = [("keys", ctypes.c_size_t), ("value", ctypes.c_uint64), ("press", _RawPress)]
-
-
-class _RawExtendedEvent(ctypes.Structure):
     _fields_ = [
-        ("kind", ctypes.c_uint8),
-        ("flags", ctypes.c_uint8),
-        ("row", ctypes.c_uint16),
-        ("column", ctypes.c_uint16),
-        ("rows", ctypes.c_uint16),
-        ("columns", ctypes.c_uint16),
-        ("height", ctypes.c_uint16),
-        ("width", ctypes.c_uint16),
-        ("report", _RawReport),
-        ("mouse", _RawMouse),
-        ("text_len", ctypes.c_size_t),
+        ("keys", ctypes.c_size_t),
+        ("value", ctypes.c_uint64),
+        ("press", _RawPress),
+        ("kind", ctypes.c_uint32),
     ]
 
 
-# Where a report lies in a _RawExtendedEvent, and its fields, all at once.
-_REPORT_AT = _RawExtendedEvent.report.offset
-_report_fields_of = struct.Struct("@BBHIII").unpack_from
+# What a _RawEvent says of a key, all at once: modifiers, what happened, key, detail, shifted, base.
+_report_fields_of = struct.Struct("@xBB5xH18xIII").unpack_from
 
-# What stands for a code point that the terminal did not report, and for no text of a press.
+# What stands for a code point that the terminal did not report.
 _NO_CODE = 0xFFFFFFFF
 
 # The most presses that a chord has, and more bytes than the name of one has.
 _CHORD_MOST = 32
 _NAME_ROOM = 64
 
-_PARSER: Any = ctypes.POINTER(_RawExtended)
 _READING = ctypes.POINTER(_RawReading)
-_REPORT = ctypes.POINTER(_RawReport)
 _PRESS = ctypes.POINTER(_RawPress)
-_EVENT: Any = ctypes.POINTER(_RawExtendedEvent)
 _BINDINGS = ctypes.POINTER(_RawBindings)
 _MATCHER = ctypes.POINTER(_RawMatcher)
 _OUTCOME = ctypes.POINTER(_RawOutcome)
@@ -1019,39 +931,16 @@ _NUMBER = ctypes.POINTER(ctypes.c_uint64)
 
 # The calls of hedrugal.h: the type of the result, and those of the arguments.
 _CALLS: Dict[str, Tuple[Any, List[Any]]] = {
-    "hed_extended_init": (ctypes.c_bool, [_PARSER, ctypes.c_uint32]),
-    "hed_extended_init_sharing": (ctypes.c_bool, [_PARSER, ctypes.c_uint32, _PARSER]),
-    "hed_extended_init_sharing_parser": (ctypes.c_bool, [_PARSER, ctypes.c_uint32, _INPUT_PARSER]),
-    "hed_parser_init_sharing_extended": (ctypes.c_bool, [_INPUT_PARSER, _PARSER]),
-    "hed_extended_set_reading": (ctypes.c_bool, [_PARSER, _READING]),
-    "hed_extended_reading": (ctypes.c_bool, [_PARSER, _READING]),
-    "hed_extended_expect_position": (None, [_PARSER]),
-    "hed_extended_forget_positions": (None, [_PARSER]),
-    "hed_extended_free": (None, [_PARSER]),
-    "hed_extended_feed": (ctypes.c_bool, [_PARSER, _BYTES, ctypes.c_size_t]),
-    "hed_extended_next": (ctypes.c_uint32, [_PARSER, ctypes.c_bool, _EVENT]),
-    "hed_extended_next_events": (
-        ctypes.c_uint32,
-        [_PARSER, ctypes.c_bool, _EVENT, ctypes.c_size_t, _BYTES, ctypes.c_size_t, _COUNT],
-    ),
-    "hed_extended_text": (ctypes.c_size_t, [_PARSER, _BYTES, ctypes.c_size_t]),
-    "hed_extended_drop_text": (None, [_PARSER]),
-    "hed_extended_shrink_to": (None, [_PARSER, ctypes.c_size_t]),
-    "hed_extended_waiting_len": (ctypes.c_size_t, [_PARSER]),
-    "hed_extended_waiting": (ctypes.c_uint32, [_PARSER]),
-    "hed_extended_flush_escape": (ctypes.c_uint32, [_PARSER, _EVENT]),
-    "hed_extended_is_paste_open": (ctypes.c_bool, [_PARSER]),
-    "hed_extended_take_paste": (ctypes.c_uint32, [_PARSER, ctypes.c_size_t, _EVENT]),
-    "hed_extended_skip_paste": (ctypes.c_bool, [_PARSER, _COUNT]),
-    "hed_extended_end_paste": (ctypes.c_uint32, [_PARSER, _EVENT]),
-    "hed_extended_set_policy": (ctypes.c_bool, [_PARSER, _POLICY]),
-    "hed_extended_timeout": (ctypes.c_int32, [_PARSER, ctypes.c_uint64]),
-    "hed_extended_expire": (ctypes.c_uint32, [_PARSER, ctypes.c_uint64, _EVENT]),
-    "hed_extended_reset": (ctypes.c_size_t, [_PARSER]),
+    "hed_parser_set_reading": (_STATUS, [_PARSER, _READING]),
+    "hed_parser_reading": (_STATUS, [_PARSER, _READING]),
+    "hed_parser_expect_position": (None, [_PARSER]),
+    "hed_parser_forget_positions": (None, [_PARSER]),
+    "hed_parser_press": (_STATUS, [_PARSER, _EVENT, _PRESS]),
+    "hed_parser_second": (_STATUS, [_PARSER, _EVENT, _PRESS]),
     "hed_encode_kitty": (
-        ctypes.c_uint32,
+        _STATUS,
         [
-            _REPORT,
+            _EVENT,
             _BYTES,
             ctypes.c_size_t,
             ctypes.c_uint8,
@@ -1060,39 +949,43 @@ _CALLS: Dict[str, Tuple[Any, List[Any]]] = {
             _COUNT,
         ],
     ),
-    "hed_key_of_event": (ctypes.c_bool, [ctypes.POINTER(_RawEvent), _PRESS]),
-    "hed_key_of_report": (ctypes.c_bool, [_REPORT, _BYTES, ctypes.c_size_t, _PRESS]),
-    "hed_key_second": (ctypes.c_bool, [_REPORT, _PRESS]),
-    "hed_key_text": (ctypes.c_uint32, [_PRESS]),
+    "hed_event_press": (_STATUS, [_EVENT, _BYTES, ctypes.c_size_t, _PRESS]),
+    "hed_event_second": (_STATUS, [_EVENT, _PRESS]),
+    "hed_press_text": (ctypes.c_size_t, [_PRESS, _BYTES, ctypes.c_size_t]),
+    "hed_press_print": (_STATUS, [_PRESS, _BYTES, ctypes.c_size_t, _COUNT]),
     "hed_key_read": (
-        ctypes.c_uint32,
+        _STATUS,
         [_BYTES, ctypes.c_size_t, _PRESS, ctypes.c_size_t, _COUNT, _COUNT],
     ),
     "hed_key_print": (
-        ctypes.c_uint32,
+        _STATUS,
         [_PRESS, ctypes.c_size_t, _BYTES, ctypes.c_size_t, _COUNT],
     ),
-    "hed_bindings_init": (ctypes.c_bool, [_BINDINGS]),
+    "hed_bindings_init": (_STATUS, [_BINDINGS]),
     "hed_bindings_free": (None, [_BINDINGS]),
     "hed_bindings_bind": (
-        ctypes.c_uint32,
+        _STATUS,
         [_BINDINGS, _PRESS, ctypes.c_size_t, ctypes.c_uint64],
     ),
-    "hed_bindings_unbind": (ctypes.c_uint32, [_BINDINGS, _PRESS, ctypes.c_size_t, _NUMBER]),
-    "hed_bindings_lookup": (ctypes.c_uint32, [_BINDINGS, _PRESS, ctypes.c_size_t, _NUMBER]),
+    "hed_bindings_bind_name": (
+        _STATUS,
+        [_BINDINGS, _BYTES, ctypes.c_size_t, ctypes.c_uint64, _COUNT],
+    ),
+    "hed_bindings_unbind": (_STATUS, [_BINDINGS, _PRESS, ctypes.c_size_t, _NUMBER]),
+    "hed_bindings_lookup": (_STATUS, [_BINDINGS, _PRESS, ctypes.c_size_t, _NUMBER]),
     "hed_bindings_len": (ctypes.c_size_t, [_BINDINGS]),
     "hed_bindings_entry": (
-        ctypes.c_uint32,
+        _STATUS,
         [_BINDINGS, ctypes.c_size_t, _PRESS, ctypes.c_size_t, _COUNT, _NUMBER],
     ),
     "hed_bindings_continuations": (
-        ctypes.c_uint32,
+        _STATUS,
         [_BINDINGS, _PRESS, ctypes.c_size_t, _COUNT, _COUNT],
     ),
-    "hed_matcher_press": (ctypes.c_uint32, [_MATCHER, _PRESS]),
-    "hed_matcher_press_either": (ctypes.c_uint32, [_MATCHER, _BINDINGS, _PRESS, ctypes.c_size_t]),
-    "hed_matcher_next": (ctypes.c_uint32, [_MATCHER, _BINDINGS, ctypes.c_bool, _OUTCOME]),
-    "hed_matcher_on_pause": (ctypes.c_uint32, [_MATCHER, _BINDINGS, _OUTCOME]),
+    "hed_matcher_press": (_STATUS, [_MATCHER, _PRESS]),
+    "hed_matcher_press_either": (_STATUS, [_MATCHER, _BINDINGS, _PRESS, ctypes.c_size_t]),
+    "hed_matcher_next": (_STATUS, [_MATCHER, _BINDINGS, ctypes.c_bool, _OUTCOME]),
+    "hed_matcher_on_pause": (_STATUS, [_MATCHER, _BINDINGS, _OUTCOME]),
     "hed_matcher_is_dead_end": (ctypes.c_bool, [_MATCHER, _BINDINGS]),
     "hed_matcher_pending": (ctypes.c_size_t, [_MATCHER, _PRESS, ctypes.c_size_t]),
     "hed_matcher_cancel": (ctypes.c_size_t, [_MATCHER, _PRESS, ctypes.c_size_t]),
@@ -1153,33 +1046,49 @@ def _reported_numbers(key: ReportedKey) -> Tuple[int, int]:
     return (0, _whole(key, 0, 0xFFFFFFFF)) if isinstance(key, int) else _number_and_detail(key)
 
 
-def _raw_report(report: KeyReport) -> _RawReport:
+def _raw_report(report: KeyReport) -> _RawEvent:
     """The numbers of a report."""
     modifiers, kind = report.modifiers, report.kind
     if not isinstance(modifiers, KittyModifiers) or not isinstance(kind, KeyEventKind):
         raise TypeError("a KeyReport has KittyModifiers and a KeyEventKind")
     number, detail = _reported_numbers(report.key)
-    return _RawReport(
-        kind.value, modifiers.value, number, detail, _code(report.shifted), _code(report.base)
+    return _RawEvent(
+        kind=_KIND_KEY,
+        modifiers=modifiers.value,
+        key_event_kind=kind.value,
+        key=number,
+        detail=detail,
+        shifted=_code(report.shifted),
+        base=_code(report.base),
     )
 
 
-def _raw_mouse(report: MouseReport) -> _RawMouse:
+def _raw_mouse(report: MouseReport) -> _RawEvent:
     """The numbers of a mouse report."""
-    if not isinstance(report.modifiers, Modifiers) or not isinstance(report.buttons, MouseButtons):
+    modifiers = report.modifiers
+    if not isinstance(modifiers, Modifiers) or not isinstance(report.buttons, MouseButtons):
         raise TypeError("a MouseReport has Modifiers and MouseButtons")
     if not isinstance(report.kind, MouseKind):
         raise TypeError("a MouseReport has a MouseKind")
+    if modifiers & ~_HELD:
+        raise EncodeError("no bytes are read as this MouseReport")
     x, y = (_whole(place, 0, 65535) for place in (report.x, report.y))
-    # The number 0 says that there is none, and names no button.
-    button = 0 if report.button is None else _whole(report.button, 1, 255)
-    return _RawMouse(report.kind.value, button, report.buttons.value, report.modifiers.value, x, y)
+    return _RawEvent(
+        kind=_KIND_MOUSE,
+        modifiers=_kitty_bits(modifiers),
+        mouse_kind=report.kind.value,
+        # The number 0 says that there is none, and names no button.
+        button=0 if report.button is None else _whole(report.button, 1, 255),
+        buttons=report.buttons.value,
+        x=x,
+        y=y,
+    )
 
 
-def _written(call: Callable[[_RawPress], bool]) -> Optional[KeyPress]:
+def _written(call: Callable[[_RawPress], int]) -> Optional[KeyPress]:
     """The press that a call wrote, if it did."""
     press = _RawPress()
-    return _press(press) if call(press) else None
+    return _press(press) if call(press) == _STATUS_OK else None
 
 
 def _press(press: _RawPress) -> KeyPress:
@@ -1224,13 +1133,9 @@ def _printed(presses: Tuple[KeyPress, ...]) -> Optional[str]:
     room, length = bytearray(_NAME_ROOM * count), ctypes.c_size_t()
     pointer, size = _borrowed(room)
     answer = _library.hed_key_print(keys, count, pointer, size, length)
-    if answer == _PRINTED_NAME:
-        return room[: length.value].decode("utf-8")
-    if answer == _PRINTED_BAD_NUMBER:
+    if answer == _STATUS_BAD_NUMBER:
         return None
-    if answer == _PRINTED_NO_MEMORY:
-        raise _refused()
-    _fault()
+    return room[: length.value].decode("utf-8") if _is_ok(answer, "name") else _fault()
 
 
 def _press_typing(report: KeyReport, typed: str) -> Optional[KeyPress]:
@@ -1238,12 +1143,12 @@ def _press_typing(report: KeyReport, typed: str) -> Optional[KeyPress]:
     # A surrogate is passed on: the library refuses it.
     text, length = _borrowed(str.encode(typed, "utf-8", "surrogatepass"))
     raw = _raw_report(report)
-    return _written(functools.partial(_library.hed_key_of_report, raw, text, length))
+    return _written(functools.partial(_library.hed_event_press, raw, text, length))
 
 
 @functools.lru_cache(maxsize=4096)
 def _key_report(
-    kind: int, modifiers: int, number: int, detail: int, shifted: int, base: int, text: str
+    modifiers: int, kind: int, number: int, detail: int, shifted: int, base: int, text: str
 ) -> KeyReport:
     key = _key(number, detail) if number else detail
     return KeyReport(
@@ -1256,13 +1161,13 @@ def _key_report(
     )
 
 
-def _mouse_report(raw: _RawMouse) -> MouseReport:
+def _mouse_report(raw: _RawEvent) -> MouseReport:
     return MouseReport(
         raw.x,
         raw.y,
-        _modifiers(raw.modifiers),
+        _modifiers(2 * raw.modifiers),
         _buttons(raw.buttons),
-        _mouse_kinds.get(raw.kind) or _fault(),
+        _mouse_kinds.get(raw.mouse_kind) or _fault(),
         raw.button or None,
     )
 
@@ -1311,37 +1216,11 @@ class ExtendedParser(_EventParser[ExtendedEvent]):
 
     What an InputParser says of its memory, of threads and of errors holds here too."""
 
-    _calls = _ParserCalls(
-        feed=_library.hed_extended_feed,
-        next=_library.hed_extended_next,
-        text=_library.hed_extended_text,
-        drop_text=_library.hed_extended_drop_text,
-        waiting_len=_library.hed_extended_waiting_len,
-        waiting=_library.hed_extended_waiting,
-        flush_escape=_library.hed_extended_flush_escape,
-        is_paste_open=_library.hed_extended_is_paste_open,
-        take_paste=_library.hed_extended_take_paste,
-        skip_paste=_library.hed_extended_skip_paste,
-        end_paste=_library.hed_extended_end_paste,
-        set_policy=_library.hed_extended_set_policy,
-        timeout=_library.hed_extended_timeout,
-        expire=_library.hed_extended_expire,
-        reset=_library.hed_extended_reset,
-        shrink_to=_library.hed_extended_shrink_to,
-    )
-
     def __init__(self, dialect: Dialect = Dialect.EXTENDED) -> None:
-        number = _number_of(Dialect, dialect)
-
-        def init(raw: _RawExtended) -> bool:
-            return bool(
-                _library.hed_extended_init_sharing_parser(raw, number, _parser_with_table())
-            )
-
-        super().__init__(_RawExtended(), _RawExtendedEvent(), init, _library.hed_extended_free)
+        super().__init__(_number_of(Dialect, dialect))
         # The library wrote so many events to the array, of which those from this place on are left.
-        self._array, self._count, self._at = (_RawExtendedEvent * _ARRAY)(), ctypes.c_size_t(), 0
-        self._next_events = _library.hed_extended_next_events
+        self._array, self._count, self._at = (_RawEvent * _ARRAY)(), ctypes.c_size_t(), 0
+        self._next_events = _library.hed_parser_next_events
         self._plain_event = _events.__getitem__
 
     @property
@@ -1375,8 +1254,7 @@ class ExtendedParser(_EventParser[ExtendedEvent]):
         raw = _RawReading()
         with self._lock:
             self._check_open()
-            if not _library.hed_extended_reading(self._raw, raw):
-                _fault()
+            _is_ok(_library.hed_parser_reading(self._raw, raw), self._what)
         return Reading(
             _dialects.get(raw.dialect) or _fault(),
             raw.x10_mouse,
@@ -1390,8 +1268,7 @@ class ExtendedParser(_EventParser[ExtendedEvent]):
         raw = _raw_reading(reading)
         with self._lock:
             self._check_open()
-            if not _library.hed_extended_set_reading(self._raw, raw):
-                _fault()
+            _is_ok(_library.hed_parser_set_reading(self._raw, raw), self._what)
 
     def expect_position(self) -> None:
         r"""Expects one more reply to a question for the cursor's position. Call it with each
@@ -1408,14 +1285,14 @@ class ExtendedParser(_EventParser[ExtendedEvent]):
         Each such event answers one question, and `reset` forgets all."""
         with self._lock:
             self._check_open()
-            _library.hed_extended_expect_position(self._raw)
+            _library.hed_parser_expect_position(self._raw)
 
     def forget_positions(self) -> None:
         """Expects no reply any more to such questions. Call it when a reply is overdue, or when a
         later question was answered."""
         with self._lock:
             self._check_open()
-            _library.hed_extended_forget_positions(self._raw)
+            _library.hed_parser_forget_positions(self._raw)
 
     # Events are taken in arrays, but for those that bring a text.
 
@@ -1432,7 +1309,7 @@ class ExtendedParser(_EventParser[ExtendedEvent]):
         return super()._find_front(maybe_more)
 
     def _move_events(self, events: List[ExtendedEvent], more: bool) -> None:
-        answer = _NEXT_EVENT
+        answer = _STATUS_OK
         while True:
             if self._has_front:
                 events.append(self._front_event())
@@ -1440,10 +1317,10 @@ class ExtendedParser(_EventParser[ExtendedEvent]):
             elif self._at < self._count.value:
                 if not self._move_array(events):
                     self._leave_array()
-            elif _is_event(answer):
-                answer = self._next_events(
-                    self._raw, more, self._array, _ARRAY, None, 0, self._count
-                )
+            elif _is_ok(answer, self._what):
+                if not more:
+                    _library.hed_parser_flush(self._raw)
+                answer = self._next_events(self._raw, self._array, _ARRAY, None, 0, self._count)
                 self._at = 0
             else:
                 return
@@ -1473,21 +1350,21 @@ class ExtendedParser(_EventParser[ExtendedEvent]):
             return self._paste(front.text_len)
         if kind == _KIND_KEY and front.text_len:
             text = self._text(front.text_len).decode("utf-8")
-            return _key_report(*_report_fields_of(front, _REPORT_AT), text)
+            return _key_report(*_report_fields_of(front), text)
         if kind in _of_data:
             return _of_data[kind](bytes(self._text(front.text_len)))
         if kind in _of_string:
-            of = _string_kinds.get(front.flags) or _fault()
+            of = _string_kinds.get(front.string_kind) or _fault()
             return _of_string[kind](of, bytes(self._text(front.text_len)))
         return _event_without_text(front)
 
 
-def _event_without_text(raw: _RawExtendedEvent) -> ExtendedEvent:
+def _event_without_text(raw: _RawEvent) -> ExtendedEvent:
     kind = raw.kind
     if kind == _KIND_KEY:
-        return _key_report(*_report_fields_of(raw, _REPORT_AT), "")
+        return _key_report(*_report_fields_of(raw), "")
     if kind == _KIND_MOUSE:
-        return _mouse_report(raw.mouse)
+        return _mouse_report(raw)
     if kind == _KIND_CURSOR_POSITION:
         return CursorPosition(raw.row, raw.column)
     if kind == _KIND_RESIZE:
@@ -1509,7 +1386,7 @@ class _Events(Dict[bytes, ExtendedEvent]):
     """The events of structs that bring no text. Those of keys are found again."""
 
     def __missing__(self, record: bytes) -> ExtendedEvent:
-        raw = _RawExtendedEvent.from_buffer_copy(record)
+        raw = _RawEvent.from_buffer_copy(record)
         if raw.kind in _WITH_TEXT or raw.text_len:
             raise _BringsText
         event = _event_without_text(raw)
@@ -1524,7 +1401,7 @@ _events = _Events()
 _WITH_TEXT = frozenset((_KIND_PASTE, *_of_data, *_of_string))
 # How many events of keys are found again, the structs of an array, and the bytes of one.
 _MOST_KEYS, _ARRAY = 4096, 64
-_RECORD = ctypes.sizeof(_RawExtendedEvent)
+_RECORD = ctypes.sizeof(_RawEvent)
 
 
 @functools.lru_cache(maxsize=None)

@@ -22,23 +22,18 @@ from . import (
     _KIND_CSI,
     _KIND_DCS,
     _KIND_OSC,
+    _STATUS,
     _borrowed,
     _declare,
     _fault,
+    _is_ok,
     _library,
     _Named,
     _number,
-    _refused,
 )
 from .extended import Csi, Dcs, ExtendedEvent, Osc
 
-# What the call answers, and the kinds of replies.
-# numbers.txt: replied private
-_REPLIED_NONE = 0
-_REPLIED_VALUES = 1
-_REPLIED_NO_MEMORY = 2
-# numbers.txt: end
-
+# The kinds of replies.
 # numbers.txt: reply private
 _REPLY_DEVICE_ATTRIBUTES = 1
 _REPLY_MODE = 2
@@ -199,7 +194,7 @@ class _RawReply(ctypes.Structure):
 # The call of hedrugal.h: the type of the result, and those of the arguments.
 _CALLS: Dict[str, Tuple[Any, List[Any]]] = {
     "hed_read_reply": (
-        ctypes.c_uint32,
+        _STATUS,
         [
             ctypes.c_uint8,
             _BYTES,
@@ -265,10 +260,4 @@ def reply(event: ExtendedEvent) -> Optional[Reply]:
     answer = _library.hed_read_reply(
         _kinds[type(event)], data, length, raw, numbers, length, place, size
     )
-    if answer == _REPLIED_VALUES:
-        return _reply(raw, numbers, out)
-    if answer == _REPLIED_NONE:
-        return None
-    if answer == _REPLIED_NO_MEMORY:
-        raise _refused()
-    _fault()
+    return _reply(raw, numbers, out) if _is_ok(answer, "reply") else None

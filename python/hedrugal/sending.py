@@ -19,20 +19,19 @@ from typing import Any, Dict, List, Tuple
 from . import (
     _BYTES,
     _COUNT,
-    _ENCODED_REFUSED_MEMORY,
-    _ENCODED_TEXT,
-    _ENCODED_TOO_FAR,
+    _STATUS,
+    _STATUS_TOO_FAR,
     Bytes,
     EncodeError,
     Modifiers,
     _borrowed,
     _declare,
-    _fault,
+    _kitty_bits,
     _library,
     _Named,
     _number,
-    _refused,
     _sent,
+    _text_of,
     _whole,
 )
 
@@ -101,12 +100,7 @@ def encode_paste(data: Bytes, bracketed: bool) -> bytes:
     def call(out: Any, size: int, length: ctypes.c_size_t) -> int:
         return int(_library.hed_encode_paste(text, text_len, bracketed, out, size, length))
 
-    answer, sent = _sent(call)
-    if answer == _ENCODED_TEXT:
-        return sent
-    if answer == _ENCODED_REFUSED_MEMORY:
-        raise _refused()
-    _fault()
+    return _text_of(*_sent(call))
 
 
 @dataclass(frozen=True)
@@ -135,20 +129,16 @@ class SentMouse:
             )
 
         answer, sent = _sent(call)
-        if answer == _ENCODED_TEXT:
-            return sent
-        if answer == _ENCODED_TOO_FAR:
+        if answer == _STATUS_TOO_FAR:
             raise EncodeError(f"the place {self.x}, {self.y} is too far")
-        if answer == _ENCODED_REFUSED_MEMORY:
-            raise _refused()
-        _fault()
+        return _text_of(answer, sent)
 
 
 class _RawSentMouse(ctypes.Structure):
     _fields_ = [
         ("x", ctypes.c_uint16),
         ("y", ctypes.c_uint16),
-        ("modifiers", ctypes.c_uint16),
+        ("modifiers", ctypes.c_uint8),
         ("button", ctypes.c_uint8),
     ]
 
@@ -157,16 +147,16 @@ def _raw_sent_mouse(report: SentMouse) -> _RawSentMouse:
     if not isinstance(report.button, MouseButton) or not isinstance(report.modifiers, Modifiers):
         raise TypeError("a SentMouse has a MouseButton and Modifiers")
     x, y = (_whole(place, 0, 65535) for place in (report.x, report.y))
-    return _RawSentMouse(x, y, report.modifiers.value, report.button.value)
+    return _RawSentMouse(x, y, _kitty_bits(report.modifiers), report.button.value)
 
 
 _CALLS: Dict[str, Tuple[Any, List[Any]]] = {
     "hed_encode_paste": (
-        ctypes.c_uint32,
+        _STATUS,
         [_BYTES, ctypes.c_size_t, ctypes.c_bool, _BYTES, ctypes.c_size_t, _COUNT],
     ),
     "hed_encode_mouse": (
-        ctypes.c_uint32,
+        _STATUS,
         [
             ctypes.POINTER(_RawSentMouse),
             ctypes.c_uint32,

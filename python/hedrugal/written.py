@@ -18,38 +18,34 @@ from typing import Any, Callable, Dict, List, Sequence, Tuple
 from . import (
     _BYTES,
     _COUNT,
-    _ENCODED_BAD_TEXT,
-    _ENCODED_NO_TEXT,
-    _ENCODED_REFUSED_MEMORY,
-    _ENCODED_TEXT,
-    _ENCODED_TOO_LONG,
+    _EVENT,
     _KIND_APC,
     _KIND_CSI,
     _KIND_CURSOR_POSITION,
     _KIND_DCS,
     _KIND_FOCUS_GAINED,
     _KIND_FOCUS_LOST,
-    _KIND_KEY,
     _KIND_KEYBOARD_FLAGS,
-    _KIND_MOUSE,
     _KIND_OSC,
     _KIND_PASTE,
     _KIND_RESIZE,
     _KIND_STRING_CUT,
     _KIND_STRING_PART,
+    _PARSER,
+    _STATUS,
+    _STATUS_NO_TEXT,
+    _STATUS_TOO_LONG,
     EncodeError,
     Paste,
     _borrowed,
     _declare,
-    _fault,
     _library,
-    _refused,
+    _RawEvent,
     _sent,
+    _text_of,
     _whole,
 )
 from .extended import (
-    _EVENT,
-    _PARSER,
     Apc,
     Csi,
     CursorPosition,
@@ -68,7 +64,6 @@ from .extended import (
     StringPart,
     _raw_mouse,
     _raw_report,
-    _RawExtendedEvent,
 )
 from .replies import ColourScheme
 
@@ -161,17 +156,11 @@ def encode_device_attributes(numbers: Sequence[int]) -> bytes:
 def _bytes_sent(call: Callable[[Any, int, ctypes.c_size_t], int], name: str) -> bytes:
     """The bytes that a call of the library writes for what has this name."""
     answer, sent = _sent(call)
-    if answer == _ENCODED_TEXT:
-        return sent
-    if answer == _ENCODED_NO_TEXT:
+    if answer == _STATUS_NO_TEXT:
         raise EncodeError(f"no bytes are read as this {name}")
-    if answer == _ENCODED_TOO_LONG:
+    if answer == _STATUS_TOO_LONG:
         raise EncodeError(f"{name} is too long")
-    if answer == _ENCODED_BAD_TEXT:
-        raise EncodeError("a surrogate names nothing")
-    if answer == _ENCODED_REFUSED_MEMORY:
-        raise _refused()
-    _fault()
+    return _text_of(answer, sent)
 
 
 def _bytes_of(event: ExtendedEvent) -> bytes:
@@ -195,16 +184,14 @@ _PLAIN_KINDS = {
 }
 
 
-def _raw_event(event: ExtendedEvent) -> _RawExtendedEvent:
+def _raw_event(event: ExtendedEvent) -> _RawEvent:
     """The numbers of an event. Its bytes are passed beside it."""
-    raw = _RawExtendedEvent()
     if isinstance(event, KeyReport):
-        raw.kind = _KIND_KEY
-        raw.report = _raw_report(event)
-    elif isinstance(event, MouseReport):
-        raw.kind = _KIND_MOUSE
-        raw.mouse = _raw_mouse(event)
-    elif isinstance(event, CursorPosition):
+        return _raw_report(event)
+    if isinstance(event, MouseReport):
+        return _raw_mouse(event)
+    raw = _RawEvent()
+    if isinstance(event, CursorPosition):
         raw.kind = _KIND_CURSOR_POSITION
         raw.row, raw.column = (_whole(n, 0, 65535) for n in (event.row, event.column))
     elif isinstance(event, Resize):
@@ -218,7 +205,7 @@ def _raw_event(event: ExtendedEvent) -> _RawExtendedEvent:
         raw.kind = _KIND_STRING_PART if isinstance(event, StringPart) else _KIND_STRING_CUT
         if not isinstance(event.kind, StringKind):
             raise TypeError(f"a {type(event).__name__} has a StringKind")
-        raw.flags = event.kind.value
+        raw.string_kind = event.kind.value
     elif type(event) in _PLAIN_KINDS:
         raw.kind = _PLAIN_KINDS[type(event)]
     else:
@@ -228,19 +215,19 @@ def _raw_event(event: ExtendedEvent) -> _RawExtendedEvent:
 
 _CALLS: Dict[str, Tuple[Any, List[Any]]] = {
     "hed_encode_event": (
-        ctypes.c_uint32,
+        _STATUS,
         [_EVENT, _BYTES, ctypes.c_size_t, _PARSER, _BYTES, ctypes.c_size_t, _COUNT],
     ),
     "hed_encode_cursor_position": (
-        ctypes.c_uint32,
+        _STATUS,
         [ctypes.c_uint16, ctypes.c_uint16, ctypes.c_bool, _BYTES, ctypes.c_size_t, _COUNT],
     ),
     "hed_encode_colour_scheme": (
-        ctypes.c_uint32,
+        _STATUS,
         [ctypes.c_bool, _BYTES, ctypes.c_size_t, _COUNT],
     ),
     "hed_encode_device_attributes": (
-        ctypes.c_uint32,
+        _STATUS,
         [ctypes.POINTER(ctypes.c_uint16), ctypes.c_size_t, _BYTES, ctypes.c_size_t, _COUNT],
     ),
 }
