@@ -1,4 +1,4 @@
-"""A plain model of the extended parser, for what a key sends: the sequence table of
+"""A plain model of the parser by the dialect Extended, for what a key sends: the sequence table of
 docs/GRAMMAR.md, and the keys and reports of docs/EXTENDED.md. Strings and pastes are left out, and
 so is the dialect of termwiz.
 

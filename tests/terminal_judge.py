@@ -18,9 +18,9 @@ def reader_of(terminal):
 
 @functools.cache
 def parsers():
-    """The parsers by name: the port's, and the extended one by several readings. `asked` is that
-    of a program that asked for the cursor's position, and `erase` that of one whose terminal sends
-    byte 8 for Backspace."""
+    """The readers by name: `port` reads by termwiz's dialect, and the others by the extended one.
+    `asked` is that of a program that asked for the cursor's position, and `erase` that of one whose
+    terminal sends byte 8 for Backspace."""
     from hedrugal import EraseByte, ExtendedParser, InputParser, Reading
 
     readings = {

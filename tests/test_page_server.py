@@ -674,7 +674,7 @@ BEYOND = [b"\x1b[97;5:3u", b"\x1b]11;#fff\a", b"\x1b]0;" + b"a" * 65536]
     ids=lambda it: repr(it)[:20],
 )
 def test_a_megabyte(client, path, reading, seconds, piece):
-    """It takes two seconds, and four by the extended parser."""
+    """It takes two seconds, and four in the extended dialect."""
     data = (piece * (MOST // len(piece) + 1))[:MOST]
     client.told_within(seconds, f"/api/{path}reading={reading}", data)
 

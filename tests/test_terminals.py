@@ -1,5 +1,5 @@
 #!/usr/bin/python3
-"""What real terminals sent, read by both parsers: tests/terminals has it.
+"""What real terminals sent, read by both dialects: tests/terminals has it.
 
     tests/test_terminals.py --write    makes the tables of docs/TERMINALS.md anew
 
@@ -92,7 +92,7 @@ def presses():
 
 @functools.cache
 def judged():
-    """Of each terminal with its layout and mode how many presses there are, how many both parsers
+    """Of each terminal with its layout and mode how many presses there are, how many both dialects
     read exactly, and how many have a reason; the same of everyday presses."""
     found = collections.defaultdict(collections.Counter)
     for terminal, line, mode in presses():
@@ -163,7 +163,7 @@ def test_plain_reader(terminal):
 
 
 def test_port():
-    """What the port reads as the key that was pressed, the extended parser reads so, too."""
+    """What termwiz's dialect reads as the key that was pressed, the extended one reads so, too."""
     for terminal, line, mode in presses():
         if is_exact("port", line):
             assert is_exact(reader_of(terminal), line), (terminal, mode, line)

@@ -17,7 +17,7 @@ CONTROL |= {it: ("escape", 0) for it in "[3{"}
 CONTROL |= {it: (" ", CTRL) for it in "@2`"} | {it: ("\\", CTRL) for it in "4|"}
 CONTROL |= {it: ("]", CTRL) for it in "5}"} | {it: ("^", CTRL) for it in "6~"}
 CONTROL |= {it: ("_", CTRL) for it in "7/"}
-# To the port the bytes 8 and 10 are keys too.
+# In termwiz's dialect the bytes 8 and 10 are keys too.
 PORT_CONTROL = CONTROL | {"h": ("backspace", 0), "j": ("enter", 0)}
 TOLD_IN_CSI_U = "im[@{"
 HAS_CONTROL = " \\]^_abcdefghijklmnopqrstuvwxyz"
@@ -32,7 +32,7 @@ NAMES = "BACKSPACE TAB ENTER ESCAPE PAGE_UP PAGE_DOWN END HOME INSERT DELETE KEY
 NAMES += " LEFT_ARROW RIGHT_ARROW UP_ARROW DOWN_ARROW KEY_PAD_HOME KEY_PAD_END KEY_PAD_PAGE_UP"
 NAMES += " KEY_PAD_PAGE_DOWN APPLICATION_LEFT_ARROW APPLICATION_RIGHT_ARROW"
 NAMES += " APPLICATION_UP_ARROW APPLICATION_DOWN_ARROW"
-# Those that only the law of the extended parser speaks of.
+# Those that only the law of the extended dialect speaks of.
 EDIT_NAMES = [f"NUMPAD_{it}" for it in range(10)] + ["DECIMAL"]
 LEVELS = [None, -1, 0, 1, 2, 3]
 
@@ -88,7 +88,7 @@ def twin_of_name(key, held, is_csi_u, level):
 
 
 def twin(key, held, is_csi_u, level):
-    """The key and the modifiers that the extended parser reads."""
+    """The key and the modifiers that the extended dialect reads."""
     is_told = is_csi_u or level is not None
     is_escape_told = is_csi_u or level not in (None, 1)
     if key == "\b":
@@ -109,7 +109,7 @@ def twin(key, held, is_csi_u, level):
 
 
 def port_twin(key, held, is_csi_u, level):
-    """The key and the modifiers that the port reads."""
+    """The key and the modifiers that termwiz's dialect reads."""
     if key == "backspace" and is_csi_u and held & (SHIFT | CTRL):
         # By its code this is a character: U+0008 with Ctrl, and U+007F without.
         return chr(8 if held & CTRL else 127), held & ~SUPER
@@ -148,7 +148,7 @@ def read(parser, text):
 
 
 def is_left_out_of_port(key, held, level):
-    """The law of the port doesn't speak of the key, or the port has no text of it in its table."""
+    """The law of termwiz's dialect doesn't speak of the key, or its table has no text of it."""
     if key in EDIT_KEYS or key in CONTROL_CHARACTERS or key == "keypadbegin":
         return True
     return len(key) == 1 and ord(key) > 127 and level is not None and held

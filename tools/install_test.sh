@@ -127,7 +127,7 @@ documented() {
 # The fields of the structs that are open to the caller.
 fields() { # file
     local name
-    for name in event modes entries match; do sed -nE "/^typedef struct hed_$name \\{\$/,/^\\}/{s| */\\*.*||;p}" "$1"; done
+    for name in event modes entries match; do sed -nE "/^typedef struct hed_$name \\{\$/,/^\\}/{/^ +\\*/d;s| */\\*.*||;p}" "$1"; done
 }
 
 # The page has each call in its name, its synopsis and its description, and no name that the header hasn't.

@@ -92,7 +92,7 @@ expected_files() { # package
             echo "$libdir/libhedrugal.so -> libhedrugal.so.$version"
             echo "$libdir/pkgconfig/hedrugal.pc 644"
             printf "usr/share/doc/$1/%s.md.gz 644\n" BINDINGS EXTENDED GRAMMAR SENDERS c
-            printf "usr/share/doc/$1/examples/%s 644\n" {ask,edit,events,live}.c edit.keys name_errors.h numbers.txt
+            printf "usr/share/doc/$1/examples/%s 644\n" {ask,edit,events,list,live,many,prompt,server}.c edit.keys name_errors.h numbers.txt
             echo 'usr/share/man/man3/hedrugal.3.gz 644'
             library_calls | sed 's|.*|usr/share/man/man3/&.3.gz -> hedrugal.3.gz|' ;;
         libhedrugal0)

@@ -14,11 +14,11 @@ turn, and of each the least time counts. What is printed is what docs/PERFORMANC
 - processor time for an event through each layer over a terminal: those in C, Rust and Python, and
   crossterm's
 
-The parsers are C (InputParser), Extended (the extended parser, from C), Rust and Python
-(InputParser), Python Extended (the extended parser), Python Keys (the parser for
-prompt_toolkit), libtermkey, crossterm and prompt_toolkit. The last three are those of
-Debian's packages. If one can't be built its column says why; `tools/needs.sh --install performance`
-installs them. To compare two commits there is tools/measure.sh."""
+The parsers are Termwiz and Extended (the parser from C, in either dialect), Rust and Python
+(InputParser), Python Extended (ExtendedParser), Python Keys (the parser for prompt_toolkit),
+libtermkey, crossterm and prompt_toolkit. The last three are those of Debian's packages. If one
+can't be built its column says why; `tools/needs.sh --install performance` installs them. To compare
+two commits there is tools/measure.sh."""
 import argparse
 import datetime
 import glob
@@ -90,9 +90,10 @@ class Builder:
         run("cc", "-O2", "-o", program, f"{TOOLS}/measure.c", *words)
         return [program]
 
-    def from_c(self, *flags):
+    def from_c(self, dialect, *flags):
         library = [f"-I{self.library}", f"{self.library}/libhedrugal.a"]
-        return self.linked(*flags, f"{TOOLS}/hedrugal.c", *library)
+        words = [f"-DDIALECT=HED_DIALECT_{dialect}", *flags]
+        return self.linked(*words, f"{TOOLS}/hedrugal.c", *library)
 
     def tasks(self):
         """Those of tools/growth/chords.c, without its wrapped malloc."""
@@ -154,8 +155,8 @@ class Builder:
 
 
 PARSERS = {
-    "C": Builder.from_c,
-    "Extended": lambda it: it.from_c("-DDIALECT=HED_DIALECT_EXTENDED"),
+    "Termwiz": lambda it: it.from_c("TERMWIZ"),
+    "Extended": lambda it: it.from_c("EXTENDED"),
     "Rust": Builder.rust,
     "Python": lambda it: it.python("measure.py", "hedrugal"),
     "Python Extended": lambda it: it.python("measure.py", "extended"),
@@ -164,9 +165,11 @@ PARSERS = {
     "crossterm": Builder.crossterm,
     "prompt_toolkit": lambda it: it.python("measure.py", "prompt_toolkit"),
 }
+# Those that read by one dialect.
+ALIKE = ["Termwiz", "Rust", "Python"], ["Extended", "Python Extended"]
 # The parsers that may be many. Their inputs stay in the processor's cache.
-OWN = "C with a table each"
-MANY = ["C", OWN, "Extended", "libtermkey", "crossterm"]
+OWN = "Termwiz with a table each"
+MANY = ["Termwiz", OWN, "Extended", "libtermkey", "crossterm"]
 MANY_INPUTS, MANY_BYTES = ["keys", "csiu"], 1 << 15
 # The layers of rust/examples/with/layers.rs.
 RUST_LAYERS = {
@@ -227,12 +230,12 @@ def build(chosen, work):
             programs[name] = PARSERS[name](builder)
         except Missing as reason:
             missing[name] = reason
-    if "C" in programs:
-        programs[OWN] = builder.from_c("-DOWN_TABLES")
+    if "Termwiz" in programs:
+        programs[OWN] = builder.from_c("TERMWIZ", "-DOWN_TABLES")
     progress("building the layers")
-    is_whole = {"C", "Rust", "Python", "crossterm"} <= {*programs}
+    is_whole = {"Extended", "Rust", "Python Extended", "crossterm"} <= {*programs}
     layers = [Layers(work, builder.layers())] if is_whole else []
-    from_c = [Tasks(builder.tasks()), Written(builder.written())] if "C" in programs else []
+    from_c = [Tasks(builder.tasks()), Written(builder.written())] if "Extended" in programs else []
     return programs, missing, from_c, layers
 
 
@@ -364,8 +367,9 @@ def events(inputs, columns, cells):
     for name, given in inputs.items():
         items = 1 if name == "paste" else given.items
         found = {it: cells[name, it].events for it in columns if (name, it) in cells}
-        if len({found[it] for it in ("C", "Rust", "Python") if it in found}) > 1:
-            sys.exit(f"performance: C, Rust and Python make other events of {name}: {found}")
+        for alike in ALIKE:
+            if len({found[it] for it in alike if it in found}) > 1:
+                sys.exit(f"performance: {', '.join(alike)} make other events of {name}: {found}")
         if set(found.values()) != {items}:
             row = [f"{found[it]:,}" if it in found else "" for it in columns]
             yield [TITLES[name], f"{items:,}", *row]
@@ -434,7 +438,12 @@ def options():
     add = parser.add_argument
     add("inputs", nargs="*", metavar="INPUT", help=f"{', '.join(TITLES)} (all)")
     add("--library", metavar="DIR", type=os.path.abspath, help="the library's folder (out/lib)")
-    add("--only", metavar="PARSERS", type=lambda text: text.split(","), help="such as C,Extended")
+    add(
+        "--only",
+        metavar="PARSERS",
+        type=lambda text: text.split(","),
+        help="such as Termwiz,Extended",
+    )
     add("--runs", metavar="N", type=number_of, default=9, help="passes of each program (9)")
     add("--read", metavar="N", type=number_of, default=64, help="bytes of a read (64)")
     add("--kilobytes", metavar="N", type=number_of, default=256, help="of an input (256)")

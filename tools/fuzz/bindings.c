@@ -7,6 +7,7 @@
  *     M  move    Q chord     look up        X n              cancel                 A  next until none, more to come
  *                C chord     continuations  W n              show what is pending   H  the same, no more to come
  *                E place n   entry          Z n place press  write into the matcher
+ *                D chord     bind its name
  *
  * There is room for n presses, 40 at most, and a place is that of an entry or of a press. A chord is a byte and what follows. Its four low
  * bits are a number n, and the next two what the chord is:
@@ -25,7 +26,7 @@
 #include "fuzz.h"
 #include <string.h>
 
-enum { MOST_CALLS = 256, ROOM_FOR = 40, MANY = 4, ANY_NUMBERS = 0xf0, ANY_CHARACTER = 0xe0 };
+enum { MOST_CALLS = 256, ROOM_FOR = 40, MANY = 4, NAME_MAX = 64 * HED_CHORD_MOST, ANY_NUMBERS = 0xf0, ANY_CHARACTER = 0xe0 };
 
 /* A list of presses, which may have more of them than a chord has, and such that are none. */
 typedef struct chord {
@@ -50,13 +51,6 @@ static size_t entry_count;
 static chord last;
 
 /* Presses. */
-
-/* The numbers of a press are those of its own report. */
-static bool is_press(const hed_key_press *press) {
-  hed_key_report own = { HED_KEY_EVENT_KIND_PRESS, press->held, press->key, press->detail, HED_NO_CODE, HED_NO_CODE };
-  hed_key_press again;
-  return hed_key_of_report(&own, NULL, 0, &again) && again.key == press->key && again.held == press->held && again.detail == press->detail;
-}
 
 static bool are_presses(const hed_key_press *keys, size_t count) {
   for (size_t i = 0; i < count; i++)
@@ -136,9 +130,9 @@ static void bind_in_plain(const chord *keys, uint64_t value) {
 }
 
 /* What a call of these presses answers, but for what it finds. */
-static uint32_t refusal_of(const chord *keys, size_t least) {
-  if (keys->count < least || !are_presses(keys->keys, keys->count)) return HED_BOUND_BAD_NUMBER;
-  return is_made ? HED_BOUND_VALUE : HED_BOUND_NO_BINDINGS;
+static hed_status refusal_of(const chord *keys, size_t least) {
+  if (keys->count < least || !are_presses(keys->keys, keys->count)) return HED_BAD_NUMBER;
+  return is_made ? HED_OK : HED_NOT_INITIALIZED;
 }
 
 static void forget(void) {
@@ -212,12 +206,12 @@ static hed_key_press *make_room(size_t count) {
 
 static void init(unsigned refused) {
   refuse_request(refused);
-  bool made = hed_bindings_init(bindings);
-  HOLDS(made == (refusals == 0));
+  hed_status made = hed_bindings_init(bindings);
+  HOLDS(made == (refusals > 0 ? HED_NO_MEMORY : HED_OK));
   note(0x10000u, requests);
   refuse_request(0);
-  HOLDS(hed_bindings_len(bindings) == (made ? 0 : entry_count));
-  HOLDS(made || hed_bindings_init(bindings));
+  HOLDS(hed_bindings_len(bindings) == (made ? entry_count : 0));
+  HOLDS(!made || !hed_bindings_init(bindings));
   forget();
   is_made = true;
 }
@@ -230,37 +224,61 @@ static void free_bindings(void) {
 
 static uint32_t bind(const chord *keys, uint64_t value, unsigned refused) {
   refuse_request(refused);
-  uint32_t answer = hed_bindings_bind(bindings, give(&given, keys->keys, keys->count), keys->count, value);
-  uint32_t wanted = refusal_of(keys, 1);
-  HOLDS(answer == (wanted == HED_BOUND_VALUE && refusals > 0 ? HED_BOUND_NO_MEMORY : wanted) && are_given(keys));
-  HOLDS(wanted == HED_BOUND_VALUE || requests == 0);
+  hed_status answer = hed_bindings_bind(bindings, give(&given, keys->keys, keys->count), keys->count, value);
+  hed_status wanted = refusal_of(keys, 1);
+  HOLDS(answer == (wanted == HED_OK && refusals > 0 ? HED_NO_MEMORY : wanted) && are_given(keys));
+  HOLDS(wanted == HED_OK || requests == 0);
   note(0x20000u | answer, requests << 8 | (unsigned)keys->count);
   refuse_request(0);
   return answer;
 }
 
-static void bind_one(input *it, unsigned refused) {
+/* Binds the name of a chord, or a text that is none. */
+static hed_status bind_name(const chord *keys, uint64_t value, unsigned refused) {
+  static uint8_t name[NAME_MAX];
+  hed_key_press read[HED_CHORD_MOST];
+  size_t len, count, wanted_at, *at = room_of(&first_taken, sizeof *at);
+  hed_status printed = hed_key_print(keys->keys, keys->count, name, sizeof name, &len), wanted = HED_OK;
+  if (printed) memcpy(name, "foo+x", len = 5);
+  hed_status named = hed_key_read(name, len, read, HED_CHORD_MOST, &count, &wanted_at);
+  HOLDS((printed == HED_OK) == (refusal_of(keys, 1) != HED_BAD_NUMBER) && (named == HED_OK) == (printed == HED_OK));
+  room_with(&given, name, len);
+  refuse_request(refused);
+  hed_status answer = hed_bindings_bind_name(bindings, pointer_to(&given), len, value, at);
+  if (named) wanted = named;
+  else if (!is_made) wanted = HED_NOT_INITIALIZED;
+  else if (refusals > 0) wanted = HED_NO_MEMORY;
+  HOLDS(answer == wanted || (!is_made && answer == HED_NOT_INITIALIZED));
+  HOLDS(is_unchanged(&given, name) && is_untouched(&first_taken, sizeof *at) && *at == (answer == named ? wanted_at : 0));
+  note(0x80000u | answer, requests << 8 | (unsigned)keys->count);
+  refuse_request(0);
+  return answer;
+}
+
+typedef hed_status binder(const chord *keys, uint64_t value, unsigned refused);
+
+static void bind_one(input *it, binder *call, unsigned refused) {
   const chord *keys = take_chord(it);
   uint64_t value = take_byte(it) * 0x9e3779b97f4a7c15u;
-  uint32_t answer = bind(keys, value, refused);
-  if (answer == HED_BOUND_NO_MEMORY) {
+  hed_status answer = call(keys, value, refused);
+  if (answer == HED_NO_MEMORY) {
     HOLDS(hed_bindings_len(bindings) == entry_count);
-    answer = bind(keys, value, 0);
+    answer = call(keys, value, 0);
   }
-  if (answer == HED_BOUND_VALUE) bind_in_plain(keys, value);
+  if (answer == HED_OK) bind_in_plain(keys, value);
 }
 
 /* Looks a chord up, or unbinds it. Returns its entry if it had one. */
 static entry *call_for_value(const chord *keys, bool is_unbind) {
   uint64_t *value = room_of(&value_taken, sizeof *value);
   const hed_key_press *presses = give(&given, keys->keys, keys->count);
-  uint32_t wanted = refusal_of(keys, 1);
+  hed_status wanted = refusal_of(keys, 1);
   begin_reads();
-  uint32_t answer =
+  hed_status answer =
       is_unbind ? hed_bindings_unbind(bindings, presses, keys->count, value) : hed_bindings_lookup(bindings, presses, keys->count, value);
   end_reads();
-  entry *it = wanted == HED_BOUND_VALUE ? find(keys->keys, keys->count) : NULL;
-  HOLDS(answer == (wanted != HED_BOUND_VALUE || it ? wanted : HED_BOUND_NONE) && are_given(keys));
+  entry *it = wanted == HED_OK ? find(keys->keys, keys->count) : NULL;
+  HOLDS(answer == (wanted != HED_OK || it ? wanted : HED_NONE) && are_given(keys));
   HOLDS(is_untouched(&value_taken, it ? sizeof *value : 0) && (!it || *value == it->value));
   note(0x30000u | answer << 8 | is_unbind, (unsigned)keys->count);
   return it;
@@ -277,10 +295,10 @@ static void show_entry(size_t at, uint8_t count) {
   uint64_t *value = room_of(&value_taken, sizeof *value);
   size_t *len = room_of(&first_taken, sizeof *len);
   begin_reads();
-  uint32_t answer = hed_bindings_entry(bindings, at, make_room(count), taken.len / sizeof(hed_key_press), len, value);
+  hed_status answer = hed_bindings_entry(bindings, at, make_room(count), taken.len / sizeof(hed_key_press), len, value);
   end_reads();
   const entry *it = at < entry_count ? &entries[at] : NULL;
-  HOLDS(answer == (!is_made ? HED_BOUND_NO_BINDINGS : it ? HED_BOUND_VALUE : HED_BOUND_NONE));
+  HOLDS(answer == (!is_made ? HED_NOT_INITIALIZED : it ? HED_OK : HED_NONE));
   HOLDS(*len == (it ? it->keys.count : 0) && are_taken(it ? it->keys.keys : NULL, *len) && is_untouched(&first_taken, sizeof *len));
   HOLDS(is_untouched(&value_taken, it ? sizeof *value : 0) && (!it || *value == it->value));
 }
@@ -293,11 +311,11 @@ static void show_one(input *it) {
 static void list_longer(const chord *keys) {
   size_t *first = room_of(&first_taken, sizeof *first), *end = room_of(&end_taken, sizeof *end), wanted_first = 0, longer = 0;
   begin_reads();
-  uint32_t answer = hed_bindings_continuations(bindings, give(&given, keys->keys, keys->count), keys->count, first, end);
+  hed_status answer = hed_bindings_continuations(bindings, give(&given, keys->keys, keys->count), keys->count, first, end);
   end_reads();
-  uint32_t wanted = refusal_of(keys, 0);
-  if (wanted == HED_BOUND_VALUE) longer = count_longer(keys->keys, keys->count, &wanted_first);
-  HOLDS(answer == (wanted != HED_BOUND_VALUE || longer ? wanted : HED_BOUND_NONE) && are_given(keys));
+  hed_status wanted = refusal_of(keys, 0);
+  if (wanted == HED_OK) longer = count_longer(keys->keys, keys->count, &wanted_first);
+  HOLDS(answer == (wanted != HED_OK || longer ? wanted : HED_NONE) && are_given(keys));
   HOLDS(*first == wanted_first && *end == wanted_first + longer);
   HOLDS(is_untouched(&first_taken, sizeof *first) && is_untouched(&end_taken, sizeof *end));
   note(0x40000u | answer, (unsigned)longer);
@@ -332,10 +350,10 @@ static bool is_moved(const hed_matcher *before, size_t removed, const hed_key_pr
 }
 
 /* What pressing one of these answers. */
-static uint32_t answer_to(const hed_key_press *keys, size_t count, bool is_either) {
-  if (!is_good() || count == 0 || count > 2 || !are_presses(keys, count)) return HED_PRESSED_BAD_NUMBER;
-  if (is_either && !is_made) return HED_PRESSED_NO_BINDINGS;
-  return matcher.count == HED_CHORD_MOST ? HED_PRESSED_FULL : HED_PRESSED_KEY;
+static hed_status answer_to(const hed_key_press *keys, size_t count, bool is_either) {
+  if (!is_good() || count == 0 || count > 2 || !are_presses(keys, count)) return HED_BAD_NUMBER;
+  if (is_either && !is_made) return HED_NOT_INITIALIZED;
+  return matcher.count == HED_CHORD_MOST ? HED_FULL : HED_OK;
 }
 
 /* Whether some chord begins with the first of the pending presses and this one. */
@@ -357,13 +375,13 @@ static const hed_key_press *choose(const hed_key_press *keys, size_t count) {
 
 static void press(const hed_key_press *keys, size_t count, bool is_either) {
   hed_matcher before = matcher;
-  uint32_t wanted = answer_to(keys, count, is_either);
-  const hed_key_press *chosen = wanted == HED_PRESSED_KEY && is_either ? choose(keys, count) : keys;
+  hed_status wanted = answer_to(keys, count, is_either);
+  const hed_key_press *chosen = wanted == HED_OK && is_either ? choose(keys, count) : keys;
   const hed_key_press *presses = give(&given, keys, count);
   hed_matcher *at = begin_call();
-  uint32_t answer = is_either ? hed_matcher_press_either(at, bindings, presses, count) : hed_matcher_press(at, presses);
+  hed_status answer = is_either ? hed_matcher_press_either(at, bindings, presses, count) : hed_matcher_press(at, presses);
   end_call();
-  HOLDS(answer == wanted && is_unchanged(&given, keys) && is_moved(&before, 0, chosen, answer == HED_PRESSED_KEY));
+  HOLDS(answer == wanted && is_unchanged(&given, keys) && is_moved(&before, 0, chosen, answer == HED_OK));
   note(0x50000u | answer << 8 | (unsigned)count, (unsigned)before.count << 8 | (chosen != keys));
 }
 
@@ -380,40 +398,36 @@ static void press_either(input *it) {
 }
 
 /* What stands first of what is pending. */
-static uint32_t decide(bool more, hed_outcome *outcome) {
-  if (!is_good()) return HED_OUTCOME_BAD_NUMBER;
-  if (!is_made) return HED_OUTCOME_NO_BINDINGS;
-  if (matcher.count == 0 || (more && goes_on(matcher.keys, matcher.count))) return HED_OUTCOME_NONE;
+static hed_status decide(bool more, hed_outcome *outcome) {
+  if (!is_good()) return HED_BAD_NUMBER;
+  if (!is_made) return HED_NOT_INITIALIZED;
+  if (matcher.count == 0 || (more && goes_on(matcher.keys, matcher.count))) return HED_NONE;
   const entry *longest = find_longest(matcher.keys, matcher.count);
-  *outcome = (hed_outcome){ 1, 0, matcher.keys[0] };
-  if (longest) *outcome = (hed_outcome){ longest->keys.count, longest->value, { 0, 0, 0 } };
-  return longest ? HED_OUTCOME_BOUND : HED_OUTCOME_UNBOUND;
-}
-
-static bool is_taken(uint32_t answer) {
-  return answer == HED_OUTCOME_BOUND || answer == HED_OUTCOME_UNBOUND;
+  *outcome = (hed_outcome){ 1, 0, matcher.keys[0], HED_OUTCOME_UNBOUND };
+  if (longest) *outcome = (hed_outcome){ longest->keys.count, longest->value, { 0, 0, 0 }, HED_OUTCOME_BOUND };
+  return HED_OK;
 }
 
 /* Whether the room has what was decided. */
-static bool is_outcome(uint32_t answer, const hed_outcome *wanted) {
+static bool is_outcome(hed_status answer, const hed_outcome *wanted) {
   const hed_outcome *got = (const hed_outcome *)taken.at;
-  if (!is_taken(answer)) return is_untouched(&taken, 0);
-  return got->keys == wanted->keys && got->value == wanted->value && compare_presses(&got->press, &wanted->press) == 0
-         && is_untouched(&taken, sizeof *got);
+  if (answer) return is_untouched(&taken, 0);
+  return got->kind == wanted->kind && got->keys == wanted->keys && got->value == wanted->value
+         && compare_presses(&got->press, &wanted->press) == 0 && is_untouched(&taken, sizeof *got);
 }
 
 /* Makes the call, and says whether it took something. */
 static bool take_next(bool more) {
   hed_matcher before = matcher;
   hed_outcome wanted, *outcome = room_of(&taken, sizeof *outcome);
-  uint32_t decided = decide(more, &wanted);
+  hed_status decided = decide(more, &wanted);
   hed_matcher *at = begin_call();
-  uint32_t answer = hed_matcher_next(at, bindings, more, outcome);
+  hed_status answer = hed_matcher_next(at, bindings, more, outcome);
   end_call();
-  HOLDS(answer == decided && is_outcome(answer, &wanted) && is_moved(&before, is_taken(answer) ? wanted.keys : 0, NULL, 0));
-  HOLDS(answer != HED_OUTCOME_NONE || matcher.count < HED_CHORD_MOST);
+  HOLDS(answer == decided && is_outcome(answer, &wanted) && is_moved(&before, answer ? 0 : wanted.keys, NULL, 0));
+  HOLDS(answer != HED_NONE || matcher.count < HED_CHORD_MOST);
   note(0x60000u | answer << 8 | more, (unsigned)before.count << 8 | (unsigned)matcher.count);
-  return is_taken(answer);
+  return answer == HED_OK;
 }
 
 static void take_all(bool more) {
@@ -444,7 +458,7 @@ static void write_into_matcher(input *it) {
 static void check_state(void) {
   hed_matcher before = matcher;
   hed_outcome wanted, *outcome = room_of(&taken, sizeof *outcome);
-  uint32_t decided = decide(false, &wanted);
+  hed_status decided = decide(false, &wanted);
   bool is_dead_end =
       is_made && is_good() && matcher.count > 1 && !goes_on(matcher.keys, matcher.count) && !find_longest(matcher.keys, matcher.count);
   hed_matcher *at = begin_call();
@@ -461,7 +475,8 @@ static void call(input *it) {
     case 'I': init(of.refused); break;
     case 'K': free_bindings(); break;
     case 'M': bindings = move_room(&place); break;
-    case 'B': bind_one(it, of.refused); break;
+    case 'B': bind_one(it, bind, of.refused); break;
+    case 'D': bind_one(it, bind_name, of.refused); break;
     case 'U': unbind(take_chord(it)); break;
     case 'Q': call_for_value(take_chord(it), false); break;
     case 'C': list_longer(take_chord(it)); break;

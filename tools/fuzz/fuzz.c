@@ -199,52 +199,127 @@ void note(unsigned what, unsigned how) {
 /* Events. */
 
 bool same_event(const hed_event *one, const hed_event *other) {
-  return one->kind == other->kind && one->buttons == other->buttons && one->modifiers == other->modifiers && one->key == other->key
-         && one->x == other->x && one->y == other->y && one->detail == other->detail && one->paste_len == other->paste_len;
+  bool is_same_key = one->key == other->key && one->key_event_kind == other->key_event_kind && one->detail == other->detail
+                     && one->shifted == other->shifted && one->base == other->base;
+  bool is_same_mouse = one->mouse_kind == other->mouse_kind && one->button == other->button && one->buttons == other->buttons
+                       && one->x == other->x && one->y == other->y;
+  bool is_same_place = one->row == other->row && one->column == other->column && one->rows == other->rows && one->columns == other->columns
+                       && one->height == other->height && one->width == other->width;
+  return is_same_key && is_same_mouse && is_same_place && one->kind == other->kind && one->modifiers == other->modifiers
+         && one->flags == other->flags && one->string_kind == other->string_kind && one->text_len == other->text_len;
 }
 
 bool is_scalar(uint32_t code) {
   return code <= 0x10ffff && (code < 0xd800 || code > 0xdfff);
 }
 
-bool may_have_second(const hed_key_report *report) {
-  unsigned held = report->modifiers & ~(unsigned)(HED_KITTY_MOD_CAPS_LOCK | HED_KITTY_MOD_NUM_LOCK);
-  bool is_character = report->key == HED_KEY_CHAR;
-  bool is_placed = is_character && report->detail >= 0x80 && report->base != HED_NO_CODE;
-  bool is_shifted = held & HED_KITTY_MOD_SHIFT && report->shifted != HED_NO_CODE;
+bool may_have_second(const hed_event *event) {
+  unsigned held = event->modifiers & ~(unsigned)(HED_KITTY_MOD_CAPS_LOCK | HED_KITTY_MOD_NUM_LOCK);
+  bool is_character = event->key == HED_KEY_CHAR;
+  bool is_placed = is_character && event->detail >= 0x80 && event->base != HED_NO_CODE;
+  bool is_shifted = held & HED_KITTY_MOD_SHIFT && event->shifted != HED_NO_CODE;
   bool is_told = held & ~(unsigned)HED_KITTY_MOD_SHIFT && (is_placed || is_shifted);
-  bool is_sent_by_others = is_character && (report->detail == '\b' || report->detail == '\n');
-  return report->kind != HED_KEY_EVENT_KIND_RELEASE && (is_told || is_sent_by_others);
+  bool is_sent_by_others = is_character && (event->detail == '\b' || event->detail == '\n');
+  return event->key_event_kind != HED_KEY_EVENT_KIND_RELEASE && (is_told || is_sent_by_others);
 }
 
-static void check_key(const hed_event *event) {
-  HOLDS(event->key >= HED_KEY_CHAR && event->key <= HED_KEY_INTERNAL_PASTE_END && event->key != HED_KEY_INTERNAL_PASTE_START);
-  if (event->key == HED_KEY_CHAR) HOLDS(is_scalar(event->detail));
-  else if (event->key == HED_KEY_FUNCTION) HOLDS(event->detail >= 1 && event->detail <= 24);
+hed_event event_of(const hed_key_press *press) {
+  hed_event event = { .kind = HED_KIND_KEY, .key_event_kind = HED_KEY_EVENT_KIND_PRESS };
+  event.modifiers = press->held;
+  event.key = press->key;
+  event.detail = press->detail;
+  event.shifted = event.base = HED_NO_CODE;
+  return event;
+}
+
+bool same_press(const hed_key_press *one, const hed_key_press *other) {
+  return one->key == other->key && one->held == other->held && one->detail == other->detail;
+}
+
+bool is_press(const hed_key_press *press) {
+  hed_event own = event_of(press);
+  hed_key_press again;
+  return hed_event_press(&own, NULL, 0, &again) == HED_OK && same_press(&again, press);
+}
+
+enum { PLAIN_MODIFIERS = HED_KITTY_MOD_SHIFT | HED_KITTY_MOD_ALT | HED_KITTY_MOD_CTRL };
+
+/* A key has a name or a number in Kitty's table, or is none and has 0. */
+static void check_key(const hed_event *event, bool is_termwiz) {
+  enum { FIRST_OF_KITTY = 57344, LAST_OF_KITTY = 63743 };
+  bool is_of_kitty = event->detail >= FIRST_OF_KITTY && event->detail <= LAST_OF_KITTY;
+  HOLDS(event->key_event_kind >= HED_KEY_EVENT_KIND_PRESS && event->key_event_kind <= HED_KEY_EVENT_KIND_RELEASE);
+  HOLDS(event->key <= HED_KEY_INTERNAL_PASTE_END && event->key != HED_KEY_INTERNAL_PASTE_START);
+  if (event->key == 0) HOLDS(event->detail == 0 || is_of_kitty);
+  else if (event->key == HED_KEY_CHAR) HOLDS(is_scalar(event->detail));
+  else if (event->key == HED_KEY_FUNCTION) HOLDS(event->detail >= 1 && event->detail <= (is_termwiz ? 24 : 255));
   else HOLDS(event->detail == 0);
+  HOLDS(event->shifted == HED_NO_CODE || is_scalar(event->shifted));
+  HOLDS(event->base == HED_NO_CODE || is_scalar(event->base));
+  if (!is_termwiz) return;
+  HOLDS(event->key_event_kind == HED_KEY_EVENT_KIND_PRESS && event->key != 0 && event->text_len == 0);
+  HOLDS((event->modifiers & ~PLAIN_MODIFIERS) == 0 && event->shifted == HED_NO_CODE && event->base == HED_NO_CODE);
 }
 
-bool has_text(const hed_event *event) {
-  return event->kind == HED_KIND_PASTE || event->kind == HED_KIND_PASTE_PART;
-}
-
-void check_event(const hed_event *event) {
-  bool is_key = event->kind == HED_KIND_KEY, is_mouse = event->kind == HED_KIND_MOUSE, is_paste = has_text(event);
-  HOLDS(is_key || is_mouse || is_paste);
-  HOLDS((event->modifiers & ~(HED_TERMWIZ_MOD_SHIFT | HED_TERMWIZ_MOD_ALT | HED_TERMWIZ_MOD_CTRL)) == 0);
+/* The buttons that are down aren't told of a release, a move and a side button. */
+static void check_mouse(const hed_event *event) {
+  uint8_t kind = event->mouse_kind, button = event->button;
+  HOLDS(kind >= HED_MOUSE_KIND_PRESS && kind <= HED_MOUSE_KIND_WHEEL && button <= 11);
+  HOLDS((event->modifiers & ~PLAIN_MODIFIERS) == 0);
   HOLDS((event->buttons & ~(2 * HED_BUTTON_WHEEL_POSITIVE - HED_BUTTON_LEFT)) == 0);
-  if (is_key) check_key(event);
-  else HOLDS(event->key == 0 && event->detail == 0);
-  if (!is_mouse) HOLDS(event->buttons == 0 && event->x == 0 && event->y == 0);
-  HOLDS(is_paste ? event->modifiers == 0 : event->paste_len == 0);
-  note((event->kind - 1u) << 16 | event->key << 8 | event->buttons | (event->detail & 0x7f), event->modifiers);
-  if (is_paste) note(0xd0000u, event->paste_len < 64 ? (unsigned)event->paste_len : 64);
+  HOLDS(kind != HED_MOUSE_KIND_MOVE || button == 0);
+  HOLDS(kind != HED_MOUSE_KIND_WHEEL || (button >= 4 && button <= 7));
+  HOLDS(button != 0 || kind == HED_MOUSE_KIND_MOVE || kind == HED_MOUSE_KIND_RELEASE);
+  HOLDS((event->buttons == 0) == (kind == HED_MOUSE_KIND_MOVE || kind == HED_MOUSE_KIND_RELEASE || button >= 8));
+}
+
+/* An event without what its kind has. */
+static hed_event without_own(hed_event event) {
+  switch (event.kind) {
+    case HED_KIND_KEY:
+      event.modifiers = event.key_event_kind = 0;
+      event.key = 0;
+      event.detail = event.shifted = event.base = 0;
+      event.text_len = 0;
+      break;
+    case HED_KIND_MOUSE:
+      event.modifiers = event.mouse_kind = event.button = event.buttons = 0;
+      event.x = event.y = 0;
+      break;
+    case HED_KIND_CURSOR_POSITION: event.row = event.column = 0; break;
+    case HED_KIND_RESIZE: event.rows = event.columns = event.height = event.width = 0; break;
+    case HED_KIND_KEYBOARD_FLAGS: event.flags = 0; break;
+    case HED_KIND_STRING_PART:
+    case HED_KIND_STRING_CUT: event.string_kind = 0; break;
+    default: break;
+  }
+  bool has_text = event.kind == HED_KIND_PASTE || event.kind >= HED_KIND_CSI;
+  if (has_text) event.text_len = 0;
+  event.kind = 0;
+  return event;
+}
+
+void check_event(const hed_event *event, bool is_termwiz) {
+  static const hed_event none;
+  hed_event others = without_own(*event);
+  uint8_t kind = event->kind;
+  bool is_key = kind == HED_KIND_KEY, is_mouse = kind == HED_KIND_MOUSE, is_string = kind >= HED_KIND_STRING_PART;
+  HOLDS(kind >= HED_KIND_KEY && kind <= HED_KIND_STRING_CUT && kind != HED_KIND_PASTE + 1);
+  HOLDS(!is_termwiz || is_key || is_mouse || kind == HED_KIND_PASTE || kind == HED_KIND_PASTE_PART);
+  HOLDS(same_event(&others, &none));
+  if (is_key) check_key(event, is_termwiz);
+  if (is_mouse) check_mouse(event);
+  if (is_string) HOLDS(event->string_kind >= HED_KIND_OSC && event->string_kind <= HED_KIND_APC);
+  if (kind == HED_KIND_CURSOR_POSITION) HOLDS(event->row > 0 && event->column > 0);
+  note((kind - 1u) << 16 | event->key << 8 | event->buttons | (event->detail & 0x7f), event->modifiers);
+  note(0x60000u | kind, is_key ? event->key_event_kind : is_mouse ? event->mouse_kind : event->flags + event->string_kind);
+  if (kind == HED_KIND_PASTE) note(0xd0000u, event->text_len < 64 ? (unsigned)event->text_len : 64);
 }
 
 /* What waits. */
 
 static const char start[] = "\033[200~", end[] = "\033[201~";
-enum { BRACKET = sizeof start - 1, ESC = 0x1b, MOST_WAITING = 21 };
+enum { BRACKET = sizeof start - 1, ESC = 0x1b, MOST_OF_TERMWIZ = 21, MOST = 256, MOST_OF_STRING = 65535 };
 
 bool begins_paste(const uint8_t *waiting, size_t len) {
   return len >= BRACKET && memcmp(waiting, start, BRACKET) == 0;
@@ -258,22 +333,29 @@ bool is_escape(const uint8_t *waiting, size_t len) {
   return (len == 1 && waiting[0] == ESC) || (len == 2 && waiting[0] == ESC && waiting[1] == ESC);
 }
 
-/* The kind of a rest, by its first bytes. */
-static uint32_t kind_of_rest(const uint8_t *waiting, size_t len) {
-  if (len == 0) return HED_WAITING_NOTHING;
-  if (is_escape(waiting, len)) return HED_WAITING_ESCAPE;
-  if (begins_paste(waiting, len)) return HED_WAITING_PASTE;
-  if (waiting[0] != ESC || waiting[1] >= 0x80) return HED_WAITING_CHARACTER;
-  return HED_WAITING_SEQUENCE;
+uint32_t dialect_of(const hed_parser *parser) {
+  hed_reading reading;
+  HOLDS(hed_parser_reading(parser, &reading) == HED_OK);
+  return reading.dialect;
 }
 
-void check_rest(hed_parser *parser, const uint8_t *waiting, size_t len) {
-  bool is_open = is_open_paste(waiting, len);
+/* The kind of a rest, by its first bytes. By termwiz's grammar no string waits. */
+static void check_kind(uint32_t kind, const uint8_t *waiting, size_t len, bool is_termwiz) {
+  HOLDS((kind == HED_WAITING_NOTHING) == (len == 0));
+  HOLDS((kind == HED_WAITING_ESCAPE) == is_escape(waiting, len));
+  HOLDS((kind == HED_WAITING_PASTE) == is_open_paste(waiting, len));
+  if (!is_termwiz || kind <= HED_WAITING_ESCAPE || kind == HED_WAITING_PASTE) return;
+  HOLDS(kind == (waiting[0] != ESC || waiting[1] >= 0x80 ? HED_WAITING_CHARACTER : HED_WAITING_SEQUENCE));
+}
+
+void check_rest(const hed_parser *parser, const uint8_t *waiting, size_t len) {
+  uint32_t kind = hed_parser_waiting(parser);
+  bool is_termwiz = dialect_of(parser) == HED_DIALECT_TERMWIZ;
+  size_t most = is_termwiz ? MOST_OF_TERMWIZ : kind == HED_WAITING_STRING ? MOST_OF_STRING : MOST;
   HOLDS(hed_parser_waiting_len(parser) == len);
-  HOLDS(is_open || len <= MOST_WAITING);
-  HOLDS(hed_parser_is_paste_open(parser) == is_open);
-  HOLDS(hed_parser_waiting(parser) == kind_of_rest(waiting, len));
-  note(0x30000u | kind_of_rest(waiting, len), len < 64 ? (unsigned)len : 64);
+  check_kind(kind, waiting, len, is_termwiz);
+  HOLDS(kind == HED_WAITING_PASTE || len <= most);
+  note(0x30000u | kind, len < 64 ? (unsigned)len : 64);
 }
 
 /* Keys that are sent. */
@@ -282,9 +364,9 @@ void encode(sent *it, encoder *call, const void *key, size_t capacity) {
   static room out, out_len;
   size_t *len = room_of(&out_len, sizeof *len);
   room_of(&out, capacity);
-  it->encoded = call(key, pointer_to(&out), capacity, len);
+  it->status = call(key, pointer_to(&out), capacity, len);
   it->len = *len;
-  HOLDS(it->encoded == HED_ENCODED_TEXT || it->len == 0);
+  HOLDS(it->status == HED_OK || it->len == 0);
   size_t written = it->len < capacity ? it->len : capacity;
   HOLDS(is_untouched(&out_len, sizeof *len) && is_untouched(&out, written) && written <= sizeof it->bytes);
   memcpy(it->bytes, out.at, written);
@@ -292,15 +374,15 @@ void encode(sent *it, encoder *call, const void *key, size_t capacity) {
 
 bool same_sent(const sent *one, const sent *other, size_t capacity) {
   size_t len = one->len < capacity ? one->len : capacity;
-  return one->encoded == other->encoded && one->len == other->len && memcmp(one->bytes, other->bytes, len) == 0;
+  return one->status == other->status && one->len == other->len && memcmp(one->bytes, other->bytes, len) == 0;
 }
 
-uint32_t encode_told(const void *key, uint8_t *out, size_t capacity, size_t *len) {
-  static room report, text;
+hed_status encode_told(const void *key, uint8_t *out, size_t capacity, size_t *len) {
+  static room event, text;
   const told_key *told = key;
-  room_with(&report, &told->report, sizeof told->report);
+  room_with(&event, &told->event, sizeof told->event);
   room_with(&text, told->text, told->len);
-  uint32_t encoded = hed_encode_kitty((hed_key_report *)report.at, pointer_to(&text), told->len, told->flags, out, capacity, len);
-  HOLDS(is_unchanged(&report, &told->report) && is_unchanged(&text, told->text));
-  return encoded;
+  hed_status status = hed_encode_kitty((hed_event *)event.at, pointer_to(&text), told->len, told->flags, out, capacity, len);
+  HOLDS(is_unchanged(&event, &told->event) && is_unchanged(&text, told->text));
+  return status;
 }

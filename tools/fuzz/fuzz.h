@@ -93,10 +93,16 @@ void note(unsigned what, unsigned how);
 
 bool same_event(const hed_event *one, const hed_event *other);
 
-bool has_text(const hed_event *event);
+/* Checks what holds for every event, and what holds if termwiz's grammar read it. */
+void check_event(const hed_event *event, bool is_termwiz);
 
-/* Checks what holds for every event. */
-void check_event(const hed_event *event);
+/* The event of a press that holds these keys and tells nothing else. */
+hed_event event_of(const hed_key_press *press);
+
+bool same_press(const hed_key_press *one, const hed_key_press *other);
+
+/* Whether numbers are those of a press: it is its own. */
+bool is_press(const hed_key_press *press);
 
 /* What the waiting bytes of a parser are. */
 bool begins_paste(const uint8_t *waiting, size_t len);
@@ -106,22 +112,25 @@ bool is_escape(const uint8_t *waiting, size_t len);
 /* Whether a code point is a character of Unicode. */
 bool is_scalar(uint32_t code);
 
-/* Whether a report may have a second press: with a modifier but Shift its place or what it types with Shift is told, or its character may
+/* Whether a key may have a second press: with a modifier but Shift its place or what it types with Shift is told, or its character may
  * have been sent by another key. */
-bool may_have_second(const hed_key_report *report);
+bool may_have_second(const hed_event *event);
 
-/* Checks that a parser, which had nothing more to give while more bytes may come, has these bytes waiting, and tells their kind. */
-void check_rest(hed_parser *parser, const uint8_t *waiting, size_t len);
+/* Checks that a parser, of which all is told, has these bytes waiting, and tells their kind. */
+void check_rest(const hed_parser *parser, const uint8_t *waiting, size_t len);
+
+/* The dialect that a parser has. */
+uint32_t dialect_of(const hed_parser *parser);
 
 /* What is sent for a key, as much of it as there was room for. */
 typedef struct sent {
-  uint32_t encoded;
+  hed_status status;
   size_t len;
   uint8_t bytes[3 << 12];
 } sent;
 
 /* A call that encodes a key, and checks that it leaves the key as it is. */
-typedef uint32_t encoder(const void *key, uint8_t *out, size_t capacity, size_t *len);
+typedef hed_status encoder(const void *key, uint8_t *out, size_t capacity, size_t *len);
 
 /* Makes the call with a room of that size, and checks what it wrote. */
 void encode(sent *it, encoder *call, const void *key, size_t capacity);
@@ -129,15 +138,15 @@ void encode(sent *it, encoder *call, const void *key, size_t capacity);
 /* Whether two rooms, the smaller of that size, got the same. */
 bool same_sent(const sent *one, const sent *other, size_t capacity);
 
-/* What hed_encode_kitty gets: a key report, its text, and the flags. */
+/* What hed_encode_kitty gets: a key, its text, and the flags. */
 typedef struct told_key {
-  hed_key_report report;
+  hed_event event;
   const uint8_t *text;
   size_t len;
   uint8_t flags;
 } told_key;
 
-uint32_t encode_told(const void *key, uint8_t *out, size_t capacity, size_t *len);
+hed_status encode_told(const void *key, uint8_t *out, size_t capacity, size_t *len);
 
 /* A key map beside a plain one, a list of entries: each answer has to be that of the list. An insert that is refused memory changes
  * nothing, and made again it is granted. What needs no memory asks for none. Before init and after free every call says that there is no

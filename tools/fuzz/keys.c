@@ -1,15 +1,15 @@
-/* Texts and names of keys, into rooms of every size, and what is sent for key reports.
+/* Texts and names of keys, into rooms of every size, and what is sent for key events.
  *
  * An input is the arguments of one call of hed_encode: the key (2 bytes), the detail (4), the modifiers (2), flags of bool (1), the
  * encoding (1), kitty's flags (1), the level of modifyOtherKeys (8), and which request for memory is refused (1). If the flags haven't
  * 0x80, numbers that name nothing become others that name something, since few numbers do. The same key and kitty's flags are those of a
- * call of hed_encode_kitty, with what happened to the key (1; 0x80 makes it a functional key without a name), the modifiers (1), shifted
+ * call of hed_encode_kitty, with what happened to the key (1; 0x80 makes it a functional key without a name), Kitty's modifiers (1), shifted
  * (4), base (4), and the text, which is what is left.
  *
  * The answer has to be the one that the header promises for these numbers. A room that is too short gets as much of the text as it has
  * room for, and the rest of a longer one stays as it was. What isn't read makes no difference. A refused call writes nothing, and made
  * again it is granted; no memory is left. A character without modifiers is read back. The key's name goes into rooms of every size too.
- * The press of a report is its own press, and needs no memory. */
+ * The press of a key is its own press, and needs no memory. */
 #include "fuzz.h"
 #include <string.h>
 
@@ -53,13 +53,13 @@ static press take_press(input *it, bool *stays) {
   return *stays ? is : named(is);
 }
 
-static uint32_t encode_press(const void *key, uint8_t *to, size_t capacity, size_t *len) {
+static hed_status encode_press(const void *key, uint8_t *to, size_t capacity, size_t *len) {
   static room modes;
   const press *is = key;
   room_with(&modes, &is->modes, sizeof is->modes);
-  uint32_t encoded = hed_encode(is->key, is->detail, is->modifiers, is->is_down, (hed_modes *)modes.at, to, capacity, len);
+  hed_status status = hed_encode(is->key, is->detail, is->modifiers, is->is_down, (hed_modes *)modes.at, to, capacity, len);
   HOLDS(is_unchanged(&modes, &is->modes));
-  return encoded;
+  return status;
 }
 
 /* Makes a call in rooms of every size, with others of the numbers that it doesn't read, and refused memory. Returns what is sent; `asked`
@@ -76,10 +76,10 @@ static const sent *check_call(encoder *call, const void *key, const void *others
   }
   refuse_request(refused);
   encode(&got, call, key, LONGEST);
-  HOLDS((got.encoded == HED_ENCODED_REFUSED_MEMORY) == (refusals > 0));
+  HOLDS((got.status == HED_NO_MEMORY) == (refusals > 0));
   *asked = requests;
   refuse_request(0);
-  if (got.encoded == HED_ENCODED_REFUSED_MEMORY) encode(&got, call, key, LONGEST);
+  if (got.status == HED_NO_MEMORY) encode(&got, call, key, LONGEST);
   HOLDS(same_sent(&got, &whole, LONGEST));
   return &whole;
 }
@@ -95,10 +95,10 @@ static bool is_bad(const press *is) {
 }
 
 /* What the header promises for these numbers. */
-static uint32_t promised(const press *is) {
-  if (is_bad(is)) return HED_ENCODED_BAD_NUMBER;
+static hed_status promised(const press *is) {
+  if (is_bad(is)) return HED_BAD_NUMBER;
   bool has_no_text = is->key == HED_KEY_FUNCTION && is->is_down && (is->detail == 0 || is->detail > FUNCTIONS);
-  return has_no_text ? HED_ENCODED_REFUSED_KEY : HED_ENCODED_TEXT;
+  return has_no_text ? HED_REFUSED_KEY : HED_OK;
 }
 
 /* Numbers that the call doesn't read for this press. */
@@ -112,19 +112,20 @@ static press with_others_unread(press is) {
 /* A character that is pressed without modifiers is its text, and is read back. */
 static void check_character(const press *is, const sent *whole) {
   static hed_parser parser = HED_PARSER_NONE;
-  hed_event event;
+  hed_event event, other;
   owner = TWIN;
-  if (!parser.live) HOLDS(hed_parser_init(&parser));
-  HOLDS(hed_parser_feed(&parser, whole->bytes, whole->len));
-  HOLDS(hed_parser_next(&parser, false, &event) == HED_NEXT_EVENT && hed_parser_waiting_len(&parser) == 0);
-  HOLDS(event.kind == HED_KIND_KEY && event.key == HED_KEY_CHAR && event.detail == is->detail && event.modifiers == HED_TERMWIZ_MOD_NONE);
+  if (!parser.live) HOLDS(!hed_parser_init(&parser, HED_DIALECT_EXTENDED));
+  HOLDS(!hed_parser_feed(&parser, 0, whole->bytes, whole->len));
+  hed_parser_flush(&parser);
+  HOLDS(!hed_parser_next(&parser, &event) && hed_parser_next(&parser, &other) == HED_NONE && hed_parser_waiting_len(&parser) == 0);
+  HOLDS(event.kind == HED_KIND_KEY && event.key == HED_KEY_CHAR && event.detail == is->detail && event.modifiers == HED_KITTY_MOD_NONE);
   owner = TESTED;
 }
 
 static void note_press(const press *is, const sent *whole) {
   unsigned modes = (is->modes.application_cursor_keys ? 1u : 0) | (is->modes.newline_mode ? 2u : 0);
   if (is->modes.has_modify_other_keys) modes |= 4u << (is->modes.modify_other_keys & 3);
-  note(0x60000u | whole->encoded, (unsigned)whole->len);
+  note(0x60000u | whole->status, (unsigned)whole->len);
   if (whole->len == 0) return;
   unsigned held = is->modifiers & (HED_TERMWIZ_MOD_SHIFT | HED_TERMWIZ_MOD_ALT | HED_TERMWIZ_MOD_CTRL);
   note(0x50000u | is->key << 8 | held << 3 | is->modes.encoding, modes);
@@ -135,31 +136,32 @@ static void check_press(const press *is, unsigned number) {
   press other = with_others_unread(*is);
   unsigned asked;
   const sent *whole = check_call(encode_press, is, &other, number, &asked);
-  HOLDS(whole->encoded == promised(is));
+  HOLDS(whole->status == promised(is));
   HOLDS(is->is_down || (whole->len == 0 && asked == 0));
   bool is_plain = is->key == HED_KEY_CHAR && is->modifiers == HED_TERMWIZ_MOD_NONE && is->detail >= ' ' && is->detail != 0x7f;
-  if (whole->encoded == HED_ENCODED_TEXT && is->is_down && is_plain) check_character(is, whole);
+  if (whole->status == HED_OK && is->is_down && is_plain) check_character(is, whole);
   note_press(is, whole);
 }
 
-static told_key take_report(input *it, const press *is, bool stays) {
+static told_key take_told(input *it, const press *is, bool stays) {
   told_key key = { .flags = is->modes.kitty_flags };
-  hed_key_report *report = &key.report;
-  report->key = is->key;
-  report->detail = is->detail;
-  report->kind = take_byte(it);
-  report->modifiers = take_byte(it);
-  report->shifted = (uint32_t)take_number(it, 4);
-  report->base = (uint32_t)take_number(it, 4);
+  hed_event *event = &key.event;
+  event->kind = HED_KIND_KEY;
+  event->key = is->key;
+  event->detail = is->detail;
+  event->key_event_kind = take_byte(it);
+  event->modifiers = take_byte(it);
+  event->shifted = (uint32_t)take_number(it, 4);
+  event->base = (uint32_t)take_number(it, 4);
   key.text = take_bytes(it, TYPED_MAX, &key.len);
   if (stays) return key;
-  if (report->kind & 0x80) {
-    report->key = 0;
-    report->detail = 57344 + report->detail % 128;
+  if (event->key_event_kind & 0x80) {
+    event->key = 0;
+    event->detail = 57344 + event->detail % 128;
   }
-  report->kind = report->kind % 3 + HED_KEY_EVENT_KIND_PRESS;
-  if (!is_scalar(report->shifted)) report->shifted = HED_NO_CODE;
-  if (!is_scalar(report->base)) report->base = HED_NO_CODE;
+  event->key_event_kind = event->key_event_kind % 3 + HED_KEY_EVENT_KIND_PRESS;
+  if (!is_scalar(event->shifted)) event->shifted = HED_NO_CODE;
+  if (!is_scalar(event->base)) event->base = HED_NO_CODE;
   return key;
 }
 
@@ -182,55 +184,65 @@ static bool is_utf8(const uint8_t *text, size_t len) {
   return step > 0;
 }
 
-static bool is_bad_report(const told_key *key) {
-  const hed_key_report *report = &key->report;
+static bool is_bad_event(const hed_event *event) {
   bool has_bad_code =
-      (report->shifted != HED_NO_CODE && !is_scalar(report->shifted)) || (report->base != HED_NO_CODE && !is_scalar(report->base));
-  bool has_bad_kind = report->kind < HED_KEY_EVENT_KIND_PRESS || report->kind > HED_KEY_EVENT_KIND_RELEASE;
-  return has_bad_kind || has_bad_code || key->flags & ~ALL_KITTY || is_bad_key(report->key, report->detail);
+      (event->shifted != HED_NO_CODE && !is_scalar(event->shifted)) || (event->base != HED_NO_CODE && !is_scalar(event->base));
+  bool has_bad_kind = event->key_event_kind < HED_KEY_EVENT_KIND_PRESS || event->key_event_kind > HED_KEY_EVENT_KIND_RELEASE;
+  return has_bad_kind || has_bad_code || is_bad_key(event->key, event->detail);
 }
 
-/* A report that names nothing has no press. Any other has one that is its own press, or none, and its text says nothing of a second one. */
+/* The text says nothing of a second press. */
+static void check_second(const hed_event *event) {
+  static room place;
+  hed_key_press second;
+  room_with(&place, event, sizeof *event);
+  hed_status status = hed_event_second((hed_event *)place.at, &second);
+  HOLDS(is_unchanged(&place, event) && (status == HED_OK || status == HED_NONE || status == HED_BAD_NUMBER));
+  HOLDS((status == HED_BAD_NUMBER) == is_bad_event(event));
+  HOLDS(status != HED_OK || may_have_second(event));
+  note(0xa0000u | status, event->key);
+}
+
+/* An event that names nothing has no press. Any other has one that is its own press, or none. */
 static void check_presses(const told_key *key) {
-  static room report, text;
-  room_with(&report, &key->report, sizeof key->report);
+  static room event, text, taken;
+  room_with(&event, &key->event, sizeof key->event);
   room_with(&text, key->text, key->len);
-  told_key without_flags = *key;
-  without_flags.flags = 0;
-  refuse_request(1);
-  hed_key_press press = { 0xffff, 0xff, 0xffffffff }, again;
-  bool has = hed_key_of_report((hed_key_report *)report.at, pointer_to(&text), key->len, &press);
-  HOLDS(is_unchanged(&report, &key->report) && is_unchanged(&text, key->text));
-  HOLDS(has ? !is_bad_report(&without_flags) && is_utf8(key->text, key->len) && press.held < HED_KITTY_MOD_CAPS_LOCK : press.key == 0xffff);
-  if (has) {
-    hed_key_report own = { HED_KEY_EVENT_KIND_PRESS, press.held, press.key, press.detail, HED_NO_CODE, HED_NO_CODE };
-    HOLDS(hed_key_of_report(&own, NULL, 0, &again) && again.key == press.key && again.held == press.held && again.detail == press.detail);
-    note(0x90000u | press.key, press.held);
-  }
-  bool has_second = hed_key_second((hed_key_report *)report.at, &again);
-  HOLDS(!has_second || (!is_bad_report(&without_flags) && may_have_second(&key->report)));
-  HOLDS(requests == 0);
-  refuse_request(0);
-  note(0xa0000u | has_second, press.held);
+  hed_key_press *press = room_of(&taken, sizeof *press);
+  begin_reads();
+  hed_status status = hed_event_press((hed_event *)event.at, pointer_to(&text), key->len, press);
+  HOLDS(is_unchanged(&event, &key->event) && is_unchanged(&text, key->text));
+  HOLDS(is_untouched(&taken, status == HED_OK ? sizeof *press : 0));
+  if (is_bad_event(&key->event)) HOLDS(status == HED_BAD_NUMBER);
+  else if (!is_utf8(key->text, key->len)) HOLDS(status == HED_BAD_TEXT);
+  else HOLDS(status == HED_OK || status == HED_NONE);
+  HOLDS(status != HED_OK || (press->held < HED_KITTY_MOD_CAPS_LOCK && is_press(press)));
+  if (status == HED_OK) note(0x90000u | press->key, press->held);
+  check_second(&key->event);
+  end_reads();
 }
 
 /* Checks the answer that the header promises. A key without bytes is refused: that can't be told from the numbers alone. */
-static void check_told(const told_key *key, const sent *whole) {
-  if (is_bad_report(key)) HOLDS(whole->encoded == HED_ENCODED_BAD_NUMBER);
-  else if (!is_utf8(key->text, key->len)) HOLDS(whole->encoded == HED_ENCODED_BAD_TEXT);
-  else HOLDS(whole->encoded == HED_ENCODED_TEXT || whole->encoded == HED_ENCODED_REFUSED_KEY);
-  HOLDS(whole->encoded != HED_ENCODED_REFUSED_KEY || key->report.key != HED_KEY_CHAR);
-  note(0x70000u | whole->encoded, (unsigned)whole->len);
-  note(0x80000u | key->report.key << 5 | key->flags, key->report.kind);
+static void check_answer(const told_key *key, const sent *whole) {
+  if (is_bad_event(&key->event) || key->flags & ~ALL_KITTY) HOLDS(whole->status == HED_BAD_NUMBER);
+  else if (!is_utf8(key->text, key->len)) HOLDS(whole->status == HED_BAD_TEXT);
+  else HOLDS(whole->status == HED_OK || whole->status == HED_REFUSED_KEY);
+  HOLDS(whole->status != HED_REFUSED_KEY || key->event.key != HED_KEY_CHAR);
+  note(0x70000u | whole->status, (unsigned)whole->len);
+  note(0x80000u | key->event.key << 5 | key->flags, key->event.key_event_kind);
 }
 
-static void check_report(const told_key *key, unsigned number) {
+static void check_told(const told_key *key, unsigned number) {
   told_key other = *key;
-  if (key->report.key > HED_KEY_CHAR && key->report.key != HED_KEY_FUNCTION) other.report.detail = ~other.report.detail;
+  if (key->event.key > HED_KEY_CHAR && key->event.key != HED_KEY_FUNCTION) other.event.detail = ~other.event.detail;
+  other.event.row = other.event.x = 1;
+  other.event.text_len = 1;
   unsigned asked;
   const sent *whole = check_call(encode_told, key, &other, number, &asked);
-  check_told(key, whole);
-  HOLDS(asked == 0 || (whole->encoded != HED_ENCODED_BAD_NUMBER && whole->encoded != HED_ENCODED_BAD_TEXT));
+  check_answer(key, whole);
+  HOLDS(asked == 0 || (whole->status != HED_BAD_NUMBER && whole->status != HED_BAD_TEXT));
+  other.event.kind = HED_KIND_MOUSE;
+  HOLDS(encode_told(&other, NULL, 0, &(size_t){ 0 }) == HED_BAD_NUMBER);
 }
 
 /* Asks for the name of a key in a room, and checks that the room has as much of it as fits, and a zero after it if that fits too. For a
@@ -260,8 +272,8 @@ void try_input(input *it) {
   press is = take_press(it, &stays);
   unsigned refused = 1 + take_byte(it) % 8u;
   check_press(&is, refused);
-  told_key key = take_report(it, &is, stays);
-  check_report(&key, refused);
+  told_key key = take_told(it, &is, stays);
+  check_told(&key, refused);
   check_presses(&key);
   check_name(is.key);
   HOLDS(blocks[TESTED] == 0);

@@ -46,25 +46,25 @@ static void insert_in_plain(const uint8_t *key, size_t len, uint64_t value) {
   bytes_len += len;
 }
 
-static uint32_t look_up_in_plain(const uint8_t *text, size_t len, bool maybe_more, hed_match *match) {
+static hed_status look_up_in_plain(const uint8_t *text, size_t len, bool maybe_more, hed_match *match) {
   const entry *longest = NULL;
   bool is_extended = false;
-  if (!is_made) return HED_FOUND_NO_MAP;
+  if (!is_made) return HED_NOT_INITIALIZED;
   for (const entry *it = entries; it < entries + count; it++) {
     if (is_prefix(it->key, it->len, text, len) && (!longest || longest->len < it->len)) longest = it;
     if (it->len > len && is_prefix(text, len, it->key, it->len)) is_extended = true;
   }
-  if (!longest) return is_extended ? HED_FOUND_NEED_DATA : HED_FOUND_NONE;
+  if (!longest) return is_extended ? HED_NEED_DATA : HED_NONE;
   *match = (hed_match){ longest->len, longest->value };
-  return is_extended && maybe_more ? HED_FOUND_AMBIGUOUS : HED_FOUND_EXACT;
+  return is_extended && maybe_more ? HED_AMBIGUOUS : HED_OK;
 }
 
 static void check_lookup(const uint8_t *text, size_t len, bool maybe_more) {
   hed_match wanted, *match = room_of(&found, sizeof *match);
   room_with(&given_text, text, len);
-  uint32_t answer = hed_keymap_lookup(map, pointer_to(&given_text), len, maybe_more, match);
+  hed_status answer = hed_keymap_lookup(map, pointer_to(&given_text), len, maybe_more, match);
   HOLDS(answer == look_up_in_plain(text, len, maybe_more, &wanted));
-  bool has_match = answer == HED_FOUND_EXACT || answer == HED_FOUND_AMBIGUOUS;
+  bool has_match = answer == HED_OK || answer == HED_AMBIGUOUS;
   HOLDS(!has_match || (match->len == wanted.len && match->value == wanted.value));
   HOLDS(is_untouched(&found, has_match ? sizeof *match : 0) && is_unchanged(&given_text, text));
   note(0x70000u | answer << 8 | (len < 64 ? (unsigned)len : 64), has_match && wanted.len < 64 ? (unsigned)wanted.len : 64);
@@ -106,12 +106,12 @@ void begin_map(void) {
 
 static void init_map(unsigned refused) {
   refuse_request(refused);
-  bool made = hed_keymap_init(map);
-  HOLDS(made == (refusals == 0));
+  hed_status made = hed_keymap_init(map);
+  HOLDS(made == (refusals > 0 ? HED_NO_MEMORY : HED_OK));
   note(0x80000u, requests);
   refuse_request(0);
-  if (!made) look_keys_up(MANY);
-  HOLDS(made || hed_keymap_init(map));
+  if (made) look_keys_up(MANY);
+  HOLDS(!made || !hed_keymap_init(map));
   forget();
   is_made = true;
   look_up(NULL, 0);
@@ -120,13 +120,13 @@ static void init_map(unsigned refused) {
 /* Makes the call, and says whether it was granted. */
 static bool insert(const uint8_t *key, size_t len, uint64_t value, unsigned refused) {
   refuse_request(refused);
-  bool is_granted = hed_keymap_insert(map, pointer_to(&given_key), len, value);
-  HOLDS(is_granted == (is_made && refusals == 0));
+  hed_status status = hed_keymap_insert(map, pointer_to(&given_key), len, value);
+  HOLDS(status == (!is_made ? HED_NOT_INITIALIZED : refusals > 0 ? HED_NO_MEMORY : HED_OK));
   HOLDS(is_made || requests == 0);
   note(0x90000u, requests);
   refuse_request(0);
   HOLDS(is_unchanged(&given_key, key));
-  return is_granted;
+  return status == HED_OK;
 }
 
 static void insert_in_map(const uint8_t *key, size_t len, uint8_t value, unsigned refused) {

@@ -13,25 +13,24 @@
 /* Texts: what each begins with, then a part again and again, and what it ends with; and what reading it answers. */
 static const struct text {
   const char *name, *start, *part, *end;
-  uint32_t answer;
+  hed_status answer;
 } texts[] = {
-  { "letters", "", "a", "", HED_NAMED_UNKNOWN_NAME },
-  { "characters", "", "\303\251", "", HED_NAMED_UNKNOWN_NAME },
-  { "words", "", "ctrl-", "", HED_NAMED_MODIFIER_TWICE },
-  { "emacs", "", "C-", "", HED_NAMED_MODIFIER_TWICE },
-  { "vim", "<", "C-", ">", HED_NAMED_MODIFIER_TWICE },
-  { "brackets", "", "<", "", HED_NAMED_UNKNOWN_NAME },
-  { "pluses", "", "+", "", HED_NAMED_UNKNOWN_NAME },
-  { "modifier", "", "x", "+", HED_NAMED_UNKNOWN_MODIFIER },
-  { "zeros", "U+", "0", "", HED_NAMED_UNKNOWN_NAME },
-  { "digits", "kitty", "1", "", HED_NAMED_BAD_NUMBER },
-  { "keys", "", "a ", "", HED_NAMED_TOO_LONG },
-  { "chord", "pageup a b c d e f g h i j k l m n o p q r s t u v w x y z C-M-<f5> <c-esc> ctrl+alt+delete U+0441 +", " ", "",
-    HED_NAMED_KEYS },
-  { "blanks", "", " \t", "", HED_NAMED_EMPTY },
-  { "last", "a", " ", "foo", HED_NAMED_UNKNOWN_NAME },
-  { "control", "a", " ", "\033", HED_NAMED_CONTROL_CHARACTER },
-  { "broken", "", "\360\237\230\200", "\377", HED_NAMED_BAD_TEXT },
+  { "letters", "", "a", "", HED_NAME_UNKNOWN_NAME },
+  { "characters", "", "\303\251", "", HED_NAME_UNKNOWN_NAME },
+  { "words", "", "ctrl-", "", HED_NAME_MODIFIER_TWICE },
+  { "emacs", "", "C-", "", HED_NAME_MODIFIER_TWICE },
+  { "vim", "<", "C-", ">", HED_NAME_MODIFIER_TWICE },
+  { "brackets", "", "<", "", HED_NAME_UNKNOWN_NAME },
+  { "pluses", "", "+", "", HED_NAME_UNKNOWN_NAME },
+  { "modifier", "", "x", "+", HED_NAME_UNKNOWN_MODIFIER },
+  { "zeros", "U+", "0", "", HED_NAME_UNKNOWN_NAME },
+  { "digits", "kitty", "1", "", HED_NAME_BAD_NUMBER },
+  { "keys", "", "a ", "", HED_NAME_TOO_LONG },
+  { "chord", "pageup a b c d e f g h i j k l m n o p q r s t u v w x y z C-M-<f5> <c-esc> ctrl+alt+delete U+0441 +", " ", "", HED_OK },
+  { "blanks", "", " \t", "", HED_NAME_EMPTY },
+  { "last", "a", " ", "foo", HED_NAME_UNKNOWN_NAME },
+  { "control", "a", " ", "\033", HED_NAME_CONTROL_CHARACTER },
+  { "broken", "", "\360\237\230\200", "\377", HED_BAD_TEXT },
 };
 
 enum { SHORT_TEXT = 1 << 13, LONG_TEXT = 1 << 16 };
@@ -86,7 +85,7 @@ static void print_name(void *given) {
   uint8_t name[64 * HED_CHORD_MOST];
   size_t len;
   for (size_t i = 0; i < it->rounds; i++)
-    want(hed_key_print(it->of.keys, it->of.count, name, sizeof name, &len) == HED_PRINTED_NAME && len <= sizeof name);
+    want(hed_key_print(it->of.keys, it->of.count, name, sizeof name, &len) == HED_OK && len <= sizeof name);
 }
 
 static void show_printing(void) {
@@ -105,7 +104,7 @@ static void show_printing(void) {
 /* A name as people write it, read and printed again and again. */
 static void show_name(size_t rounds) {
   static const char name[] = "ctrl+x ctrl+s";
-  static const struct text text = { "name", name, "", "", HED_NAMED_KEYS };
+  static const struct text text = { "name", name, "", "", HED_OK };
   static struct reading reading = { .of = &text, .len = sizeof name - 1 };
   struct printing printing = { .rounds = reading.rounds = rounds };
   memcpy(reading.bytes, name, reading.len);
@@ -178,7 +177,7 @@ static void bind_all(void *given) {
   work *it = given;
   for (size_t i = 0; i < it->count; i++) {
     const chord *next = &it->chords[it->order[i]];
-    want(hed_bindings_bind(&it->bindings, next->keys, next->count, it->order[i]) == HED_BOUND_VALUE);
+    want(hed_bindings_bind(&it->bindings, next->keys, next->count, it->order[i]) == HED_OK);
   }
 }
 
@@ -187,7 +186,7 @@ static void unbind_all(void *given) {
   uint64_t value;
   for (size_t i = 0; i < it->count; i++) {
     const chord *next = &it->chords[it->order[i]];
-    want(hed_bindings_unbind(&it->bindings, next->keys, next->count, &value) == HED_BOUND_VALUE && value == it->order[i]);
+    want(hed_bindings_unbind(&it->bindings, next->keys, next->count, &value) == HED_OK && value == it->order[i]);
   }
 }
 
@@ -196,7 +195,7 @@ static void look_all_up(void *given) {
   uint64_t value;
   for (size_t i = 0; i < it->rounds * it->count; i++) {
     const chord *next = &it->chords[it->order[i % it->count]];
-    want(hed_bindings_lookup(&it->bindings, next->keys, next->count, &value) == HED_BOUND_VALUE && value == it->order[i % it->count]);
+    want(hed_bindings_lookup(&it->bindings, next->keys, next->count, &value) == HED_OK && value == it->order[i % it->count]);
   }
 }
 
@@ -207,12 +206,12 @@ static void press_all(void *given) {
   hed_outcome outcome;
   for (size_t i = 0; i < it->rounds * it->count; i++) {
     const chord *next = &it->chords[it->order[i % it->count]];
-    uint32_t answer = HED_OUTCOME_NONE;
+    hed_status answer = HED_NONE;
     for (size_t k = 0; k < next->count; k++) {
-      want(hed_matcher_press(&matcher, &next->keys[k]) == HED_PRESSED_KEY && answer == HED_OUTCOME_NONE);
+      want(hed_matcher_press(&matcher, &next->keys[k]) == HED_OK && answer == HED_NONE);
       answer = hed_matcher_next(&matcher, &it->bindings, true, &outcome);
     }
-    want(answer == HED_OUTCOME_BOUND && outcome.value == it->order[i % it->count]);
+    want(answer == HED_OK && outcome.kind == HED_OUTCOME_BOUND && outcome.value == it->order[i % it->count]);
   }
 }
 
@@ -222,14 +221,14 @@ static void list_all(void *given) {
   uint64_t value;
   size_t count;
   for (size_t i = 0; i < it->count; i++)
-    want(hed_bindings_entry(&it->bindings, it->order[i], keys, 0, &count, &value) == HED_BOUND_VALUE && value == it->order[i]);
+    want(hed_bindings_entry(&it->bindings, it->order[i], keys, 0, &count, &value) == HED_OK && value == it->order[i]);
 }
 
 static void continue_all(void *given) {
   work *it = given;
   size_t first, end;
   for (size_t i = 0; i < it->count; i++)
-    want(hed_bindings_continuations(&it->bindings, it->chords[it->order[i]].keys, 1, &first, &end) == HED_BOUND_VALUE);
+    want(hed_bindings_continuations(&it->bindings, it->chords[it->order[i]].keys, 1, &first, &end) == HED_OK);
 }
 
 /* A key map of the rows of the sequence table, and those of so many bytes. */
@@ -244,11 +243,11 @@ enum { ROW = 5 };
 static void make_rows(rows *it) {
   hed_parser parser = HED_PARSER_NONE;
   hed_event key;
-  want(hed_parser_init(&parser) && hed_keymap_init(&it->map));
+  want(hed_parser_init(&parser, HED_DIALECT_EXTENDED) == HED_OK && hed_keymap_init(&it->map) == HED_OK);
   for (size_t at = 0; at < HED_ENTRY_COUNT; at++) {
     uint8_t *bytes = it->bytes[it->count];
     size_t len = hed_parser_entry(&parser, at, bytes, HED_ENTRY_MOST, &key);
-    want(hed_keymap_insert(&it->map, bytes, len, at));
+    want(hed_keymap_insert(&it->map, bytes, len, at) == HED_OK);
     it->count += len == ROW;
   }
   hed_parser_free(&parser);
@@ -258,7 +257,7 @@ static void look_rows_up(void *given) {
   rows *it = given;
   hed_match match;
   for (size_t i = 0; i < it->rounds * it->count; i++)
-    want(hed_keymap_lookup(&it->map, it->bytes[i % it->count], ROW, false, &match) == HED_FOUND_EXACT && match.len == ROW);
+    want(hed_keymap_lookup(&it->map, it->bytes[i % it->count], ROW, false, &match) == HED_OK && match.len == ROW);
 }
 
 /* The rows of five bytes, and the chords of 1 and of 2 presses. */
@@ -271,7 +270,7 @@ static void show_lookups(size_t rounds) {
   hed_keymap_free(&rows.map);
   it.count = SOME;
   put_in_order(&it, RISING);
-  want(hed_bindings_init(&it.bindings));
+  want(hed_bindings_init(&it.bindings) == HED_OK);
   bind_all(&it);
   it.count = SOME / 2;
   for (size_t keys = 1; keys <= 2; keys++) {
@@ -293,7 +292,7 @@ static void show_binding(size_t count, enum order order) {
   static work it = { .chords = many, .rounds = 1 };
   it.count = count;
   put_in_order(&it, order);
-  want(hed_bindings_init(&it.bindings));
+  want(hed_bindings_init(&it.bindings) == HED_OK);
   show("bind", order_names[order], count, count, bind_all, &it);
   draw_places(&it, count);
   show("lookup", order_names[order], count, it.count, look_all_up, &it);

@@ -1,6 +1,6 @@
 /* What tools/growth.sh counts: passes of a parser over texts of two lengths. A pass makes a parser, gives it a text in reads of one size,
- * takes the events, and ends the parser. It goes through parse_as_vec (parser_pass of tools/growth/feed.rt.txt), through feed, next_event and
- * take_paste (the calls of c/hedrugal.h), or through the same calls of the extended parser. A pass of no bytes makes and ends a parser.
+ * takes the events, and ends the parser. It goes through the calls of c/hedrugal.h, in one dialect or the other and with pastes in parts, or
+ * through parse_as_vec (parser_pass of tools/growth/feed.rt.txt). A pass of no bytes makes and ends a parser.
  *
  *     growth             makes each pass within `counted`, and prints its name, the numbers of its bytes and its events, the length of the
  *                        longest text that waited, the most bytes of memory in use, and the largest request for memory
@@ -49,7 +49,7 @@ static const char replies[] =
 /* The texts: what each begins with, and then parts in turn, each as many times as it says. */
 static const struct text {
   const char *name;
-  bool is_extended; /* whether the extended parser alone gets it */
+  bool is_extended; /* whether HED_DIALECT_EXTENDED alone gets it */
   const char *start;
   const char *parts[6];
   size_t times[5];
@@ -83,43 +83,27 @@ static void fill(const struct text *it) {
     for (size_t i = 0; i < it->times[part]; i++) at = put(at, it->parts[part]);
 }
 
-/* The calls by which events are taken, and what they are called. */
-enum way { NEXT_EVENT, PARSE_AS_VEC, EXTENDED, WAYS };
-static const char *const way_names[WAYS] = { "next_event", "parse_as_vec", "extended" };
-
-/* A parser of one kind or of the other. */
-struct session {
-  bool is_extended;
-  hed_parser plain;
-  hed_extended extended;
-};
-
-/* A call that both kinds have, by its name after hed_extended_ or hed_parser_. */
-#define CALL(it, name, ...) \
-  ((it)->is_extended ? hed_extended_##name(&(it)->extended, ##__VA_ARGS__) : hed_parser_##name(&(it)->plain, ##__VA_ARGS__))
+/* How events are taken, and what that is called. */
+enum way { TERMWIZ, PARSE_AS_VEC, EXTENDED, WAYS };
+static const char *const way_names[WAYS] = { "termwiz", "parse_as_vec", "extended" };
 
 /* The parser whose table the others share. */
 static hed_parser first = HED_PARSER_NONE;
 
-static void make(struct session *it, enum way way) {
-  *it = (struct session){ .is_extended = way == EXTENDED };
-  want(it->is_extended ? hed_extended_init_sharing_parser(&it->extended, HED_DIALECT_EXTENDED, &first)
-                       : hed_parser_init_sharing(&it->plain, &first));
+static hed_parser make(enum way way) {
+  hed_parser it = HED_PARSER_NONE;
+  want(hed_parser_init_sharing(&it, way == EXTENDED ? HED_DIALECT_EXTENDED : HED_DIALECT_TERMWIZ, &first) == HED_OK);
+  hed_parser_set_parts(&it, LIMIT);
+  return it;
 }
 
-/* Takes the events that are decided, and then a part of an open paste. Returns how many these were. */
-static uint64_t take_events(struct session *it, bool more) {
+/* Takes the events that there are. Returns how many these were. */
+static uint64_t take_events(hed_parser *it) {
   hed_event event;
-  hed_extended_event extended_event;
   uint64_t events = 0;
-  uint32_t answer;
-  do {
-    answer = it->is_extended ? hed_extended_next(&it->extended, more, &extended_event) : hed_parser_next(&it->plain, more, &event);
-    if (answer == HED_NEXT_NONE && it->is_extended) answer = hed_extended_take_paste(&it->extended, LIMIT, &extended_event);
-    else if (answer == HED_NEXT_NONE) answer = hed_parser_take_paste(&it->plain, LIMIT, &event);
-    events += answer == HED_NEXT_EVENT;
-  } while (answer == HED_NEXT_EVENT);
-  want(answer == HED_NEXT_NONE);
+  hed_status status;
+  while ((status = hed_parser_next(it, &event)) == HED_OK) events++;
+  want(status == HED_NONE);
   return events;
 }
 
@@ -139,18 +123,18 @@ static void pass_as_vec(struct pass *pass) {
 }
 
 static void pass_by_steps(struct pass *pass) {
-  struct session it;
-  make(&it, pass->way);
+  hed_parser it = make(pass->way);
   for (size_t at = 0; at < pass->length; at += pass->read) {
     /* A text that is longer goes on with what comes after its first read. */
     size_t from = at < LONGEST ? at : READ + (at - READ) % (LONGEST - READ);
-    want(CALL(&it, feed, text + from, pass->length - at < pass->read ? pass->length - at : pass->read));
-    size_t waiting = CALL(&it, waiting_len);
+    want(hed_parser_feed(&it, at, text + from, pass->length - at < pass->read ? pass->length - at : pass->read) == HED_OK);
+    size_t waiting = hed_parser_waiting_len(&it);
     if (waiting > pass->longest) pass->longest = waiting;
-    pass->events += take_events(&it, true);
+    pass->events += take_events(&it);
   }
-  pass->events += take_events(&it, false);
-  CALL(&it, free);
+  hed_parser_flush(&it);
+  pass->events += take_events(&it);
+  hed_parser_free(&it);
 }
 
 static void make_pass(void *it) {
@@ -197,55 +181,54 @@ static void show_long(enum way way) {
 }
 
 /* Passes a read, takes its events, and drops the text of a paste. */
-static void read_all(struct session *it, const uint8_t *bytes, size_t length) {
-  want(CALL(it, feed, bytes, length));
-  want(take_events(it, true) > 0);
-  if (it->is_extended) hed_extended_drop_text(&it->extended);
-  else hed_parser_drop_paste(&it->plain);
+static void read_all(hed_parser *it, const uint8_t *bytes, size_t length) {
+  want(hed_parser_feed(it, 0, bytes, length) == HED_OK);
+  want(take_events(it) > 0);
+  hed_parser_drop_text(it);
 }
 
 /* Reads a paste, and gives memory back. */
-static void read_paste(struct session *it) {
+static void read_paste(hed_parser *it) {
   enum { PASTED = 1 << 20, MARK = sizeof "\x1b[200~" - 1 };
   static uint8_t paste[PASTED];
   memset(paste, 'x', PASTED);
   memcpy(paste, "\x1b[200~", MARK);
   memcpy(paste + PASTED - MARK, "\x1b[201~", MARK);
   read_all(it, paste, PASTED);
-  CALL(it, shrink_to, 0);
+  hed_parser_shrink_to(it, 0);
 }
 
-/* Prints how many bytes each of some sessions has in use, beside those that were in use before. */
+/* Prints how many bytes each of some parsers has in use, beside those that were in use before. */
 static void tell_each(enum way way, const char *when, size_t count, size_t before) {
   printf("%s %s %zu %zu\n", way_names[way], when, count, (memory.in_use - before) / count);
 }
 
-/* Sessions that share the table of `first` and read keys, and some that read a paste. */
-static void show_sessions(enum way way) {
-  enum { SESSIONS = 1000, PASTED_SESSIONS = 100 };
-  static struct session sessions[SESSIONS];
+/* Parsers that share the table of `first` and read keys, and some that read a paste. */
+static void show_parsers(enum way way) {
+  enum { PARSERS = 1000, PASTED_PARSERS = 100 };
+  static hed_parser parsers[PARSERS];
   size_t before = memory.in_use;
-  for (size_t i = 0; i < SESSIONS; i++) make(&sessions[i], way);
-  tell_each(way, "made", SESSIONS, before);
-  for (size_t i = 0; i < SESSIONS; i++) read_all(&sessions[i], text, READ);
-  tell_each(way, "read", SESSIONS, before);
-  for (size_t i = 0; i < SESSIONS; i++) CALL(&sessions[i], free);
-  for (size_t i = 0; i < PASTED_SESSIONS; i++) {
-    make(&sessions[i], way);
-    read_paste(&sessions[i]);
+  for (size_t i = 0; i < PARSERS; i++) parsers[i] = make(way);
+  tell_each(way, "made", PARSERS, before);
+  for (size_t i = 0; i < PARSERS; i++) read_all(&parsers[i], text, READ);
+  tell_each(way, "read", PARSERS, before);
+  for (size_t i = 0; i < PARSERS; i++) hed_parser_free(&parsers[i]);
+  for (size_t i = 0; i < PASTED_PARSERS; i++) {
+    parsers[i] = make(way);
+    read_paste(&parsers[i]);
   }
-  tell_each(way, "shrunk", PASTED_SESSIONS, before);
-  for (size_t i = 0; i < PASTED_SESSIONS; i++) CALL(&sessions[i], free);
+  tell_each(way, "shrunk", PASTED_PARSERS, before);
+  for (size_t i = 0; i < PASTED_PARSERS; i++) hed_parser_free(&parsers[i]);
   tell_each(way, "freed", 1, before);
 }
 
 int main(int argc, char **argv) {
   const char *word = argc == 2 ? argv[1] : "";
-  want(hed_parser_init(&first));
+  want(hed_parser_init(&first, HED_DIALECT_TERMWIZ) == HED_OK);
   fill(&texts[1]);
   for (enum way way = 0; way < WAYS; way++) {
     if (!*word) show_passes(way);
-    else if (way != PARSE_AS_VEC) (strcmp(word, "long") ? show_sessions : show_long)(way);
+    else if (way != PARSE_AS_VEC) (strcmp(word, "long") ? show_parsers : show_long)(way);
   }
   return 0;
 }

@@ -6,9 +6,9 @@
 BEGIN {
     # The most instructions for four times the bytes, less those of making a parser, or of a paste's first part, in which the buffer grows.
     MOST = 4.4
-    # The memory in use, by the longest text that waited. The extended parser also keeps the bytes that its last event brought. A request is
-    # of twice the text, or of room for two events a byte.
-    SHARES["next_event"] = 2; SHARES["extended"] = 3; LEAST_BUFFER = 8; EVENT_ROOM = 32
+    # The memory in use, by the longest text that waited. A string or a sequence is also kept as the bytes of the event told last. A request
+    # is of twice the text, or of room for two events a byte.
+    SHARES["termwiz"] = 2; SHARES["extended"] = 3; LEAST_BUFFER = 8; EVENT_ROOM = 32
     # What may be buffered of a long text, beside a read. The memory in use is at most eight times that and two reads.
     BUFFERED["paste"] = 2 ^ 20 + 6; BUFFERED["escapes"] = 2; BUFFERED["openings"] = 3; BUFFERED["string"] = 65535
     # The most instructions of an event, beside those of a typed one, in reads of 4096 bytes.

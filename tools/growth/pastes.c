@@ -26,7 +26,7 @@ static void fill(const char *part) {
 static void send_text(void *given) {
   const size_t *len = given;
   size_t sent_len;
-  want(hed_encode_paste(text, *len, true, sent, sizeof sent, &sent_len) == HED_ENCODED_TEXT && sent_len <= 3 * *len + BRACKETS);
+  want(hed_encode_paste(text, *len, true, sent, sizeof sent, &sent_len) == HED_OK && sent_len <= 3 * *len + BRACKETS);
 }
 
 int main(void) {

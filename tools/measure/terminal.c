@@ -6,15 +6,15 @@
 #include <string.h>
 
 int main(int count, char **words) {
-  hed_extended parser = HED_EXTENDED_NONE;
-  hed_extended_event event;
+  hed_parser parser = HED_PARSER_NONE;
+  hed_event event;
   hed_terminal terminal;
   if (count != 3) {
     fputs("usage: terminal COUNT (each | all)\n", stderr);
     return 2;
   }
   const bool is_told = !strcmp(words[2], "each");
-  if (!hed_extended_init(&parser, HED_DIALECT_EXTENDED) || !hed_terminal_open(&terminal, 0, 1, "", "")) return 1;
+  if (hed_parser_init(&parser, HED_DIALECT_EXTENDED) || !hed_terminal_open(&terminal, 0, 1, "", "")) return 1;
   puts("begun");
   for (long left = atol(words[1]); left > 0;) {
     const enum hed_terminal_event came = hed_terminal_next(&terminal, &parser, -1, &event);
@@ -24,6 +24,6 @@ int main(int count, char **words) {
     if (is_told) putchar('.');
   }
   hed_terminal_close(&terminal);
-  hed_extended_free(&parser);
+  hed_parser_free(&parser);
   return 0;
 }

@@ -34,25 +34,25 @@ static void want(bool is_so) {
   exit(1);
 }
 
-static double nanoseconds(const hed_extended *parser, const hed_extended_event *event, const uint8_t *text) {
+static double nanoseconds(const hed_parser *parser, const hed_event *event, const uint8_t *text) {
   uint8_t out[TEXT_MOST];
   size_t len;
   double start = now();
-  for (int i = 0; i < TIMES; i++) want(hed_encode_event(event, text, event->text_len, parser, out, sizeof out, &len) == HED_ENCODED_TEXT);
+  for (int i = 0; i < TIMES; i++) want(hed_encode_event(event, text, event->text_len, parser, out, sizeof out, &len) == HED_OK);
   return (now() - start) / TIMES;
 }
 
 int main(void) {
-  hed_extended parser = HED_EXTENDED_NONE;
-  want(hed_extended_init(&parser, HED_DIALECT_EXTENDED));
+  hed_parser parser = HED_PARSER_NONE;
+  want(hed_parser_init(&parser, HED_DIALECT_EXTENDED) == HED_OK);
   for (const struct kind *it = kinds; it < kinds + sizeof kinds / sizeof *kinds; it++) {
-    hed_extended_event event;
+    hed_event event;
     uint8_t text[TEXT_MOST];
-    want(hed_extended_feed(&parser, (const uint8_t *)it->bytes, strlen(it->bytes)));
-    want(hed_extended_next(&parser, false, &event) == HED_NEXT_EVENT);
-    if (event.text_len > 0) want(hed_extended_text(&parser, text, sizeof text) == event.text_len);
+    want(hed_parser_feed(&parser, 0, (const uint8_t *)it->bytes, strlen(it->bytes)) == HED_OK);
+    hed_parser_flush(&parser);
+    want(hed_parser_next(&parser, &event) == HED_OK && hed_parser_text(&parser, text, sizeof text) == event.text_len);
     printf("%s %.1f\n", it->name, nanoseconds(&parser, &event, text));
   }
-  hed_extended_free(&parser);
+  hed_parser_free(&parser);
   return 0;
 }

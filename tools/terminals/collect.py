@@ -315,8 +315,8 @@ def is_eight_bit_meta(text, right):
 
 
 def reason(terminal, line, mode, elsewhere):
-    """Why the extended parser reads no right press, or nothing if it reads one. `elsewhere` has of
-    bytes the terminals, layouts, modes and right presses for which they are sent."""
+    """Why the parser reads no right press, or nothing if it reads one. `elsewhere` has of bytes the
+    terminals, layouts, modes and right presses for which they are sent."""
     reader = reader_of(terminal)
     if is_exact(reader, line):
         return ""
