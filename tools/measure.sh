@@ -1,15 +1,13 @@
 #!/usr/bin/env bash
 # Measures the parser in process beside that of another commit, in one run on this machine.
 #
-#     tools/measure.sh --against COMMIT [--c | --extended | --timed] [--reads N] [--runs N] [INPUT..]
+#     tools/measure.sh --against COMMIT [--c | --extended] [--reads N] [--runs N] [INPUT..]
 #
 # With --c it is the parser of the library for C, in either dialect: that of the folder HEDRUGAL_LIBRARY, else of out/lib, beside that of
 # COMMIT's folder prebuilt, or of HEDRUGAL_OTHER. Each gets its reads from its own tools/measure/hedrugal.c.
 #
 # Otherwise it builds the crates of the parser here and of COMMIT in a temporary folder, each with a program that asks the parser for one
 # event after another (tools/measure/next.rt.txt, pass.c). The parser is InputParser or, with --extended, ExtendedParser.
-# With --timed the program here has the parser with a clock, and calls `feed`, `next` and `idle` (timed.rt.txt); that of COMMIT, which may be
-# HEAD, has ExtendedParser and a timer, and calls `feed`, `next_event`, `note` and `expire` (expire.rt.txt).
 #
 # Each INPUT (all) has a megabyte, and is given in reads of N bytes (64). The two programs run in turn,
 # N times each (9), one pass a process. It prints the least nanoseconds for an event of both, and the first divided by the second.
@@ -18,11 +16,11 @@
 set -euo pipefail
 . "$(dirname "$0")/common.sh"
 top=$(cd "$(dirname "$0")/.." && pwd)
-against='' c='' extended='' timed='' reads=64 runs=9
+against='' c='' extended='' reads=64 runs=9
 while [[ ${1-} == -* ]]; do
     case $1 in
         --help) show_help; exit ;;
-        --c | --extended | --timed) declare "${1#--}=yes"; shift; continue ;;
+        --c | --extended) declare "${1#--}=yes"; shift; continue ;;
         --against | --reads | --runs) [ $# -gt 1 ] || refuse "$1 wants a word after it" ;;
         *) refuse_word "$1" ;;
     esac
@@ -40,12 +38,8 @@ trap 'rm -rf "$work"' EXIT
 # Builds the program of the crates in a folder. What rt kept at the top spares it the proofs of what is the same. An older commit
 # has protocols in place of dialects, and calls them so or otherwise.
 build() { # folder
-    local folder=$1 parser=termwiz_input program=next dialect=Protocol::Kitty event=ExtendedEvent kept crate
+    local folder=$1 parser=termwiz_input dialect=Protocol::Kitty event=ExtendedEvent kept crate
     [ -z "$extended" ] || parser=termwiz_input_extended
-    [ -z "$timed" ] || case $folder in
-        */here) parser=termwiz_timed program=timed ;;
-        *) parser=termwiz_input_extended program=expire ;;
-    esac
     ! grep -q 'enum Rows' "$folder"/crates/termwiz_extended_events/src/types.rt || dialect=Rows::Kitty
     ! grep -q 'enum Dialect' "$folder"/crates/termwiz_extended_events/src/types.rt || dialect=Dialect::Extended
     ! grep -q 'enum Event ' "$folder"/crates/termwiz_extended_events/src/types.rt || event=Event
@@ -54,14 +48,10 @@ build() { # folder
         [ ! -d "$crate" ] || cp -a "$kept" "$crate/"
     done
     mkdir -p "$folder/crates/next/src"
-    cp "$top/tools/measure/$program.rt.txt" "$folder/crates/next/src/lib.rt"
+    cp "$top/tools/measure/next.rt.txt" "$folder/crates/next/src/lib.rt"
     [ -z "$extended" ] || sed -i -e "s/^use .*::InputEvent;/use termwiz_input_extended::types::{$event, ${dialect%::*}};/" \
         -e 's/^use termwiz_input::/use termwiz_input_extended::/' -e "s/InputParser::new(alloc)/ExtendedParser::new(alloc, $dialect)/" \
         -e 's/InputParser/ExtendedParser/g' -e 's/InputEvent/'$event'/g' "$folder/crates/next/src/lib.rt"
-    if [ $program = expire ]; then
-        mkdir -p "$folder/crates/next/proofs/idle"
-        cp "$top/tools/measure/expire.antt.txt" "$folder/crates/next/proofs/idle/Answers.antt"
-    fi
     echo "next staticlib: $parser" >> "$folder/crates.txt"
     (cd "$folder/crates/next" && run_quietly rt lib)
     cc -O2 -o "$folder/pass" "$top/tools/measure/pass.c" "$folder/crates/next/out/libnext.a" "$(dirname "$(rt doc)")/c/liblibc_c.a"
@@ -101,7 +91,7 @@ else
     (cd "$top" && tar c --exclude=out --exclude=must-fail crates.txt crates/termwiz_*) | tar x -C "$work/here"
     git -C "$top" archive "$against" crates.txt crates | tar x -C "$work/other"
     for tree in here other; do
-        sed -Ei '/^termwiz_(base|keymap|keys|grammar|laws|table|input|extended_events|extended_grammar|input_extended|timed):/!d' "$work/$tree/crates.txt"
+        sed -Ei '/^termwiz_(base|keymap|keys|grammar|laws|table|input|extended_events|extended_grammar|input_extended):/!d' "$work/$tree/crates.txt"
         progress "proving and building the parser $([ $tree = here ] && echo here || echo "of $against"), which takes minutes the first time"
         build "$work/$tree"
     done
