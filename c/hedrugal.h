@@ -88,7 +88,7 @@ enum {
   HED_TOO_FAR = 10, /* The place of the mouse report is above 223, which its encoding can't tell. */
   HED_AMBIGUOUS = 11, /* A key of the map is a prefix of the text, and the text is a prefix of a longer one. */
   HED_NEED_DATA = 12, /* No key of the map is a prefix of the text, but the text is a prefix of some key. */
-  HED_FULL = 13, /* 32 presses are pending, and the press isn't. */
+  HED_FULL = 13, /* No more fits: 32 presses are pending, or 16 questions are open. */
   HED_NAME_CONTROL_CHARACTER = 20, /* A control character but the tab is in the text. */
   HED_NAME_MODIFIER_TWICE = 21, /* A modifier is there twice, as in `M-A-x`. */
   HED_NAME_UNKNOWN_MODIFIER = 22, /* A word before `+` or `-` is no modifier, as in `foo+x`. */
@@ -133,7 +133,7 @@ enum hed_kind {
   HED_KIND_FOCUS_GAINED = 5, /* The terminal's window gained the focus (mode 1004). */
   HED_KIND_FOCUS_LOST = 6, /* The terminal's window lost the focus. */
   HED_KIND_CURSOR_POSITION = 7, /* The reply to a question for the cursor's position. */
-  HED_KIND_RESIZE = 8, /* The terminal has a new size (mode 2048). */
+  HED_KIND_RESIZED = 8, /* The terminal has a new size (mode 2048). */
   HED_KIND_KEYBOARD_FLAGS = 9, /* The reply to a question for the flags of Kitty's keyboard protocol. */
   HED_KIND_CSI = 10, /* Any other control sequence. */
   HED_KIND_OSC = 11, /* An operating system command, such as the reply to a question for a colour. */
@@ -200,10 +200,10 @@ typedef struct hed_event {
   uint16_t y; /* HED_KIND_MOUSE: the row, as the terminal sent it: the topmost is 1 */
   uint16_t row; /* HED_KIND_CURSOR_POSITION: the row, as the terminal sent it: the topmost is 1 */
   uint16_t column; /* HED_KIND_CURSOR_POSITION: the column, as the terminal sent it: the leftmost is 1 */
-  uint16_t rows; /* HED_KIND_RESIZE: the number of rows */
-  uint16_t columns; /* HED_KIND_RESIZE: the number of columns */
-  uint16_t height; /* HED_KIND_RESIZE: the height in pixels */
-  uint16_t width; /* HED_KIND_RESIZE: the width in pixels */
+  uint16_t rows; /* HED_KIND_RESIZED: the number of rows */
+  uint16_t columns; /* HED_KIND_RESIZED: the number of columns */
+  uint16_t height; /* HED_KIND_RESIZED: the height in pixels */
+  uint16_t width; /* HED_KIND_RESIZED: the width in pixels */
   uint32_t detail; /* HED_KIND_KEY: HED_KEY_CHAR's code point, HED_KEY_FUNCTION's number (1 for F1), key 0's in Kitty's table; else 0 */
   uint32_t shifted; /* HED_KIND_KEY: the code point that the key types with Shift, or HED_NO_CODE */
   uint32_t base; /* HED_KIND_KEY: the code point that the key at this place types on the standard layout (PC-101), or HED_NO_CODE */
@@ -1169,6 +1169,70 @@ typedef struct hed_reply {
 hed_status hed_read_reply(uint8_t kind, const uint8_t *bytes, size_t len, hed_reply *reply, uint32_t *numbers, size_t numbers_capacity,
                           uint8_t *out, size_t capacity);
 
+/* The most questions that are open at once. */
+#define HED_QUESTIONS_MOST 16
+
+/* A question that is open: what one call of hed_questions_ask told, until its last reply. */
+typedef struct hed_question {
+  uint64_t number; /* its number, as hed_questions_ask wrote it */
+  uint64_t asked; /* when it was asked */
+  uint64_t until; /* from when on it isn't open any more */
+  uint32_t positions; /* how many positions of the cursor are still to come for it */
+} hed_question;
+
+/* The questions that a program has asked its terminal. A program keeps one beside its parser, HED_QUESTIONS_NONE at first. It owns no memory, and
+ * may be copied. Its fields may be read; the calls below write them. */
+typedef struct hed_questions {
+  uint64_t asked; /* the number of the question that was asked last, 0 before the first */
+  uint64_t answered; /* the number of the question that was answered last, 0 if none was */
+  uint64_t slowest; /* how many milliseconds the slowest answer took, 0 if there was none */
+  uint32_t count; /* how many questions are open */
+  hed_question open[HED_QUESTIONS_MOST]; /* those, the oldest first. What is behind them says nothing */
+} hed_questions;
+
+/* The questions before the first is asked. */
+#define HED_QUESTIONS_NONE \
+  {                        \
+    0, 0, 0, 0, {          \
+      { 0, 0, 0, 0 }       \
+    }                      \
+  }
+
+/* Notes that the program asks its terminal now. text is what it writes, such as ESC [6n or ESC ]11;? ESC \, which may be several questions. Behind
+ * it the program writes ESC [c (DA1), which nearly every terminal answers. Replies come in the order of the questions, so a reply that hasn't come
+ * before that to DA1 won't come. A question is open until the reply to DA1 comes, or for so many milliseconds, at least 2000: some terminals never
+ * answer. What is overdue by now isn't open any more, as after hed_questions_expire. For each ESC [6n the parser expects a position of the cursor.
+ *
+ * Returns HED_OK, and writes the number of the question to *number: 1 for the first, and 1 more for each further one. HED_FULL: HED_QUESTIONS_MOST
+ * are open. HED_BAD_NUMBER: count is above HED_QUESTIONS_MOST. HED_NOT_INITIALIZED: there is no parser. */
+hed_status hed_questions_ask(hed_questions *questions, hed_parser *parser, uint64_t now, uint64_t milliseconds, const uint8_t *text,
+                             size_t text_len, uint64_t *number);
+
+/* Notes an event of the parser, and writes to *number which question it is a reply to: the oldest one that is open, or 0 if it is none. While one is
+ * open, these are replies: HED_KIND_CURSOR_POSITION, _KEYBOARD_FLAGS, _CSI, _OSC, _DCS, _APC, _STRING_PART and _STRING_CUT. The reply to DA1, ESC [?
+ * with a digit, and then digits and ; up to c, is the last one: it answers the question, which isn't open any more, and the parser expects no position for it.
+ *
+ * The caller passes each event, in the order in which they are told, with the bytes that it brought, as hed_parser_text copies them. Only those of a
+ * HED_KIND_CSI are read, and the first 256 of them are enough.
+ *
+ * Returns HED_OK; HED_BAD_NUMBER: count is above HED_QUESTIONS_MOST; or HED_NOT_INITIALIZED: there is no parser. */
+hed_status hed_questions_note(hed_questions *questions, hed_parser *parser, uint64_t now, const hed_event *event, const uint8_t *text,
+                              size_t text_len, uint64_t *number);
+
+/* Ends the questions that are overdue by now. The parser expects the positions of those that are still open, and no other: so the caller makes this
+ * call after hed_parser_interrupted too, if a question was asked meanwhile.
+ *
+ * Returns HED_OK, HED_BAD_NUMBER or HED_NOT_INITIALIZED, as hed_questions_note. */
+hed_status hed_questions_expire(hed_questions *questions, hed_parser *parser, uint64_t now);
+
+/* Ends all questions, as when another program had the terminal: it may have read the replies. The parser expects no position. Without a parser the
+ * questions end too. */
+void hed_questions_forget(hed_questions *questions, hed_parser *parser);
+
+/* Returns how many milliseconds are left until hed_questions_expire ends a question, as poll takes it: -1 if none is open, or count is above
+ * HED_QUESTIONS_MOST. A program waits for the shorter of this time and hed_parser_timeout. */
+int32_t hed_questions_timeout(const hed_questions *questions, uint64_t now);
+
 /* Returns the version of the library that is linked, as HED_VERSION_NUMBER has that of the header. */
 uint32_t hed_version(void);
 
@@ -1194,6 +1258,8 @@ HED_IS(sent_mouse, sizeof(hed_sent_mouse) == 6 && offsetof(hed_sent_mouse, modif
 HED_IS(reply, sizeof(hed_reply) == 32 && offsetof(hed_reply, is_private) == 3 && offsetof(hed_reply, selection) == 6);
 HED_IS(reply_index, offsetof(hed_reply, index) == 8 && offsetof(hed_reply, columns) == 18);
 HED_IS(reply_end, offsetof(hed_reply, mode) == 20 && offsetof(hed_reply, len) == 24);
+HED_IS(question, sizeof(hed_question) == 32 && offsetof(hed_question, positions) == 24);
+HED_IS(questions, sizeof(hed_questions) == 544 && offsetof(hed_questions, count) == 24 && offsetof(hed_questions, open) == 32);
 HED_IS(modes, sizeof(hed_modes) == 16 && offsetof(hed_modes, encoding) == 8 && offsetof(hed_modes, has_modify_other_keys) == 12);
 #undef HED_IS
 

@@ -56,7 +56,7 @@ static const struct example examples[] = {
   { TEXT("\033]4;1;a\033\033]4;2;b\033"), "Cut Osc(4;1;a); ", "Cut Osc(4;2;b); " },
   { TEXT("\033[?62;22c\033[>1;10;0c"), "Csi(?62;22c); Csi(>1;10;0c); ", "" },
   { TEXT("\033[?2026;2$y\033[?997;1n\033[?5u"), "Csi(?2026;2$y); Csi(?997;1n); KeyboardFlags(5); ", "" },
-  { TEXT("\033[48;24;80;480;800t"), "Resize(24, 80, 480, 800); ", "" },
+  { TEXT("\033[48;24;80;480;800t"), "Resized(24, 80, 480, 800); ", "" },
   /* X10 mouse reports are read by a reading of their own */
   { TEXT("\033[M0\x60\x70"), "Csi(M); 0; `; p; ", "" },
   /* the largest code: a wheel turned right, 64 + 3, with Shift, Alt and Ctrl, 4 + 8 + 16 */
@@ -227,7 +227,7 @@ static const struct one_event one_events[] = {
   { TEXT("\033[I"), { .kind = HED_KIND_FOCUS_GAINED }, "" },
   { TEXT("\033[O"), { .kind = HED_KIND_FOCUS_LOST }, "" },
   { TEXT("\033[?24;80R"), { .kind = HED_KIND_CURSOR_POSITION, .row = 24, .column = 80 }, "" },
-  { TEXT("\033[48;24;80;480;800t"), { .kind = HED_KIND_RESIZE, .rows = 24, .columns = 80, .height = 480, .width = 800 }, "" },
+  { TEXT("\033[48;24;80;480;800t"), { .kind = HED_KIND_RESIZED, .rows = 24, .columns = 80, .height = 480, .width = 800 }, "" },
   { TEXT("\033[?31u"), { .kind = HED_KIND_KEYBOARD_FLAGS, .flags = 31 }, "" },
   { TEXT("\033[?62;22c"), { .kind = HED_KIND_CSI }, "?62;22c" },
   { TEXT("\033]11;rgb:0/0/0\007"), { .kind = HED_KIND_OSC }, "11;rgb:0/0/0" },

@@ -113,7 +113,7 @@ static inline void tell_event(const hed_event *event, const uint8_t *text) {
     case HED_KIND_FOCUS_GAINED: tell("FocusGained"); break;
     case HED_KIND_FOCUS_LOST: tell("FocusLost"); break;
     case HED_KIND_CURSOR_POSITION: tell("CursorPosition(%u, %u)", event->row, event->column); break;
-    case HED_KIND_RESIZE: tell("Resize(%u, %u, %u, %u)", event->rows, event->columns, event->height, event->width); break;
+    case HED_KIND_RESIZED: tell("Resized(%u, %u, %u, %u)", event->rows, event->columns, event->height, event->width); break;
     case HED_KIND_KEYBOARD_FLAGS: tell("KeyboardFlags(%u)", event->flags); break;
     case HED_KIND_CSI: tell_bytes("Csi", text, len); break;
     case HED_KIND_STRING_PART: tell_string("Part of ", event->string_kind, text, len); break;

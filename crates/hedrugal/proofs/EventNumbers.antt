@@ -2,7 +2,7 @@
 use Rattle.std.proofs.Common.{◌≡◌, ℕ, List, Option, Some, None}
 use Rattle.std.specs.Prelude.{IfNone}
 use Rattle.termwiz_extended_events.specs.declared.types.Event.{Event}
-use Rattle.termwiz_extended_events.specs.declared.types.Event.TheVariants.{Key, Mouse, Paste, FocusGained, FocusLost, CursorPosition, Resize, KeyboardFlags, Csi, Osc, Dcs, Apc, StringPart, StringCut}
+use Rattle.termwiz_extended_events.specs.declared.types.Event.TheVariants.{Key, Mouse, Paste, FocusGained, FocusLost, CursorPosition, Resized, KeyboardFlags, Csi, Osc, Dcs, Apc, StringPart, StringCut}
 use Rattle.termwiz_extended_events.specs.declared.types.MouseReport.{MouseReport}
 use Rattle.hedrugal.specs.declared.events.CEvent.{CEvent}
 use Rattle.hedrugal.specs.EventCalls.{StandForEvent, TellsMouse}
@@ -21,7 +21,7 @@ mouse_only n bytes is none (Key report) stands = cc (is, stands.0)
 mouse_only n bytes is none FocusGained stands = cc (is, stands.0)
 mouse_only n bytes is none FocusLost stands = cc (is, stands.0)
 mouse_only n bytes is none (CursorPosition row column) stands = cc (is, stands.0)
-mouse_only n bytes is none (Resize r c h w) stands = cc (is, stands.0)
+mouse_only n bytes is none (Resized r c h w) stands = cc (is, stands.0)
 mouse_only n bytes is none (KeyboardFlags flags) stands = cc (is, stands.0)
 mouse_only n bytes is none (Csi t) stands = cc (is, stands.0)
 mouse_only n bytes is none (Osc t) stands = cc (is, stands.0)

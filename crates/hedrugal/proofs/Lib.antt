@@ -5,6 +5,8 @@ pub mod Lending
 pub mod RawBoxValues
 pub mod Pressed
 pub mod PressNumbers
+pub mod QuestionLists
+pub mod QuestionSteps
 pub mod OwnedPointerValues
 pub mod TimerNumbers
 pub mod Walks

@@ -3,7 +3,7 @@ use Rattle.std.proofs.Common.{◌≡◌, ◌∙◌, ℕ, ◌+◌, ◌-◌, ◌<�
 use Rattle.std.specs.List.{slice_set}
 use Rattle.std.proofs.lemmas.List.{append-nil, append_assoc, drop_all, drop_at, length-append, length-drop, take-append-drop, take_all, take_at}
 use borrow.Rule.Slice.PartMut.{mid_of, put_mid}
-use Rattle.termwiz_extended_events.specs.declared.types.Event.TheVariants.{Key, Mouse, Paste, FocusGained, FocusLost, CursorPosition, Resize, KeyboardFlags, Csi, Osc, Dcs, Apc, StringPart, StringCut}
+use Rattle.termwiz_extended_events.specs.declared.types.Event.TheVariants.{Key, Mouse, Paste, FocusGained, FocusLost, CursorPosition, Resized, KeyboardFlags, Csi, Osc, Dcs, Apc, StringPart, StringCut}
 use Rattle.termwiz_timed.specs.declared.parser.TimedEvent.{TimedEvent}
 use Rattle.termwiz_timed.specs.declared.parser.TimedEvent.TheVariants.{Whole, PastePart}
 use Rattle.termwiz_timed.specs.Steps.{Step}
@@ -31,7 +31,7 @@ told_len (Whole (Key report)) = refl
 told_len (Whole FocusGained) = refl
 told_len (Whole FocusLost) = refl
 told_len (Whole (CursorPosition row column)) = refl
-told_len (Whole (Resize rows columns height width)) = refl
+told_len (Whole (Resized rows columns height width)) = refl
 told_len (Whole (KeyboardFlags flags)) = refl
 told_len (Whole (Csi bytes)) = refl
 told_len (Whole (Osc bytes)) = refl

@@ -1,7 +1,7 @@
 -- Which event the numbers and the bytes of one stand for, and what it is written as; and what a terminal replies.
 use Rattle.std.specs.Prelude.{◌≡◌, ℕ, List, length, Option, Some, unwrap_or}
 use Rattle.termwiz_extended_events.specs.declared.types.Event.{Event}
-use Rattle.termwiz_extended_events.specs.declared.types.Event.TheVariants.{Key, Mouse, Paste, FocusGained, FocusLost, CursorPosition, Resize, KeyboardFlags, Csi, Osc, Dcs, Apc, StringPart, StringCut}
+use Rattle.termwiz_extended_events.specs.declared.types.Event.TheVariants.{Key, Mouse, Paste, FocusGained, FocusLost, CursorPosition, Resized, KeyboardFlags, Csi, Osc, Dcs, Apc, StringPart, StringCut}
 use Rattle.termwiz_extended_events.specs.declared.types.Reading.{Reading}
 use Rattle.termwiz_senders.specs.EventTexts.{IsEventText, IsRefused, IsTooLong}
 use Rattle.termwiz_extended_events.specs.declared.types.MouseReport.{MouseReport}
@@ -26,7 +26,7 @@ Tells n bytes (Paste text) = text ≡ bytes
 Tells n bytes FocusGained = Unit {0}
 Tells n bytes FocusLost = Unit {0}
 Tells n bytes (CursorPosition row column) = (row ≡ n.row) × (column ≡ n.column)
-Tells n bytes (Resize rows columns height width) =
+Tells n bytes (Resized rows columns height width) =
     (rows ≡ n.rows) × (columns ≡ n.columns) × (height ≡ n.height) × (width ≡ n.width)
 Tells n bytes (KeyboardFlags flags) = flags ≡ n.flags
 Tells n bytes (Csi t) = t ≡ bytes

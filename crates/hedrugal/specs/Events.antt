@@ -1,7 +1,7 @@
 -- Events, and how a parser reads, as C has them.
 use Rattle.std.specs.Prelude.{ℕ, List, [], length, Option, Some, None, unwrap_or}
 use Rattle.termwiz_extended_events.specs.declared.types.Event.{Event}
-use Rattle.termwiz_extended_events.specs.declared.types.Event.TheVariants.{Key, Mouse, Paste, FocusGained, FocusLost, CursorPosition, Resize, KeyboardFlags, Csi, Osc, Dcs, Apc, StringPart, StringCut}
+use Rattle.termwiz_extended_events.specs.declared.types.Event.TheVariants.{Key, Mouse, Paste, FocusGained, FocusLost, CursorPosition, Resized, KeyboardFlags, Csi, Osc, Dcs, Apc, StringPart, StringCut}
 use Rattle.termwiz_extended_events.specs.declared.types.KeyEventKind.{KeyEventKind}
 use Rattle.termwiz_extended_events.specs.declared.types.KeyEventKind.TheVariants.{Press, Repeat, Release}
 use Rattle.termwiz_extended_events.specs.declared.types.KeyReport.{KeyReport}
@@ -79,7 +79,7 @@ kind_number (Paste text) = 3
 kind_number FocusGained = 5
 kind_number FocusLost = 6
 kind_number (CursorPosition row column) = 7
-kind_number (Resize rows columns height width) = 8
+kind_number (Resized rows columns height width) = 8
 kind_number (KeyboardFlags flags) = 9
 kind_number (Csi bytes) = 10
 kind_number (Osc bytes) = 11
@@ -151,7 +151,7 @@ abbrev pub with_own : Event → CEvent → CEvent
 with_own (Key report) shown = c_key report shown
 with_own (Mouse report) shown = c_mouse report shown
 with_own (CursorPosition row column) shown = record shown { row = row; column = column }
-with_own (Resize rows columns height width) shown =
+with_own (Resized rows columns height width) shown =
     record shown { rows = rows; columns = columns; height = height; width = width }
 with_own (KeyboardFlags flags) shown = record shown { flags = flags }
 with_own (StringPart kind bytes) shown = record shown { string_kind = string_kind_number kind }

@@ -16,6 +16,8 @@ pub mod NameCalls
 pub mod Owned
 pub mod PressCalls
 pub mod Presses
+pub mod QuestionCalls
+pub mod Questions
 pub mod ReadingCalls
 pub mod Replies
 pub mod SenderCalls

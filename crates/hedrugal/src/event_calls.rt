@@ -13,7 +13,7 @@ ghost use Rattle.hedrugal.specs.declared.event_calls.BadEvent.TheVariants as bad
 use crate::copying::copy_prefix;
 use crate::events::{
     CEvent, KIND_APC, KIND_CSI, KIND_CURSOR_POSITION, KIND_DCS, KIND_FOCUS_GAINED, KIND_FOCUS_LOST,
-    KIND_KEY, KIND_KEYBOARD_FLAGS, KIND_MOUSE, KIND_OSC, KIND_PASTE, KIND_RESIZE, KIND_STRING_CUT,
+    KIND_KEY, KIND_KEYBOARD_FLAGS, KIND_MOUSE, KIND_OSC, KIND_PASTE, KIND_RESIZED, KIND_STRING_CUT,
     KIND_STRING_PART, MOUSE_KIND_DRAG, MOUSE_KIND_MOVE, MOUSE_KIND_PRESS, MOUSE_KIND_RELEASE,
     MOUSE_KIND_WHEEL,
 };
@@ -153,7 +153,7 @@ fn event_in(alloc: Global, numbers: &CEvent, bytes: &[u8]) -> Result<Event, BadE
             row: numbers.row,
             column: numbers.column,
         },
-        KIND_RESIZE => Event::Resize {
+        KIND_RESIZED => Event::Resized {
             rows: numbers.rows,
             columns: numbers.columns,
             height: numbers.height,

@@ -24,7 +24,7 @@ pub(crate) const KIND_FOCUS_LOST: u8 = 6;
 
 pub(crate) const KIND_CURSOR_POSITION: u8 = 7;
 
-pub(crate) const KIND_RESIZE: u8 = 8;
+pub(crate) const KIND_RESIZED: u8 = 8;
 
 pub(crate) const KIND_KEYBOARD_FLAGS: u8 = 9;
 
@@ -260,13 +260,13 @@ pub(crate) fn show(event: &Event, shown: &mut CEvent)
             shown.row = *row;
             shown.column = *column;
         }
-        Event::Resize {
+        Event::Resized {
             rows,
             columns,
             height,
             width,
         } => {
-            shown.kind = KIND_RESIZE;
+            shown.kind = KIND_RESIZED;
             shown.rows = *rows;
             shown.columns = *columns;
             shown.height = *height;

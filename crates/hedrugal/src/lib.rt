@@ -35,6 +35,8 @@ mod parser_and_text;
 mod parser_calls;
 mod policy;
 mod press_calls;
+mod question_calls;
+mod questions;
 mod raw_box;
 mod reading_calls;
 mod replies;

@@ -4,7 +4,7 @@ use Rattle.std.specs.Str.{IsUtf8}
 use Rattle.std.specs.List.{AllByRecursion}
 use Rattle.termwiz_keys.specs.Introducers.{ESC, CSI, SS3}
 use Rattle.termwiz_extended_events.specs.declared.types.Event.{Event}
-use Rattle.termwiz_extended_events.specs.declared.types.Event.TheVariants.{Key, Mouse, Paste, CursorPosition, Resize, KeyboardFlags, Csi, StringPart, StringCut}
+use Rattle.termwiz_extended_events.specs.declared.types.Event.TheVariants.{Key, Mouse, Paste, CursorPosition, Resized, KeyboardFlags, Csi, StringPart, StringCut}
 use Rattle.termwiz_extended_events.specs.declared.types.Reading.{Reading}
 use Rattle.termwiz_extended_grammar.specs.ExtendedGrammar.{Means, Stands}
 use Rattle.termwiz_extended_grammar.specs.Readings.{ReadsMore}
@@ -22,7 +22,7 @@ IsTyped (Key r) = IsReport r
 IsTyped (Mouse e) = IsWord e.x × IsWord e.y
 IsTyped (Paste text) = IsUtf8 text
 IsTyped (CursorPosition row column) = IsWord row × IsWord column
-IsTyped (Resize rows columns height width) = IsWord rows × IsWord columns × IsWord height × IsWord width
+IsTyped (Resized rows columns height width) = IsWord rows × IsWord columns × IsWord height × IsWord width
 IsTyped (KeyboardFlags flags) = flags < 2 ^ 8
 IsTyped event = ⊤
 

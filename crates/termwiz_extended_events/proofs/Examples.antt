@@ -12,7 +12,7 @@ use Rattle.termwiz_extended_events.specs.declared.types.ReportedKey.TheVariants.
 use Rattle.termwiz_extended_events.specs.declared.types.MouseKind.{MouseKind}
 use Rattle.termwiz_extended_events.specs.declared.types.MouseKind.TheVariants.{Press as Down, Drag, Release as Up}
 use Rattle.termwiz_extended_events.specs.declared.types.Event.{Event}
-use Rattle.termwiz_extended_events.specs.declared.types.Event.TheVariants.{Key, Mouse, FocusGained, FocusLost, CursorPosition, Resize, KeyboardFlags, Csi, Osc, Dcs, Apc}
+use Rattle.termwiz_extended_events.specs.declared.types.Event.TheVariants.{Key, Mouse, FocusGained, FocusLost, CursorPosition, Resized, KeyboardFlags, Csi, Osc, Dcs, Apc}
 use Rattle.termwiz_extended_events.specs.Numbers.{before_end, after_start, number_within, scalar}
 use Rattle.termwiz_extended_events.specs.ReportedKeys.{functional_key, key_of, tilde_key, rxvt_key_at}
 use Rattle.termwiz_extended_events.specs.KeyReports as reports
@@ -179,7 +179,7 @@ flags : event_of false (27 ∷ codes "[?5u") ≡ KeyboardFlags 5
 unfolding written_out
 flags = refl
 
-size : event_of false (27 ∷ codes "[48;24;80;480;800t") ≡ Resize 24 80 480 800
+size : event_of false (27 ∷ codes "[48;24;80;480;800t") ≡ Resized 24 80 480 800
 unfolding written_out
 size = refl
 

@@ -2,7 +2,7 @@
 use Rattle.std.specs.Prelude.{◌≡◌, ◌≢◌, ℕ, ◌==◌, Bool, List, [], ◌∷◌, Option, Some, None, if◌then◌else◌, option_map, unwrap_or}
 use Rattle.termwiz_extended_events.specs.declared.types.KeyReport.{KeyReport}
 use Rattle.termwiz_extended_events.specs.declared.types.Event.{Event}
-use Rattle.termwiz_extended_events.specs.declared.types.Event.TheVariants.{Csi, Osc, Dcs, Apc, Key, Mouse, Paste, FocusGained, FocusLost, CursorPosition, Resize, KeyboardFlags, StringPart, StringCut}
+use Rattle.termwiz_extended_events.specs.declared.types.Event.TheVariants.{Csi, Osc, Dcs, Apc, Key, Mouse, Paste, FocusGained, FocusLost, CursorPosition, Resized, KeyboardFlags, StringPart, StringCut}
 use Rattle.termwiz_extended_events.specs.declared.types.StringKind.{StringKind}
 use Rattle.termwiz_extended_events.specs.declared.types.StringKind.TheVariants as kinds
 use Rattle.termwiz_extended_events.specs.declared.meanings.Meaning.{Meaning}
@@ -95,7 +95,7 @@ abbrev pub event_from : Meaning → Option Event
 event_from meaning.FocusGained = Some FocusGained
 event_from meaning.FocusLost = Some FocusLost
 event_from (meaning.CursorPosition row column) = Some (CursorPosition row column)
-event_from (meaning.Resize rows columns height width) = Some (Resize rows columns height width)
+event_from (meaning.Resized rows columns height width) = Some (Resized rows columns height width)
 event_from (meaning.KeyboardFlags flags) = Some (KeyboardFlags flags)
 event_from (meaning.Mouse report) = Some (Mouse report)
 event_from (meaning.Key report) = option_map Key (spelled_report report)

@@ -5,7 +5,7 @@ use Rattle.termwiz_extended_events.specs.declared.types.MouseReport.{MouseReport
 use Rattle.termwiz_extended_events.specs.declared.types.MouseKind.{MouseKind}
 use Rattle.termwiz_extended_events.specs.declared.types.MouseKind.TheVariants.{Press, Release, Drag}
 use Rattle.termwiz_extended_events.specs.MouseReports.{byte_report, side_report}
-use Rattle.termwiz_extended_events.specs.declared.types.Event.TheVariants.{FocusGained, FocusLost, CursorPosition, KeyboardFlags, Resize}
+use Rattle.termwiz_extended_events.specs.declared.types.Event.TheVariants.{FocusGained, FocusLost, CursorPosition, KeyboardFlags, Resized}
 use Rattle.termwiz_extended_events.specs.Numbers.{fields, before_end, after_start, number_within, few_digits, first_some, place_number, short_number}
 
 -- I or O: the window gained the focus, or lost it
@@ -49,7 +49,7 @@ keyboard_flags t = option_map KeyboardFlags (option_and_then (number_within few_
 
 -- the size of four numbers, if all are there
 abbrev pub size_at : Option ℕ → Option ℕ → Option ℕ → Option ℕ → Option Event
-size_at (Some rows) (Some columns) (Some height) (Some width) = Some (Resize rows columns height width)
+size_at (Some rows) (Some columns) (Some height) (Some width) = Some (Resized rows columns height width)
 size_at _ _ _ _ = None
 
 -- rows ; columns ; height ; width

@@ -38,7 +38,7 @@ pub enum Meaning<'t> {
         column: u16,
     },
     /// The terminal has a new size.
-    Resize {
+    Resized {
         /// The number of rows.
         rows: u16,
         /// The number of columns.
@@ -127,12 +127,12 @@ impl<'t> Meaning<'t> {
             Meaning::FocusGained => Ok(Event::FocusGained),
             Meaning::FocusLost => Ok(Event::FocusLost),
             Meaning::CursorPosition { row, column } => { Ok(Event::CursorPosition { row, column }) }
-            Meaning::Resize {
+            Meaning::Resized {
                 rows,
                 columns,
                 height,
                 width,
-            } => Ok(Event::Resize {
+            } => Ok(Event::Resized {
                 rows,
                 columns,
                 height,

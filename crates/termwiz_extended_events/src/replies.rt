@@ -93,7 +93,7 @@ fn size(mut fields: Fields) -> Option<Meaning<'static>>
     let width = short_number(fields.next()?)?;
     match fields.next() {
         Some(_) => None,
-        None => Some(Meaning::Resize {
+        None => Some(Meaning::Resized {
             rows,
             columns,
             height,

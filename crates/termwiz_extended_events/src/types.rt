@@ -320,7 +320,7 @@ pub enum Event {
         column: u16,
     },
     /// The terminal has a new size (mode 2048).
-    Resize {
+    Resized {
         /// The number of rows.
         rows: u16,
         /// The number of columns.

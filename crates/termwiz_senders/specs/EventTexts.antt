@@ -10,7 +10,7 @@ use Rattle.termwiz_keys.specs.Introducers.{CSI, END}
 use Rattle.termwiz_keys.specs.Keys.{SHIFT, ALT, CTRL}
 use Rattle.termwiz_laws.specs.PasteEvents.{pasted}
 use Rattle.termwiz_extended_events.specs.declared.types.Event.{Event}
-use Rattle.termwiz_extended_events.specs.declared.types.Event.TheVariants.{Key, Mouse, Paste, FocusGained, FocusLost, CursorPosition, Resize, KeyboardFlags, Csi, Osc, Dcs, Apc, StringPart, StringCut}
+use Rattle.termwiz_extended_events.specs.declared.types.Event.TheVariants.{Key, Mouse, Paste, FocusGained, FocusLost, CursorPosition, Resized, KeyboardFlags, Csi, Osc, Dcs, Apc, StringPart, StringCut}
 use Rattle.termwiz_extended_events.specs.declared.types.Reading.{Reading}
 use Rattle.termwiz_extended_events.specs.declared.types.MouseReport.{MouseReport}
 use Rattle.termwiz_extended_events.specs.declared.types.MouseKind.{MouseKind}
@@ -149,7 +149,7 @@ abbrev pub IsReply : Event → Type 0
 IsReply FocusGained = Unit {0}
 IsReply FocusLost = Unit {0}
 IsReply (CursorPosition row column) = Unit {0}
-IsReply (Resize rows columns height width) = Unit {0}
+IsReply (Resized rows columns height width) = Unit {0}
 IsReply (KeyboardFlags flags) = Unit {0}
 IsReply event = ⊥
 
@@ -162,7 +162,7 @@ IsEventText reading FocusGained bytes = ReadsMore reading × (bytes ≡ CSI ++ c
 IsEventText reading FocusLost bytes = ReadsMore reading × (bytes ≡ CSI ++ codes "O")
 IsEventText reading (CursorPosition row column) bytes =
     ReadsMore reading × (0 < row) × (0 < column) × (bytes ≡ position_text row column true)
-IsEventText reading (Resize rows columns height width) bytes = ReadsMore reading × (bytes ≡ size_text rows columns height width)
+IsEventText reading (Resized rows columns height width) bytes = ReadsMore reading × (bytes ≡ size_text rows columns height width)
 IsEventText reading (KeyboardFlags flags) bytes = ReadsMore reading × (bytes ≡ flags_text flags)
 IsEventText reading (Csi t) bytes = IsItself reading (Csi t) (CSI ++ t) bytes
 IsEventText reading (Osc t) bytes = IsItself reading (Osc t) (string_sent kinds.Osc t) bytes

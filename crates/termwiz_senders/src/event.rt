@@ -96,7 +96,7 @@ pub fn encode_event(
         Event::FocusGained
         | Event::FocusLost
         | Event::CursorPosition { .. }
-        | Event::Resize { .. }
+        | Event::Resized { .. }
         | Event::KeyboardFlags(_) => reply_text(alloc, event, parser.reading()),
     }
 }
@@ -116,7 +116,7 @@ fn reply_text(alloc: Global, event: &Event, reading: Reading) -> Result<Vec<u8>,
         Event::FocusGained => Ok(b"\x1b[I".to_vec(alloc)?),
         Event::FocusLost => Ok(b"\x1b[O".to_vec(alloc)?),
         Event::CursorPosition { row, column } => { found(told_position(alloc, *row, *column)?) }
-        Event::Resize {
+        Event::Resized {
             rows,
             columns,
             height,

@@ -10,7 +10,7 @@ use Rattle.termwiz_keys.specs.declared.types.InputEvent.TheVariants as input
 use Rattle.termwiz_grammar.specs.Grammar as port
 use Rattle.termwiz_laws.proofs.lemmas.further_keys.SingleKey.{single}
 use Rattle.termwiz_extended_events.specs.declared.types.Event.{Event}
-use Rattle.termwiz_extended_events.specs.declared.types.Event.TheVariants.{Key, Mouse, Paste, FocusGained, FocusLost, CursorPosition, Resize, KeyboardFlags, Csi, Osc, Dcs, Apc, StringPart, StringCut}
+use Rattle.termwiz_extended_events.specs.declared.types.Event.TheVariants.{Key, Mouse, Paste, FocusGained, FocusLost, CursorPosition, Resized, KeyboardFlags, Csi, Osc, Dcs, Apc, StringPart, StringCut}
 use Rattle.termwiz_extended_events.specs.declared.types.Dialect.{Dialect}
 use Rattle.termwiz_extended_events.specs.declared.types.Dialect.TheVariants.{Extended, Termwiz}
 use Rattle.termwiz_extended_events.specs.declared.types.Reading.{Reading}
@@ -88,7 +88,7 @@ reported (Mouse report) p h k = absurd h
 reported (Paste text) p h k = absurd h
 reported FocusGained p h k = absurd h
 reported FocusLost p h k = absurd h
-reported (Resize a b c d) p h k = absurd h
+reported (Resized a b c d) p h k = absurd h
 reported (KeyboardFlags flags) p h k = absurd h
 reported (Csi bytes) p h k = absurd h
 reported (Osc bytes) p h k = absurd h
@@ -109,7 +109,7 @@ joined (Mouse report) p h k = absurd h
 joined (Paste text) p h k = absurd h
 joined FocusGained p h k = absurd h
 joined FocusLost p h k = absurd h
-joined (Resize a b c d) p h k = absurd h
+joined (Resized a b c d) p h k = absurd h
 joined (KeyboardFlags flags) p h k = absurd h
 joined (Csi bytes) p h k = absurd h
 joined (Osc bytes) p h k = absurd h
@@ -194,7 +194,7 @@ key_is FocusGained is = absurd (cc (is))
 key_is FocusLost is = absurd (cc (is))
 key_is (Mouse report) is = absurd (cc (is))
 key_is (Paste text) is = absurd (cc (is))
-key_is (Resize a b c d) is = absurd (cc (is))
+key_is (Resized a b c d) is = absurd (cc (is))
 key_is (KeyboardFlags flags) is = absurd (cc (is))
 key_is (Csi bytes) is = absurd (cc (is))
 key_is (Osc bytes) is = absurd (cc (is))

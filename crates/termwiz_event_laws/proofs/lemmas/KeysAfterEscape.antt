@@ -39,7 +39,7 @@ use Rattle.termwiz_laws.proofs.lemmas.first_bytes.EncodedBytes.{IsSeveral, encod
 use Rattle.termwiz_extended_events.specs.declared.types.Dialect.{Dialect}
 use Rattle.termwiz_extended_events.specs.declared.types.Dialect.TheVariants.{Extended, Termwiz}
 use Rattle.termwiz_extended_events.specs.declared.types.Event.{Event}
-use Rattle.termwiz_extended_events.specs.declared.types.Event.TheVariants.{Key as KeyOf, Mouse as MouseOf, Paste as PasteOf, FocusGained, FocusLost, CursorPosition, Resize, KeyboardFlags, Csi, Osc, Dcs, Apc, StringPart, StringCut}
+use Rattle.termwiz_extended_events.specs.declared.types.Event.TheVariants.{Key as KeyOf, Mouse as MouseOf, Paste as PasteOf, FocusGained, FocusLost, CursorPosition, Resized, KeyboardFlags, Csi, Osc, Dcs, Apc, StringPart, StringCut}
 use Rattle.termwiz_extended_events.specs.declared.types.KeyEventKind.TheVariants.{Press}
 use Rattle.termwiz_extended_events.specs.declared.types.KeyReport.{KeyReport}
 use Rattle.termwiz_extended_events.specs.declared.types.Reading.{Reading}
@@ -193,7 +193,7 @@ alt_held (PasteOf t) r e = absurd (cc (e))
 alt_held FocusGained r e = absurd (cc (e))
 alt_held FocusLost r e = absurd (cc (e))
 alt_held (CursorPosition row column) r e = absurd (cc (e))
-alt_held (Resize a b c d) r e = absurd (cc (e))
+alt_held (Resized a b c d) r e = absurd (cc (e))
 alt_held (KeyboardFlags f) r e = absurd (cc (e))
 alt_held (Csi t) r e = absurd (cc (e))
 alt_held (Osc t) r e = absurd (cc (e))

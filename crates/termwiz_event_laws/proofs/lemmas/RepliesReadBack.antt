@@ -8,7 +8,7 @@ use Rattle.termwiz_grammar.specs.MouseReports.{value_of}
 use Rattle.termwiz_keys.specs.declared.types.KeyCode.TheVariants.{Function}
 use Rattle.termwiz_keys.specs.Introducers.{CSI}
 use Rattle.termwiz_extended_events.specs.declared.types.Event.{Event}
-use Rattle.termwiz_extended_events.specs.declared.types.Event.TheVariants.{Key, FocusGained, FocusLost, CursorPosition, Resize, KeyboardFlags}
+use Rattle.termwiz_extended_events.specs.declared.types.Event.TheVariants.{Key, FocusGained, FocusLost, CursorPosition, Resized, KeyboardFlags}
 use Rattle.termwiz_extended_events.specs.declared.types.KeyEventKind.TheVariants.{Press}
 use Rattle.termwiz_extended_events.specs.declared.types.KeyReport.{KeyReport}
 use Rattle.termwiz_extended_events.specs.declared.types.Manner.{Manner}
@@ -298,26 +298,26 @@ module _ (rows columns height width : ℕ) (a : rows < 2 ^ 16) (b : columns < 2 
   size_short : length size_body ≤ 26
   size_short = omega (arith, followed_short _ width 17 d (followed_short _ height 11 c (followed_short (decimal rows) columns 5 b (word_short rows a))))
 
-  size_back : size_of_fields (fields sizes) ≡ Some (Resize rows columns height width)
+  size_back : size_of_fields (fields sizes) ≡ Some (Resized rows columns height width)
   size_back = rw (four_fields rows columns height width a b c d, word_back rows a, word_back columns b, word_back height c, word_back width d) refl
 
-  resize_back : resize (size_body ++ 116 ∷ []) ≡ Some (Resize rows columns height width)
+  resize_back : resize (size_body ++ 116 ∷ []) ≡ Some (Resized rows columns height width)
   unfolding resize
   resize_back = rw (before_end_here size_body 116) size_back
 
-  size_is : (reading : Reading) → event_in reading (written size_body 116) ≡ Resize rows columns height width
+  size_is : (reading : Reading) → event_in reading (written size_body 116) ≡ Resized rows columns height width
   unfolding reply
   size_is reading =
-      event_by_reply (is_asking reading) (size_body ++ 116 ∷ []) (Resize rows columns height width)
+      event_by_reply (is_asking reading) (size_body ++ 116 ∷ []) (Resized rows columns height width)
       (no_focus size_body 116 (λ e. omega arith) (λ e. omega arith))
       (no_key size_body 116 (no_character size_body 116 (λ e. omega arith)) (λ e. omega arith) refl)
       (unasked_none (is_asking reading) (size_body ++ 116 ∷ []) (no_third size_body 116 (λ e. omega arith)))
       (rw (no_cursor size_body 116 (λ e. omega arith), no_flags size_body 116 (λ e. omega arith), resize_back) refl)
 
-  pub size_read_back : (reading : Reading) → ReadsMore reading → IsReadAtOnce reading (Resize rows columns height width) (size_text rows columns height width)
+  pub size_read_back : (reading : Reading) → ReadsMore reading → IsReadAtOnce reading (Resized rows columns height width) (size_text rows columns height width)
   unfolding size_text
   size_read_back reading reads more =
-      control_means reading size_body 116 (Resize rows columns height width) more reads size_parameters (omega arith, omega arith)
+      control_means reading size_body 116 (Resized rows columns height width) more reads size_parameters (omega arith, omega arith)
       (clear_from size_body 116 (omega arith)) (omega (arith, length_written size_body 116, size_short))
       (no_report_end size_body 116 refl (λ t e. (let same : ◌≡◌ {A = ℕ} 52 60 = cc (e) in omega arith))) (size_is reading)
 

@@ -5,7 +5,7 @@ use Rattle.std.proofs.lemmas.Option.{option_and_then_some}
 use Rattle.termwiz_extended_events.specs.declared.types.MouseReport.{MouseReport}
 use Rattle.termwiz_extended_events.specs.declared.types.KeyReport.{KeyReport}
 use Rattle.termwiz_extended_events.specs.declared.types.Event.{Event}
-use Rattle.termwiz_extended_events.specs.declared.types.Event.TheVariants.{Key, Mouse, FocusGained, FocusLost, CursorPosition, Resize, KeyboardFlags, Csi}
+use Rattle.termwiz_extended_events.specs.declared.types.Event.TheVariants.{Key, Mouse, FocusGained, FocusLost, CursorPosition, Resized, KeyboardFlags, Csi}
 use Rattle.termwiz_extended_events.specs.Numbers.{fields, before_end, after_start, place_number, short_number}
 use Rattle.termwiz_extended_events.specs.KeyReports.{key_report, third_function_key, rxvt_key, console_key, further_key}
 use Rattle.termwiz_extended_events.specs.Replies.{focus, position_at, position_on, position_of_fields, marked_position_of_fields, position_of, cursor_position, keyboard_flags, size_at, size_of_fields, numbered_size, resize, reply, mouse_report, side_button}
@@ -19,7 +19,7 @@ IsReply FocusGained = ⊤
 IsReply FocusLost = ⊤
 IsReply (CursorPosition row column) = (0 < row) × (0 < column)
 IsReply (KeyboardFlags flags) = ⊤
-IsReply (Resize rows columns height width) = ⊤
+IsReply (Resized rows columns height width) = ⊤
 IsReply event = ⊥
 
 -- the rule that gives a key after ESC [
@@ -98,7 +98,7 @@ flags_told s e is = (let h = map_some KeyboardFlags _ e is in subst IsReply h.2 
 
 size_told : (rows columns height width : Option ℕ) (e : Event) → size_at rows columns height width ≡ Some e → IsReply e
 size_told (Some rows) (Some columns) (Some height) (Some width) e is =
-    subst IsReply (let same : Resize rows columns height width ≡ e = cc (is) in same) tt
+    subst IsReply (let same : Resized rows columns height width ≡ e = cc (is) in same) tt
 size_told None columns height width e is = absurd (cc (is))
 size_told (Some rows) None height width e is = absurd (cc (is))
 size_told (Some rows) (Some columns) None width e is = absurd (cc (is))

@@ -10,7 +10,7 @@ use Rattle.termwiz_grammar.specs.Grammar.Item.{key, char, broken, mouse, paste, 
 use Rattle.termwiz_grammar.specs.Sequences.{IsSequence}
 use Rattle.termwiz_laws.specs.PasteEvents.{pasted}
 use Rattle.termwiz_extended_events.specs.declared.types.Event.{Event}
-use Rattle.termwiz_extended_events.specs.declared.types.Event.TheVariants.{Key, Mouse, Paste, FocusGained, FocusLost, CursorPosition, Resize, KeyboardFlags, Csi, Osc, Dcs, Apc, StringPart, StringCut}
+use Rattle.termwiz_extended_events.specs.declared.types.Event.TheVariants.{Key, Mouse, Paste, FocusGained, FocusLost, CursorPosition, Resized, KeyboardFlags, Csi, Osc, Dcs, Apc, StringPart, StringCut}
 use Rattle.termwiz_extended_events.specs.declared.types.KeyReport.{KeyReport}
 use Rattle.termwiz_extended_events.specs.declared.types.MouseReport.{MouseReport}
 use Rattle.termwiz_extended_events.specs.declared.types.Reading.{Reading}
@@ -66,8 +66,8 @@ read_back reading FocusGained bytes more values is closed = at_same reading Focu
 read_back reading FocusLost bytes more values is closed = at_same reading FocusLost _ bytes more is.1 (focus_lost reading is.0)
 read_back reading (CursorPosition row column) bytes more values is closed =
     at_same reading (CursorPosition row column) _ bytes more is.3 (private_position row column (is.1, values.0) (is.2, values.1) reading is.0)
-read_back reading (Resize rows columns height width) bytes more values is closed =
-    at_same reading (Resize rows columns height width) _ bytes more is.1
+read_back reading (Resized rows columns height width) bytes more values is closed =
+    at_same reading (Resized rows columns height width) _ bytes more is.1
     (size_read_back rows columns height width values.0 values.1 values.2 values.3 reading is.0)
 read_back reading (KeyboardFlags flags) bytes more values is closed =
     at_same reading (KeyboardFlags flags) _ bytes more is.1 (flags_read_back flags values reading is.0)
@@ -110,7 +110,7 @@ module _ (reading : Reading) where
   reply_written FocusLost reads h = (CSI ++ codes "O", (reads, refl))
   reply_written (CursorPosition row column) reads h = (position_text row column true, (reads, h.0, h.1, refl))
   reply_written (KeyboardFlags flags) reads h = (flags_text flags, (reads, refl))
-  reply_written (Resize rows columns height width) reads h = (size_text rows columns height width, (reads, refl))
+  reply_written (Resized rows columns height width) reads h = (size_text rows columns height width, (reads, refl))
   reply_written e reads h = absurd h
 
   told_not_refused : (s : List ℕ) (e : Event) → ReadsMore reading → Told s e → Emits reading e → ¬ IsRefused reading e

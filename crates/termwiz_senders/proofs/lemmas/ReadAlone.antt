@@ -9,7 +9,7 @@ use Rattle.termwiz_keys.specs.Introducers.{ESC, CSI, START, END}
 use Rattle.termwiz_input.specs.KeyPlaces.{IsNextPlaceOf}
 use Rattle.termwiz_input.proofs.lemmas.pastes.EndSearch.{endless, paste_to}
 use Rattle.termwiz_extended_events.specs.declared.types.Event.{Event}
-use Rattle.termwiz_extended_events.specs.declared.types.Event.TheVariants.{Key, Mouse, Paste, FocusGained, FocusLost, CursorPosition, Resize, KeyboardFlags, Csi, Osc, Dcs, Apc, StringPart, StringCut}
+use Rattle.termwiz_extended_events.specs.declared.types.Event.TheVariants.{Key, Mouse, Paste, FocusGained, FocusLost, CursorPosition, Resized, KeyboardFlags, Csi, Osc, Dcs, Apc, StringPart, StringCut}
 use Rattle.termwiz_extended_events.specs.declared.types.KeyReport.{KeyReport}
 use Rattle.termwiz_extended_events.specs.declared.types.MouseReport.{MouseReport}
 use Rattle.termwiz_extended_events.specs.declared.types.StringKind.{StringKind}
@@ -157,7 +157,7 @@ own_text reading (Key r) text bytes e = cc (e)
 own_text reading FocusGained text bytes e = cc (e)
 own_text reading FocusLost text bytes e = cc (e)
 own_text reading (CursorPosition row column) text bytes e = cc (e)
-own_text reading (Resize r c h w) text bytes e = cc (e)
+own_text reading (Resized r c h w) text bytes e = cc (e)
 own_text reading (KeyboardFlags flags) text bytes e = cc (e)
 own_text reading (StringPart kind t) text bytes e = cc (e)
 own_text reading (StringCut kind t) text bytes e = cc (e)

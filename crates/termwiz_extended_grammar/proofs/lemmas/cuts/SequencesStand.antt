@@ -15,7 +15,7 @@ use Rattle.termwiz_grammar.proofs.lemmas.table.SequenceFacts.{escape_is_sequence
 use Rattle.termwiz_grammar.proofs.lemmas.items.OneHead.{longest_whole}
 use Rattle.termwiz_grammar.proofs.lemmas.items.OneItem.{item_once}
 use Rattle.termwiz_extended_events.specs.declared.types.Event.{Event}
-use Rattle.termwiz_extended_events.specs.declared.types.Event.TheVariants.{Mouse, Paste, FocusGained, FocusLost, CursorPosition, Resize, KeyboardFlags, Csi, Osc, Dcs, Apc, StringPart, StringCut}
+use Rattle.termwiz_extended_events.specs.declared.types.Event.TheVariants.{Mouse, Paste, FocusGained, FocusLost, CursorPosition, Resized, KeyboardFlags, Csi, Osc, Dcs, Apc, StringPart, StringCut}
 use Rattle.termwiz_extended_events.specs.declared.types.Event.TheVariants.{Key as KeyReported}
 use Rattle.termwiz_extended_events.specs.Meanings.{IsKey as IsKeyEvent}
 use Rattle.termwiz_extended_events.specs.declared.types.Reading.{Reading}
@@ -214,7 +214,7 @@ alt_leaves reading (Paste text) is = absurd is
 alt_leaves reading FocusGained is = absurd is
 alt_leaves reading FocusLost is = absurd is
 alt_leaves reading (CursorPosition row column) is = absurd is
-alt_leaves reading (Resize r c h w) is = absurd is
+alt_leaves reading (Resized r c h w) is = absurd is
 alt_leaves reading (KeyboardFlags flags) is = absurd is
 alt_leaves reading (Csi bytes) is = absurd is
 alt_leaves reading (Osc bytes) is = absurd is

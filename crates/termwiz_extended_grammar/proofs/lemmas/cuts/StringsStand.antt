@@ -6,7 +6,7 @@ use Rattle.termwiz_keymap.proofs.lemmas.lists.CommonPrefixes.{true_at_front, tru
 use Rattle.termwiz_keys.specs.Introducers.{ESC}
 use Rattle.termwiz_grammar.specs.Laws.{IsHeldEscape}
 use Rattle.termwiz_extended_events.specs.declared.types.Event.{Event}
-use Rattle.termwiz_extended_events.specs.declared.types.Event.TheVariants.{Key, Mouse, Paste, FocusGained, FocusLost, CursorPosition, Resize, KeyboardFlags, Csi, Osc as OscEvent, Dcs as DcsEvent, Apc as ApcEvent, StringPart, StringCut}
+use Rattle.termwiz_extended_events.specs.declared.types.Event.TheVariants.{Key, Mouse, Paste, FocusGained, FocusLost, CursorPosition, Resized, KeyboardFlags, Csi, Osc as OscEvent, Dcs as DcsEvent, Apc as ApcEvent, StringPart, StringCut}
 use Rattle.termwiz_extended_events.specs.declared.types.Reading.{Reading}
 use Rattle.termwiz_extended_events.specs.declared.types.StringKind.{StringKind}
 use Rattle.termwiz_extended_events.specs.declared.types.StringKind.TheVariants.{Osc, Dcs, Apc}
@@ -135,7 +135,7 @@ dialect_after reading (Paste text) = refl
 dialect_after reading FocusGained = refl
 dialect_after reading FocusLost = refl
 dialect_after reading (CursorPosition row column) = refl
-dialect_after reading (Resize rows columns height width) = refl
+dialect_after reading (Resized rows columns height width) = refl
 dialect_after reading (KeyboardFlags flags) = refl
 dialect_after reading (Csi bytes) = refl
 dialect_after reading (OscEvent bytes) = refl

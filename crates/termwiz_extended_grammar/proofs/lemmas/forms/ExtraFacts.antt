@@ -8,7 +8,7 @@ use Rattle.termwiz_grammar.specs.Sequences.Meaning.{Row, Report}
 use Rattle.termwiz_grammar.proofs.lemmas.lists.Decidable.{Decision, decide_by, decide_both, decide_either, decide_eq, decide_parts}
 use Rattle.termwiz_grammar.proofs.lemmas.table.SequenceFacts.{sequence_once, sequence_or_not}
 use Rattle.termwiz_extended_events.specs.declared.types.Event.{Event}
-use Rattle.termwiz_extended_events.specs.declared.types.Event.TheVariants.{Key, Mouse, Paste, FocusGained, FocusLost, CursorPosition, Resize, KeyboardFlags, Csi, Osc, Dcs, Apc, StringPart, StringCut}
+use Rattle.termwiz_extended_events.specs.declared.types.Event.TheVariants.{Key, Mouse, Paste, FocusGained, FocusLost, CursorPosition, Resized, KeyboardFlags, Csi, Osc, Dcs, Apc, StringPart, StringCut}
 use Rattle.termwiz_extended_events.specs.declared.types.Dialect.{Dialect}
 use Rattle.termwiz_extended_events.specs.declared.types.Dialect.TheVariants.{Extended, Termwiz}
 use Rattle.termwiz_extended_events.specs.declared.types.Reading.{Reading}
@@ -34,7 +34,7 @@ key_or_not (Key report) = inl tt
 key_or_not FocusGained = inr (λ h. h)
 key_or_not FocusLost = inr (λ h. h)
 key_or_not (CursorPosition row column) = inr (λ h. h)
-key_or_not (Resize r c h w) = inr (λ h. h)
+key_or_not (Resized r c h w) = inr (λ h. h)
 key_or_not (KeyboardFlags flags) = inr (λ h. h)
 key_or_not (Csi bytes) = inr (λ h. h)
 key_or_not (Osc bytes) = inr (λ h. h)
@@ -50,7 +50,7 @@ position_or_not (Key report) = inr (λ h. h)
 position_or_not FocusGained = inr (λ h. h)
 position_or_not FocusLost = inr (λ h. h)
 position_or_not (CursorPosition row column) = inl tt
-position_or_not (Resize r c h w) = inr (λ h. h)
+position_or_not (Resized r c h w) = inr (λ h. h)
 position_or_not (KeyboardFlags flags) = inr (λ h. h)
 position_or_not (Csi bytes) = inr (λ h. h)
 position_or_not (Osc bytes) = inr (λ h. h)
@@ -66,7 +66,7 @@ either_told (Mouse report) h = ⊎_elim (λ k. k) (λ k. k) h
 either_told (Paste text) h = ⊎_elim (λ k. k) (λ k. k) h
 either_told FocusGained h = ⊎_elim (λ k. k) (λ k. k) h
 either_told FocusLost h = ⊎_elim (λ k. k) (λ k. k) h
-either_told (Resize r c i w) h = ⊎_elim (λ k. k) (λ k. k) h
+either_told (Resized r c i w) h = ⊎_elim (λ k. k) (λ k. k) h
 either_told (KeyboardFlags flags) h = ⊎_elim (λ k. k) (λ k. k) h
 either_told (Csi bytes) h = ⊎_elim (λ k. k) (λ k. k) h
 either_told (Osc bytes) h = ⊎_elim (λ k. k) (λ k. k) h
@@ -82,7 +82,7 @@ told_either (Mouse report) h = absurd h
 told_either (Paste text) h = absurd h
 told_either FocusGained h = absurd h
 told_either FocusLost h = absurd h
-told_either (Resize r c i w) h = absurd h
+told_either (Resized r c i w) h = absurd h
 told_either (KeyboardFlags flags) h = absurd h
 told_either (Csi bytes) h = absurd h
 told_either (Osc bytes) h = absurd h

@@ -6,7 +6,7 @@ use Rattle.termwiz_keys.specs.declared.types.KeyCode.{KeyCode}
 use Rattle.termwiz_keys.specs.declared.types.InputEvent.{InputEvent}
 use Rattle.termwiz_keys.specs.declared.types.InputEvent.TheVariants as input
 use Rattle.termwiz_extended_events.specs.declared.types.Event.{Event}
-use Rattle.termwiz_extended_events.specs.declared.types.Event.TheVariants.{Mouse, Paste, Csi, Osc, Dcs, Apc, Key, FocusGained, FocusLost, CursorPosition, Resize, KeyboardFlags, StringPart, StringCut}
+use Rattle.termwiz_extended_events.specs.declared.types.Event.TheVariants.{Mouse, Paste, Csi, Osc, Dcs, Apc, Key, FocusGained, FocusLost, CursorPosition, Resized, KeyboardFlags, StringPart, StringCut}
 use Rattle.termwiz_extended_events.specs.declared.types.Reading.{Reading}
 use Rattle.termwiz_extended_events.specs.Meanings.{IsKey, NeedsMemory}
 use Rattle.termwiz_extended_grammar.specs.ExtraSequences.{with_alt}
@@ -66,7 +66,7 @@ alt_reading reading (Paste text) is = absurd is
 alt_reading reading FocusGained is = absurd is
 alt_reading reading FocusLost is = absurd is
 alt_reading reading (CursorPosition row column) is = absurd is
-alt_reading reading (Resize r c h w) is = absurd is
+alt_reading reading (Resized r c h w) is = absurd is
 alt_reading reading (KeyboardFlags flags) is = absurd is
 alt_reading reading (Csi bytes) is = absurd is
 alt_reading reading (Osc bytes) is = absurd is
@@ -82,7 +82,7 @@ alt_needs (Paste text) is needs = absurd is
 alt_needs FocusGained is needs = absurd is
 alt_needs FocusLost is needs = absurd is
 alt_needs (CursorPosition row column) is needs = absurd is
-alt_needs (Resize r c h w) is needs = absurd is
+alt_needs (Resized r c h w) is needs = absurd is
 alt_needs (KeyboardFlags flags) is needs = absurd is
 alt_needs (Csi bytes) is needs = absurd is
 alt_needs (Osc bytes) is needs = absurd is

@@ -10,7 +10,7 @@ use Rattle.termwiz_grammar.proofs.lemmas.lists.ListMembers.{same_on}
 use Rattle.termwiz_laws.proofs.lemmas.further_keys.ComputedReadings.{Held}
 use Rattle.termwiz_extended_events.specs.declared.types.KeyReport.{KeyReport}
 use Rattle.termwiz_extended_events.specs.declared.types.Event.{Event}
-use Rattle.termwiz_extended_events.specs.declared.types.Event.TheVariants.{Key, Mouse, Paste, FocusGained, FocusLost, CursorPosition, Resize, KeyboardFlags, Csi, Osc, Dcs, Apc, StringPart, StringCut}
+use Rattle.termwiz_extended_events.specs.declared.types.Event.TheVariants.{Key, Mouse, Paste, FocusGained, FocusLost, CursorPosition, Resized, KeyboardFlags, Csi, Osc, Dcs, Apc, StringPart, StringCut}
 use Rattle.termwiz_extended_events.specs.declared.types.Reading.{Reading}
 use Rattle.termwiz_extended_events.specs.PortEvents.{pressed_key, typed_key, with_key}
 use Rattle.termwiz_extended_events.specs.declared.types.Dialect.{Dialect}
@@ -46,7 +46,7 @@ reports_tested (Key r) h = refl
 reports_tested FocusGained h = absurd h
 reports_tested FocusLost h = absurd h
 reports_tested (CursorPosition row column) h = refl
-reports_tested (Resize r c h w) k = absurd k
+reports_tested (Resized r c h w) k = absurd k
 reports_tested (KeyboardFlags flags) h = absurd h
 reports_tested (Csi bytes) h = absurd h
 reports_tested (Osc bytes) h = absurd h
@@ -62,7 +62,7 @@ key_is (Key q) r h k = cc (k)
 key_is FocusGained r h k = absurd h
 key_is FocusLost r h k = absurd h
 key_is (CursorPosition row column) r h k = cc (k)
-key_is (Resize a b c d) r h k = absurd h
+key_is (Resized a b c d) r h k = absurd h
 key_is (KeyboardFlags flags) r h k = absurd h
 key_is (Csi bytes) r h k = absurd h
 key_is (Osc bytes) r h k = absurd h

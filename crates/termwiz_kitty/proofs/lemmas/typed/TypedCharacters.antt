@@ -14,7 +14,7 @@ use Rattle.termwiz_keys.specs.declared.types.KeyCode.TheVariants.{Char}
 use Rattle.termwiz_keys.specs.declared.types.KeyEvent.{KeyEvent}
 use Rattle.termwiz_keys.specs.declared.types.InputEvent.TheVariants as input
 use Rattle.termwiz_extended_events.specs.declared.types.Event.{Event}
-use Rattle.termwiz_extended_events.specs.declared.types.Event.TheVariants.{Key, Mouse, Paste, FocusGained, FocusLost, CursorPosition, Resize, KeyboardFlags, Csi, Osc, Dcs, Apc, StringPart, StringCut}
+use Rattle.termwiz_extended_events.specs.declared.types.Event.TheVariants.{Key, Mouse, Paste, FocusGained, FocusLost, CursorPosition, Resized, KeyboardFlags, Csi, Osc, Dcs, Apc, StringPart, StringCut}
 use Rattle.termwiz_extended_events.specs.declared.types.KeyEventKind.{KeyEventKind}
 use Rattle.termwiz_extended_events.specs.declared.types.KeyEventKind.TheVariants.{Press, Repeat, Release}
 use Rattle.termwiz_extended_events.specs.declared.types.ReportedKey.{ReportedKey}
@@ -147,7 +147,7 @@ event_of_plain (Paste text) k bare e = cc (e)
 event_of_plain FocusGained k bare e = cc (e)
 event_of_plain FocusLost k bare e = cc (e)
 event_of_plain (CursorPosition row column) k bare e = cc (e)
-event_of_plain (Resize r c h w) k bare e = cc (e)
+event_of_plain (Resized r c h w) k bare e = cc (e)
 event_of_plain (KeyboardFlags flags) k bare e = cc (e)
 event_of_plain (Csi bytes) k bare e = cc (e)
 event_of_plain (Osc bytes) k bare e = cc (e)

@@ -22,7 +22,7 @@ no_position : (m : Meaning) (e : Event) → ((row column : ℕ) → m ≢ meanin
 no_position meaning.FocusGained e other h is = same_event _ e (λ x. x) h is
 no_position meaning.FocusLost e other h is = same_event _ e (λ x. x) h is
 no_position (meaning.CursorPosition row column) e other h is = other row column refl
-no_position (meaning.Resize rows columns height width) e other h is = same_event _ e (λ x. x) h is
+no_position (meaning.Resized rows columns height width) e other h is = same_event _ e (λ x. x) h is
 no_position (meaning.KeyboardFlags flags) e other h is = same_event _ e (λ x. x) h is
 no_position (meaning.Mouse event) e other h is = same_event _ e (λ x. x) h is
 no_position (meaning.Key report) e other h is = key_event (spelled_report report) e h is
