@@ -12,8 +12,8 @@
 #include <time.h>
 #include <unistd.h>
 
-/* In milliseconds: for how long the reply to DA1 is owed, and how long it is waited for at the end, at least and at most. */
-enum { OWED_MS = 2000, LEAVE_MS = 200, LEAVE_MOST_MS = 1000 };
+/* For how many milliseconds a reply to DA1 is waited for at the end, at least and at most. */
+enum { LEAVE_MS = 200, LEAVE_MOST_MS = 1000 };
 
 /* The terminal that is open. It stands here, since exit and signals restore it too. */
 static struct guard {
@@ -27,14 +27,9 @@ static struct guard {
   volatile sig_atomic_t is_switched; /* whether leave is still to be written */
 } guard;
 
-/* Replies to DA1 that are still to come, the oldest question first. */
-static struct asked {
-  uint64_t since[HED_TERMINAL_ASKS_MOST]; /* when it was asked */
-  unsigned positions[HED_TERMINAL_ASKS_MOST]; /* how many questions for the cursor's position went with it */
-  volatile sig_atomic_t owed; /* how many there are */
-  bool is_answered; /* whether one has come */
-  uint64_t round_trip; /* the longest time that one took */
-} asked;
+static hed_questions asked;
+/* How many replies to DA1 are still to come: handlers look at this copy of asked.count, and the end counts it down. */
+static volatile sig_atomic_t owed;
 
 /* The signals that arrived. The handler also writes to a pipe, which is polled: so no signal is missed between a look at these and poll. */
 static volatile sig_atomic_t ending, stopping, continued, resized;
@@ -106,23 +101,14 @@ static void leave_at_once(void) {
   fcntl(guard.output, F_SETFL, guard.output_flags | O_NONBLOCK);
   write_leave(false);
   restore_flags();
-  if (guard.has_mouse || asked.owed > 0) tcflush(guard.input, TCIFLUSH);
+  if (guard.has_mouse || owed > 0) tcflush(guard.input, TCIFLUSH);
   tcsetattr(guard.input, TCSANOW, &guard.saved);
 }
 
-/* Asks what the terminal is, which nearly every terminal answers. It is owed before it is written, since a handler may interrupt that. */
-static bool ask_attributes(const char *questions, unsigned positions) {
-  asked.since[asked.owed] = hed_terminal_now();
-  asked.positions[asked.owed] = positions;
-  asked.owed++;
-  return write_text(questions, true) && write_text("\033[c", true);
-}
-
-/* The oldest question is over. */
-static void remove_oldest(void) {
-  asked.owed--;
-  memmove(asked.since, asked.since + 1, (size_t)asked.owed * sizeof *asked.since);
-  memmove(asked.positions, asked.positions + 1, (size_t)asked.owed * sizeof *asked.positions);
+/* DA1 goes behind the text. Its reply is owed before it is written, since a handler may interrupt that. */
+static bool write_question(const char *text, uint32_t count) {
+  owed = (sig_atomic_t)count;
+  return write_text(text, true) && write_text("\033[c", true);
 }
 
 /* Whether a byte ends a reply to DA1, as ESC [?62;22c: *begun is how many bytes of its beginning came before. */
@@ -141,37 +127,46 @@ static bool skip_byte(int milliseconds, size_t *begun) {
   char byte;
   if (poll(&ready, 1, milliseconds) <= 0) return true;
   ssize_t len = read(guard.input, &byte, 1);
-  if (len > 0 && ends_reply(begun, byte)) remove_oldest();
+  if (len > 0 && ends_reply(begun, byte)) owed--;
   return len > 0 || (len < 0 && (errno == EINTR || errno == EAGAIN || errno == EWOULDBLOCK));
 }
 
 /* Reads up to the last reply that is owed, byte by byte: what comes after it is the next program's. Returns whether it came. */
 static bool skip_replies(void) {
-  uint64_t start = hed_terminal_now(), limit = 2 * asked.round_trip;
+  uint64_t start = hed_terminal_now(), limit = 2 * asked.slowest;
   size_t begun = 0;
   int left;
   if (limit < LEAVE_MS) limit = LEAVE_MS;
   if (limit > LEAVE_MOST_MS) limit = LEAVE_MOST_MS;
-  while (asked.owed > 0 && (left = left_ms(start, limit, hed_terminal_now())) > 0)
+  while (owed > 0 && (left = left_ms(start, limit, hed_terminal_now())) > 0)
     if (!skip_byte(left, &begun)) return false;
-  return asked.owed == 0;
+  return owed == 0;
 }
 
 /* Mouse reports that are under way come before the reply to a question that is asked now. Returns whether nothing is left to be discarded. */
 static bool skip_what_was_sent(void) {
-  if (asked.owed == 0 && !guard.has_mouse) return true;
-  if (asked.owed == 0 && !(asked.is_answered && ask_attributes("", 0))) return false;
+  if (owed == 0 && !guard.has_mouse) return true;
+  if (owed == 0 && !(asked.answered > 0 && write_question("", 1))) return false;
   return skip_replies();
+}
+
+/* An overdue reply isn't owed, also if no call has ended its question yet. */
+static sig_atomic_t count_owed(void) {
+  uint64_t now = hed_terminal_now();
+  sig_atomic_t count = 0;
+  for (uint32_t i = 0; i < asked.count; i++) count += now < asked.open[i].until;
+  return count;
 }
 
 static void leave(void) {
   if (!guard.is_raw) return;
+  owed = count_owed();
   fflush(stdout);
   write_leave(true);
   set(skip_what_was_sent() ? TCSADRAIN : TCSAFLUSH, &guard.saved);
   restore_flags();
   guard.is_raw = false;
-  asked.owed = 0;
+  owed = 0;
 }
 
 /* If it was never left, as around SIGSTOP, modes that nest are left first. */
@@ -191,6 +186,11 @@ static void raise_default(int number) {
   raise(number);
 }
 
+static void end_poll(void) {
+  ssize_t written = write(wake[1], "", 1);
+  (void)written; /* a full pipe ends the poll as well */
+}
+
 static void note(int number) {
   if (number == SIGTSTP) stopping = 1;
   else if (number == SIGCONT) continued = 1;
@@ -199,8 +199,7 @@ static void note(int number) {
     ending = number;
     alarm(1);
   }
-  ssize_t written = write(wake[1], "", 1);
-  (void)written; /* a full pipe ends the poll as well */
+  end_poll();
 }
 
 /* A forked child has the handlers too. It is as if it had none. */
@@ -386,7 +385,7 @@ bool hed_terminal_open(hed_terminal *terminal, int input, int output, const char
   terminal->output = output;
   if (guard.is_open) return fail(terminal, "a terminal is open already");
   stopping = continued = resized = 0;
-  memset(&asked, 0, sizeof asked);
+  asked = (hed_questions)HED_QUESTIONS_NONE;
   return find_terminal(terminal) && keep_texts(terminal, enter, leave) && begin(terminal);
 }
 
@@ -402,11 +401,20 @@ void hed_terminal_lend(hed_terminal *terminal) {
   release_signals();
 }
 
+/* The other program may have read the replies. The parser is told once all is told that came before. */
+static void note_other(hed_terminal *it) {
+  hed_parser none = HED_PARSER_NONE;
+  hed_questions_forget(&asked, &none);
+  owed = 0;
+  it->was_away = true;
+}
+
 bool hed_terminal_take_back(hed_terminal *terminal) {
   if (!is_own()) return fail(terminal, "no terminal is open");
-  asked.owed = 0;
-  terminal->was_away = true;
-  return take_terminal(terminal);
+  note_other(terminal);
+  terminal->is_back = take_terminal(terminal);
+  end_poll();
+  return terminal->is_back;
 }
 
 /* Waiting. */
@@ -421,11 +429,10 @@ static void stop(void) {
   continued = 1;
 }
 
-static enum hed_terminal_event resume(hed_terminal *it) {
-  resized = 0;
-  asked.owed = 0;
-  it->was_away = true;
-  return enter(it) ? HED_TERMINAL_RESUMED : HED_TERMINAL_FAILED;
+static bool resume(hed_terminal *it) {
+  note_other(it);
+  it->is_back = enter(it);
+  return it->is_back;
 }
 
 static bool is_same(const struct termios *one, const struct termios *other) {
@@ -446,10 +453,12 @@ enum hed_terminal_event hed_terminal_heed(hed_terminal *terminal) {
   drain_wake();
   if (stopping && !ending) stop();
   if (ending) return HED_TERMINAL_ENDING;
-  if (was_away()) return resume(terminal);
-  if (!resized) return HED_TERMINAL_NOTHING;
+  if (was_away() && !resume(terminal)) return HED_TERMINAL_FAILED;
+  bool is_back = terminal->is_back;
+  if (!is_back && !resized) return HED_TERMINAL_NOTHING;
+  terminal->is_back = false;
   resized = 0;
-  return HED_TERMINAL_RESIZED;
+  return is_back ? HED_TERMINAL_RESUMED : HED_TERMINAL_RESIZED;
 }
 
 /* Polls again if a signal interrupts it: only then it is known what can be read. */
@@ -477,50 +486,40 @@ bool hed_terminal_read(hed_terminal *terminal, uint8_t *bytes, size_t room, size
 
 /* Questions. */
 
-/* Has the parser expect the positions that the open questions asked for. */
-static void expect_positions(hed_parser *parser) {
-  hed_parser_forget_positions(parser);
-  for (int i = 0; i < asked.owed; i++)
-    for (unsigned left = asked.positions[i]; left > 0; left--) hed_parser_expect_position(parser);
-}
-
-static void close_oldest(hed_parser *parser) {
-  remove_oldest();
-  expect_positions(parser);
-}
-
-/* If another program had the terminal, positions are expected once what came before is told. */
+/* A question that can't be written isn't open. What came before another program had the terminal is still to be told, and is read as before. */
 bool hed_terminal_ask(hed_terminal *terminal, hed_parser *parser, const char *questions) {
-  unsigned positions = 0;
+  hed_questions before = asked;
+  hed_reading reading;
+  uint64_t number;
   if (!is_own() || !guard.is_raw) return fail(terminal, "no terminal is open");
-  if (asked.owed == HED_TERMINAL_ASKS_MOST) return fail(terminal, "too many questions are open");
   if (fflush(stdout) != 0) return fail(terminal, "the output can't be written");
-  for (const char *at = questions; (at = strstr(at, "\033[6n")); at++) {
-    if (!terminal->was_away) hed_parser_expect_position(parser);
-    positions++;
-  }
-  return ask_attributes(questions, positions) || fail(terminal, "the terminal can't be written");
+  if (hed_parser_reading(parser, &reading) != HED_OK) return fail(terminal, "there is no parser");
+  if (hed_questions_ask(&asked, parser, hed_terminal_now(), 0, (const uint8_t *)questions, strlen(questions), &number) != HED_OK)
+    return fail(terminal, "too many questions are open");
+  bool is_written = write_question(questions, asked.count);
+  if (!is_written) asked = before;
+  if (!is_written || terminal->was_away) hed_parser_set_reading(parser, &reading);
+  owed = (sig_atomic_t)asked.count;
+  return is_written || fail(terminal, "the terminal can't be written");
 }
 
 size_t hed_terminal_owed(const hed_terminal *terminal) {
   (void)terminal;
-  return (size_t)asked.owed;
-}
-
-/* Whether an event is the reply to DA1, as ?62;22c. It takes no memory, so that each is counted. */
-static bool is_attributes(const hed_parser *parser, const hed_event *event) {
-  char text[256] = "";
-  if (event->kind != HED_KIND_CSI || event->text_len >= sizeof text) return false;
-  hed_parser_text(parser, (uint8_t *)text, sizeof text);
-  return text[0] == '?' && strcmp(text + 1 + strspn(text + 1, "0123456789;"), "c") == 0;
+  return (size_t)owed;
 }
 
 static void note_event(hed_terminal *it, hed_parser *parser, const hed_event *event) {
-  if (asked.owed == 0 || it->was_away || !is_attributes(parser, event)) return;
-  uint64_t round_trip = hed_terminal_now() - asked.since[0];
-  if (round_trip > asked.round_trip) asked.round_trip = round_trip;
-  asked.is_answered = true;
-  close_oldest(parser);
+  uint8_t text[256];
+  uint64_t number;
+  if (asked.count == 0 || it->was_away) return;
+  size_t len = hed_parser_text(parser, text, sizeof text);
+  hed_questions_note(&asked, parser, hed_terminal_now(), event, text, len < sizeof text ? len : sizeof text, &number);
+  owed = (sig_atomic_t)asked.count;
+}
+
+static void expire_questions(hed_parser *parser, uint64_t now) {
+  hed_questions_expire(&asked, parser, now);
+  owed = (sig_atomic_t)asked.count;
 }
 
 /* Events. */
@@ -537,9 +536,10 @@ bool hed_terminal_tell_settings(hed_terminal *terminal, hed_parser *parser) {
 
 /* Once all is told of what came before another program had the terminal. */
 static void note_away(hed_terminal *it, hed_parser *parser) {
+  uint64_t now = hed_terminal_now();
   it->was_away = false;
-  hed_parser_interrupted(parser, hed_terminal_now());
-  expect_positions(parser);
+  hed_parser_interrupted(parser, now);
+  expire_questions(parser, now);
 }
 
 /* Tells an event of what was read. What can't be fed yet stays. */
@@ -574,7 +574,7 @@ static void look(hed_terminal *it, hed_parser *parser) {
   struct pollfd ready = { .fd = it->input, .events = POLLIN };
   if (poll(&ready, 1, 0) != 0) return;
   hed_parser_idle(parser, now);
-  while (asked.owed > 0 && left_ms(asked.since[0], OWED_MS, now) == 0) close_oldest(parser);
+  if (hed_questions_timeout(&asked, now) == 0) expire_questions(parser, now);
 }
 
 /* The shorter of two times, of which a negative one is for ever. */
@@ -585,7 +585,7 @@ static int sooner(int one, int other) {
 int hed_terminal_timeout(hed_terminal *terminal, const hed_parser *parser) {
   uint64_t now = hed_terminal_now();
   int left = terminal->unfed > 0 || terminal->was_away ? 0 : hed_parser_timeout(parser, now);
-  return asked.owed > 0 ? sooner(left, left_ms(asked.since[0], OWED_MS, now)) : left;
+  return sooner(left, hed_questions_timeout(&asked, now));
 }
 
 enum hed_terminal_event hed_terminal_next(hed_terminal *terminal, hed_parser *parser, int milliseconds, hed_event *event) {
@@ -594,6 +594,7 @@ enum hed_terminal_event hed_terminal_next(hed_terminal *terminal, hed_parser *pa
   hed_status answer;
   if (!terminal->has_told) hed_parser_set_parts(parser, HED_TERMINAL_PASTE_MOST);
   if (!terminal->has_told) terminal->has_told = hed_terminal_tell_settings(terminal, parser);
+  if (terminal->is_back) return hed_terminal_heed(terminal);
   while ((answer = tell(terminal, parser, event)) == HED_NONE && came == HED_TERMINAL_INPUT) {
     if (terminal->has_ended) return ended(terminal);
     if (fflush(stdout) != 0) return failed(terminal, "the output can't be written");
@@ -606,11 +607,10 @@ enum hed_terminal_event hed_terminal_next(hed_terminal *terminal, hed_parser *pa
   return answer == HED_NONE ? came : failed(terminal, answer == HED_NO_MEMORY ? "out of memory" : "there is no parser");
 }
 
-bool hed_terminal_size(int output, unsigned *columns, unsigned *rows) {
-  struct winsize size;
-  if (ioctl(output, TIOCGWINSZ, &size) != 0 || size.ws_col == 0 || size.ws_row == 0) return false;
-  *columns = size.ws_col;
-  *rows = size.ws_row;
+bool hed_terminal_size(int output, hed_size *size) {
+  struct winsize found;
+  if (ioctl(output, TIOCGWINSZ, &found) != 0 || found.ws_col == 0 || found.ws_row == 0) return false;
+  *size = (hed_size){ .columns = found.ws_col, .rows = found.ws_row, .width = found.ws_xpixel, .height = found.ws_ypixel };
   return true;
 }
 

@@ -66,16 +66,19 @@ extern "C" {
 #define HED_TERMINAL_KITTY_ON(flags) \
   "\033[>" #flags "u" /* Kitty's keyboard protocol, as HED_TERMINAL_KITTY_ON(5): a sum of HED_KITTY_FLAG_.. */
 #define HED_TERMINAL_KITTY_OFF "\033[<u"
+#define HED_TERMINAL_MODIFY_OTHER_KEYS_ON(level) \
+  "\033[>4;" #level                              \
+  "m" /* characters with modifiers as sequences (xterm's modifyOtherKeys): at level 1 those that are ambiguous, at 2 all */
+#define HED_TERMINAL_MODIFY_OTHER_KEYS_OFF "\033[>4m"
 
-/* The most bytes of a text that switches modes, and of the text of a paste before its end, as hed_parser_set_parts is given it; the most asks that
- * are open. */
-enum { HED_TERMINAL_TEXT_MOST = 511, HED_TERMINAL_PASTE_MOST = 1 << 20, HED_TERMINAL_ASKS_MOST = 16 };
+/* The most bytes of a text that switches modes, and of the text of a paste before its end, as hed_parser_set_parts is given it. */
+enum { HED_TERMINAL_TEXT_MOST = 511, HED_TERMINAL_PASTE_MOST = 1 << 20 };
 
 typedef struct hed_terminal {
   const char *failure; /* why the last call failed, in words; errno is the system's number for it */
   int wake; /* readable once a signal came: for a loop of the program's own */
   int input, output; /* the rest is for these calls */
-  bool has_ended, was_away, has_told;
+  bool has_ended, is_back, was_away, has_told;
   int error;
   size_t unfed;
   uint8_t bytes[4096];
@@ -127,17 +130,15 @@ bool hed_terminal_tell_settings(hed_terminal *terminal, hed_parser *parser);
  * HED_TERMINAL_FAILED no byte is lost, so that the call may be made again if memory was refused. */
 enum hed_terminal_event hed_terminal_next(hed_terminal *terminal, hed_parser *parser, int milliseconds, hed_event *event);
 
-/* Asks the terminal: writes what stdout holds, the questions, and DA1 (ESC [c), which nearly every terminal answers. Replies come in the order of
- * the questions. So a reply that hasn't come before that to DA1 won't come. Replies are events of hed_terminal_next, that to DA1 too. It counts the
- * latter. For each ESC [6n of the questions the parser expects a position of the cursor until then.
+/* Asks the terminal: writes what stdout holds, the questions, and DA1 (ESC [c). This counts as one question of hed_questions_ask, which is open for
+ * two seconds at most. Replies are events of hed_terminal_next, that to DA1 too, and it notes each of them. When another program had the terminal,
+ * no question is open any more but those that were asked since.
  *
- * A reply to DA1 answers the oldest ask that is open. One that hasn't come after two seconds isn't waited for any longer: if it comes later, it
- * answers the next one, if there is one. When another program had the terminal, no ask is open any more.
- *
- * Returns false if no terminal is open, HED_TERMINAL_ASKS_MOST asks are open, or the terminal can't be written. */
+ * Returns false if no terminal is open, there is no parser, HED_QUESTIONS_MOST questions are open, or the terminal can't be written. Then no question
+ * was asked. */
 bool hed_terminal_ask(hed_terminal *terminal, hed_parser *parser, const char *questions);
 
-/* Returns how many asks are open. At 0 the last one is over. At 1 the replies that come next are its own, and at more those of an earlier one. */
+/* Returns how many questions are open. At 0 the last one is over. At 1 the replies that come next are its own, and at more those of an earlier one. */
 size_t hed_terminal_owed(const hed_terminal *terminal);
 
 /* Returns how many milliseconds a loop of the program's own may wait before it calls hed_terminal_next again, negative: for ever. It is what
@@ -163,13 +164,19 @@ enum hed_terminal_event hed_terminal_heed(hed_terminal *terminal);
  * modes. Does nothing if it is lent. */
 void hed_terminal_lend(hed_terminal *terminal);
 
-/* Sets raw mode and the modes again, whatever that program left, also if it wasn't lent to it. hed_terminal_next tells what came before, and then
- * does as after HED_TERMINAL_RESUMED. Returns false if that fails, as when the terminal is gone. */
+/* Sets raw mode and the modes again, whatever that program left, also if it wasn't lent to it. The next call of
+ * hed_terminal_next, hed_terminal_wait or hed_terminal_heed returns HED_TERMINAL_RESUMED, as after a stop: so a program draws all anew in one place.
+ * Returns false if it fails, as when the terminal is gone. */
 bool hed_terminal_take_back(hed_terminal *terminal);
 
-/* Writes the size in characters of the terminal that this descriptor is of, such as 1. Returns false if it isn't known, as on a serial line:
- * then nothing is written. */
-bool hed_terminal_size(int output, unsigned *columns, unsigned *rows);
+typedef struct hed_size {
+  uint16_t columns, rows; /* in characters */
+  uint16_t width, height; /* in pixels, 0 where that isn't known */
+} hed_size;
+
+/* Writes the size of the terminal that this descriptor is of, such as 1. Returns false if it isn't known, as on a serial line: then nothing is
+ * written. */
+bool hed_terminal_size(int output, hed_size *size);
 
 /* Returns the time in milliseconds, by a clock that nobody sets: as the calls of a parser are given it. */
 uint64_t hed_terminal_now(void);

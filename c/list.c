@@ -16,9 +16,9 @@ static hed_matcher matcher = HED_MATCHER_NONE;
 static unsigned at = 1, last; /* places of words: 0 if none is picked */
 
 static void draw(char **words) {
-  unsigned columns, height = 24;
-  hed_terminal_size(1, &columns, &height);
-  for (unsigned from = at <= height ? 1 : at + 1 - height, i = from; i <= last && i - from < height; i++)
+  hed_size size = { .rows = 24 };
+  hed_terminal_size(1, &size);
+  for (unsigned from = at <= size.rows ? 1 : at + 1 - size.rows, i = from; i <= last && i - from < size.rows; i++)
     printf("%s%s%s\033[m", i > from ? "\n" : "\033[H\033[J", i == at ? "\033[7m" : "", words[i]);
 }
 

@@ -25,8 +25,8 @@ static bool fail(live *it, const char *failure) {
 }
 
 static void print_size(void) {
-  unsigned columns, rows;
-  if (hed_terminal_size(1, &columns, &rows)) printf("size %u x %u\n", columns, rows);
+  hed_size size;
+  if (hed_terminal_size(1, &size)) printf("size %u x %u\n", size.columns, size.rows);
 }
 
 static void print_key(const hed_event *event) {

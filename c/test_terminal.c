@@ -139,11 +139,14 @@ static bool run_child(const char *command, bool is_lent) {
   return hed_terminal_take_back(&terminal);
 }
 
-/* Asks, and tells how many asks are open. */
-static bool ask(const char *questions) {
-  bool is_asked = hed_terminal_ask(&terminal, &parser, questions);
+static bool print_asked(bool is_asked) {
   printf("asked: %s, %zu open\n", is_asked ? "yes" : terminal.failure, hed_terminal_owed(&terminal));
   return true;
+}
+
+/* Asks, and tells how many questions are open. */
+static bool ask(const char *questions) {
+  return print_asked(hed_terminal_ask(&terminal, &parser, questions));
 }
 
 /* Asks at once when it has the terminal again. */
@@ -152,10 +155,29 @@ static bool ask_again(void) {
   return hed_terminal_take_back(&terminal) && ask("\033[6n");
 }
 
+/* Asks while nothing can be written. */
+static bool ask_in_vain(void) {
+  int full = open("/dev/full", O_WRONLY), output = dup(terminal.output);
+  dup2(full, terminal.output);
+  bool is_asked = hed_terminal_ask(&terminal, &parser, "\033[6n");
+  dup2(output, terminal.output);
+  close(full);
+  close(output);
+  return print_asked(is_asked);
+}
+
 static void print_size(const char *what) {
-  unsigned columns = 0, rows = 0;
-  hed_terminal_size(1, &columns, &rows);
-  printf("%s, %u x %u\n", what, columns, rows);
+  hed_size size = { .columns = 0 };
+  hed_terminal_size(1, &size);
+  printf("%s, %u x %u\n", what, size.columns, size.rows);
+  if (size.width > 0) printf("%u x %u pixels\n", size.width, size.height);
+}
+
+static bool asks_when_resumed;
+
+static bool handle_resumed(void) {
+  print_size("resumed");
+  return !asks_when_resumed || ask("\033[6n");
 }
 
 /* Does what a key says. Returns false once the program has to end. */
@@ -179,12 +201,14 @@ static bool obey(uint32_t key) {
     case 'p': write_to_nobody(); return true;
     case 'r': return ask_again();
     case 's': raise(SIGSEGV); return true;
+    case 't': asks_when_resumed = true; return true;
+    case 'u': return ask_in_vain();
     case 'x': exit(3);
     default: return key != 'q';
   }
 }
 
-/* Prints what a reply says, or what was cut off of it, and how many asks are open. */
+/* Prints what a reply says, or what was cut off of it, and how many questions are open. */
 static void print_reply(const hed_event *event) {
   char text[64] = "";
   if (event->kind == HED_KIND_CURSOR_POSITION) snprintf(text, sizeof text, "%u, %u", event->row, event->column);
@@ -206,7 +230,7 @@ static bool handle_what_came(enum hed_terminal_event came, const hed_event *even
   switch (came) {
     case HED_TERMINAL_EVENT: return handle_event(event);
     case HED_TERMINAL_RESIZED: print_size("resized"); return true;
-    case HED_TERMINAL_RESUMED: print_size("resumed"); return true;
+    case HED_TERMINAL_RESUMED: return handle_resumed();
     case HED_TERMINAL_NOTHING: puts("nothing"); return true;
     case HED_TERMINAL_FAILED: printf("failed: %s\n", terminal.failure); return refused > 0; /* the call is made again */
     default: puts(came == HED_TERMINAL_ENDED ? "ended" : "ending"); return false;

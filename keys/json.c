@@ -88,15 +88,13 @@ static void put_size(const hed_event *event) {
 
 /* The fields of an event, but for the bytes that it brought. */
 static void put_fields(const hed_event *event) {
-  const char *whole = whole_name(event);
-  if (whole) fprintf(output, ",\"of\":\"%s\"", whole);
+  const char *string = kind_name(event->string_kind);
+  if (string) fprintf(output, ",\"of\":\"%s\"", string);
   switch (event->kind) {
     case HED_KIND_KEY: put_key(event); break;
     case HED_KIND_MOUSE: put_mouse(event); break;
-    case HED_KIND_FOCUS_GAINED: fprintf(output, ",\"gained\":true"); break;
-    case HED_KIND_FOCUS_LOST: fprintf(output, ",\"gained\":false"); break;
     case HED_KIND_CURSOR_POSITION: fprintf(output, ",\"row\":%u,\"column\":%u", event->row, event->column); break;
-    case HED_KIND_RESIZE: put_size(event); break;
+    case HED_KIND_RESIZED: put_size(event); break;
     case HED_KIND_KEYBOARD_FLAGS: fprintf(output, ",\"flags\":%u", event->flags); break;
     default: break;
   }

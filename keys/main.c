@@ -219,9 +219,9 @@ static bool handle_end(keys *it) {
 }
 
 static void take_size(keys *it) {
-  unsigned columns = 0, rows = 0;
-  hed_terminal_size(1, &columns, &rows);
-  screen_resize(&it->screen, columns, rows);
+  hed_size size = { .columns = 0 };
+  hed_terminal_size(1, &size);
+  screen_resize(&it->screen, size.columns, size.rows);
 }
 
 /* Forgets what is undecided, but for what is open: its rest may still come. */

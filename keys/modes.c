@@ -1,11 +1,12 @@
 #include "modes.h"
+#include "hedrugal_terminal.h"
 
 const mode all_modes[MODE_COUNT] = {
   { .word = "--application-cursor-keys", .on = "\033[?1h", .off = "\033[?1l" },
-  { .word = "--modify-other-keys=1", .on = "\033[>4;1m", .off = "\033[>4m" },
-  { .word = "--modify-other-keys=2", .on = "\033[>4;2m", .off = "\033[>4m" },
-  { .word = "--mouse", .on = "\033[?1003h\033[?1006h", .off = "\033[?1006l\033[?1003l" },
-  { .word = "--bracketed-paste", .on = "\033[?2004h", .off = "\033[?2004l" },
-  { .word = "--focus", .on = "\033[?1004h", .off = "\033[?1004l" },
-  { .word = "--kitty-keyboard", .on = "\033[>31u", .off = "\033[<u", .wants_extended = true },
+  { .word = "--modify-other-keys=1", .on = HED_TERMINAL_MODIFY_OTHER_KEYS_ON(1), .off = HED_TERMINAL_MODIFY_OTHER_KEYS_OFF },
+  { .word = "--modify-other-keys=2", .on = HED_TERMINAL_MODIFY_OTHER_KEYS_ON(2), .off = HED_TERMINAL_MODIFY_OTHER_KEYS_OFF },
+  { .word = "--mouse", .on = HED_TERMINAL_MOUSE_ON, .off = HED_TERMINAL_MOUSE_OFF },
+  { .word = "--bracketed-paste", .on = HED_TERMINAL_PASTE_ON, .off = HED_TERMINAL_PASTE_OFF },
+  { .word = "--focus", .on = HED_TERMINAL_FOCUS_ON, .off = HED_TERMINAL_FOCUS_OFF },
+  { .word = "--kitty-keyboard", .on = HED_TERMINAL_KITTY_ON(31), .off = HED_TERMINAL_KITTY_OFF, .wants_extended = true },
 };

@@ -28,22 +28,23 @@ const flag modifier_flags[] = {
 
 const char *kind_name(uint8_t kind) {
   static const char *const names[] = {
-    [HED_KIND_KEY] = "key",          [HED_KIND_MOUSE] = "mouse",
-    [HED_KIND_PASTE] = "paste",      [HED_KIND_FOCUS_GAINED] = "focus",
-    [HED_KIND_FOCUS_LOST] = "focus", [HED_KIND_CURSOR_POSITION] = "cursor",
-    [HED_KIND_RESIZE] = "resize",    [HED_KIND_KEYBOARD_FLAGS] = "flags",
-    [HED_KIND_CSI] = "csi",          [HED_KIND_OSC] = "osc",
-    [HED_KIND_DCS] = "dcs",          [HED_KIND_APC] = "apc",
-    [HED_KIND_PASTE_PART] = "part",  [HED_KIND_STRING_PART] = "part",
-    [HED_KIND_STRING_CUT] = "cut",
+    [HED_KIND_KEY] = "key",
+    [HED_KIND_MOUSE] = "mouse",
+    [HED_KIND_PASTE] = "paste",
+    [HED_KIND_PASTE_PART] = "paste_part",
+    [HED_KIND_FOCUS_GAINED] = "focus_gained",
+    [HED_KIND_FOCUS_LOST] = "focus_lost",
+    [HED_KIND_CURSOR_POSITION] = "cursor_position",
+    [HED_KIND_RESIZED] = "resized",
+    [HED_KIND_KEYBOARD_FLAGS] = "keyboard_flags",
+    [HED_KIND_CSI] = "csi",
+    [HED_KIND_OSC] = "osc",
+    [HED_KIND_DCS] = "dcs",
+    [HED_KIND_APC] = "apc",
+    [HED_KIND_STRING_PART] = "string_part",
+    [HED_KIND_STRING_CUT] = "string_cut",
   };
   return names[kind];
-}
-
-const char *whole_name(const hed_event *event) {
-  if (event->kind == HED_KIND_PASTE_PART) return kind_name(HED_KIND_PASTE);
-  bool is_string = event->kind == HED_KIND_STRING_PART || event->kind == HED_KIND_STRING_CUT;
-  return is_string ? kind_name(event->string_kind) : NULL;
 }
 
 const char *key_event_kind_name(uint8_t kind) {

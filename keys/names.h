@@ -14,11 +14,8 @@ typedef struct flag {
 /* All modifiers and all buttons. The last has no name. */
 extern const flag modifier_flags[], button_flags[];
 
-/* The kind of an event in one word: key, mouse, paste, focus, cursor, resize, flags, csi, osc, dcs, apc, part or cut. */
+/* The name of a HED_KIND_.. in lower case, as cursor_position, and NULL for HED_KIND_OTHER. */
 const char *kind_name(uint8_t kind);
-
-/* What a part or a cut is of: paste, osc, dcs or apc. NULL for an event of any other kind. */
-const char *whole_name(const hed_event *event);
 
 /* What happened to a key: press, repeat or release. */
 const char *key_event_kind_name(uint8_t kind);

@@ -197,16 +197,19 @@ static void add_mouse(text *out, const hed_event *event) {
 
 static void add_event(text *out, const group *of) {
   const hed_event *event = &of->event;
-  const char *whole = whole_name(event);
-  if (whole) text_add(out, "%s ", whole);
+  const char *string = kind_name(event->string_kind);
+  if (string) text_add(out, "%s ", string);
   switch (event->kind) {
     case HED_KIND_KEY: add_key_event(out, of); break;
     case HED_KIND_MOUSE: add_mouse(out, event); break;
     case HED_KIND_FOCUS_GAINED: text_add(out, "focus gained"); break;
     case HED_KIND_FOCUS_LOST: text_add(out, "focus lost"); break;
-    case HED_KIND_CURSOR_POSITION: text_add(out, "cursor %u %u", event->row, event->column); break;
-    case HED_KIND_RESIZE: text_add(out, "resize %u %u %u %u", event->rows, event->columns, event->height, event->width); break;
+    case HED_KIND_CURSOR_POSITION: text_add(out, "cursor position %u %u", event->row, event->column); break;
+    case HED_KIND_RESIZED: text_add(out, "resized %u %u %u %u", event->rows, event->columns, event->height, event->width); break;
     case HED_KIND_KEYBOARD_FLAGS: text_add(out, "keyboard flags %u", event->flags); break;
+    case HED_KIND_PASTE_PART: add_text(out, "paste part", of); break;
+    case HED_KIND_STRING_PART: add_text(out, "part", of); break;
+    case HED_KIND_STRING_CUT: add_text(out, "cut", of); break;
     default: add_text(out, kind_name(event->kind), of);
   }
 }

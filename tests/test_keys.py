@@ -635,20 +635,24 @@ BACK.update(action="press", button=8)
 FORWARD = {**BACK, "button": 9, "action": "release", "modifiers": ["ALT"]}
 NO_BUTTON = {"kind": "mouse", "x": 3, "y": 4, "buttons": [], "modifiers": []}
 LEFT = {**BACK, "buttons": ["LEFT"], "button": 1}
-SIZE = {"kind": "resize", "rows": 24, "columns": 80, "height": 480, "width": 800}
+SIZE = {"kind": "resized", "rows": 24, "columns": 80, "height": 480, "width": 800}
 A_LINE = "key U+0061 SHIFT repeat shifted U+0041 base U+0063 text 1:41 = A"
 REPORTS = [
     (b"\033[97:65:99;2:2;65u", A_LINE, A),
-    (b"\033[24;80R", "cursor 24 80", {"kind": "cursor", "row": 24, "column": 80}),
-    (b"\033[?5u", "keyboard flags 5", {"kind": "flags", "flags": 5}),
-    (b"\033[48;24;80;480;800t", "resize 24 80 480 800", SIZE),
-    (b"\033[I", "focus gained", {"kind": "focus", "gained": True}),
-    (b"\033[O", "focus lost", {"kind": "focus", "gained": False}),
+    (b"\033[24;80R", "cursor position 24 80", {"kind": "cursor_position", "row": 24, "column": 80}),
+    (b"\033[?5u", "keyboard flags 5", {"kind": "keyboard_flags", "flags": 5}),
+    (b"\033[48;24;80;480;800t", "resized 24 80 480 800", SIZE),
+    (b"\033[I", "focus gained", {"kind": "focus_gained"}),
+    (b"\033[O", "focus lost", {"kind": "focus_lost"}),
     (b"\033[?62c", "csi 4:3f363263", {"kind": "csi", "length": 4, "data": "3f363263"}),
     (b"\033]0;a\007", "osc 3:303b61", {"kind": "osc", "length": 3, "data": "303b61"}),
     (b"\033P>|\033\\", "dcs 2:3e7c", {"kind": "dcs", "length": 2, "data": "3e7c"}),
     (b"\033_Gi=\033\\", "apc 3:47693d", {"kind": "apc", "length": 3, "data": "47693d"}),
-    (b"\033]4;", "osc cut 2:343b", {"kind": "cut", "of": "osc", "length": 2, "data": "343b"}),
+    (
+        b"\033]4;",
+        "osc cut 2:343b",
+        {"kind": "string_cut", "of": "osc", "length": 2, "data": "343b"},
+    ),
     (b"\033[57428u", "key functional 57428 NONE = kitty57428", VOLUME),
     (b"\033[<128;3;4M", "mouse 3 4 NONE NONE press 8", BACK),
     (b"\033[<137;3;4m", "mouse 3 4 NONE ALT release 9", FORWARD),
@@ -902,17 +906,18 @@ def test_long_bindings(bound):
         assert run(f"--bindings={name}", typed=b"x") == (2, "", TOO_LONG)
 
 
-PASTE, COMMAND = ("paste", START, END), ("osc", b"\033]52;", b"\007")
+PASTE = ("paste", "paste_part", None), START, END
+COMMAND = ("osc", "string_part", "osc"), b"\033]52;", b"\007"
 
 
 @pytest.mark.parametrize("word, it", [("", PASTE), ("--extended", PASTE), ("--extended", COMMAND)])
 def test_parts(word, it):
     """Each byte of two long texts belongs to one part, or to its end."""
-    kind, begin, end = it
+    (kind, part, of), begin, end = it
     typed = 2 * (begin + b"x" * (3 << 19) + end)
     told = [*map(json.loads, run("--json", *word.split(), typed=typed)[1].splitlines())]
     assert "".join(it["bytes"] for it in told) == typed.hex()
-    assert {(it["kind"], it.get("of")) for it in told} == {("part", kind), (kind, None)}
+    assert {(it["kind"], it.get("of")) for it in told} == {(part, of), (kind, None)}
     assert [it["kind"] for it in told].count(kind) == 2 and told[-1]["kind"] == kind
 
 

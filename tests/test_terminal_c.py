@@ -6,6 +6,7 @@ import fcntl
 import os
 import re
 import signal
+import struct
 import subprocess
 import termios
 import time
@@ -193,6 +194,13 @@ def test_signal_that_is_ignored(start):
     it.quit()
 
 
+def test_size_in_pixels(start):
+    it = start()
+    fcntl.ioctl(it.child_fd, termios.TIOCSWINSZ, struct.pack("4H", 40, 100, 800, 640))
+    it.play(["resized, 100 x 40\r\n800 x 640 pixels\r\n"])
+    it.quit()
+
+
 def test_signal_in_the_middle_of_a_sequence(start):
     it = start()
     it.play([b"\033[1;5"])
@@ -216,13 +224,16 @@ def test_forked_child(start):
     it.quit()
 
 
-def test_lent_terminal(start):
-    """A child has the terminal as it was, and reads a line."""
-    it = start()
+@pytest.mark.parametrize("word", WAYS)
+def test_lent_terminal(start, word):
+    """A child has the terminal as it was, and reads a line. The program is told that it is back."""
+    it = start(*word.split())
     for line in ("hello", "again"):
         it.play([b"l", key("l"), "icanon\r\n"])
         assert it.settings() == it.settings_before
+        it.resize(70 + len(line), 20)
         it.play([f"{line}\n".encode(), f"line {line}\r\n", "command: 0\r\n"])
+        it.play(["resumed, 75 x 20\r\n"])
         it.wait_for(it.is_raw, "raw mode")
         it.wait_for(lambda: it.modes() == MODES, "modes")
     it.quit()
@@ -231,7 +242,7 @@ def test_lent_terminal(start):
 def test_child_that_changes_the_settings(start):
     """Raw mode is set again, and the settings from before are restored in the end."""
     it = start()
-    it.play([b"c", "command: 0\r\n"])
+    it.play([b"c", "command: 0\r\n", f"{RESUMED}\r\n"])
     it.wait_for(it.is_raw, "raw mode")
     it.quit()
 
@@ -460,13 +471,15 @@ LENT = {
 
 @pytest.mark.parametrize("before, after, told", LENT.values(), ids=LENT)
 def test_lent_after(start, before, after, told):
-    """What came before is told."""
+    """What came before is told, once the program knows that the terminal is back."""
     it = start()
     for _ in range(2):
         it.play([b"l" + before, key("l"), "icanon\r\n", b"hello\n", "command: 0\r\n"])
         it.wait_for(it.is_raw, "raw mode")
         it.play([after, *told])
     it.quit()
+    lines = it.lines()
+    assert [it for line, it in zip(lines, lines[1:]) if line == "command: 0"] == [RESUMED] * 2
 
 
 def test_questions(start):
@@ -478,16 +491,6 @@ def test_questions(start):
     it.play([POSITION * 2 + BACKGROUND, "reply 1, 5, 1 open\r\n" * 2])
     it.play(["reply 11;rgb:1e1e/1e1e/1e1e, 1 open\r\n"])
     it.play([ATTRIBUTES, "reply ?62;22c, 0 open\r\n", POSITION, f"{F3}\r\n"])
-    it.quit()
-
-
-def test_question_without_a_reply(start):
-    """It is closed by its reply to DA1, and later ones stay open."""
-    it = start()
-    it.play([b"669", "asked: yes, 3 open\r\n", ATTRIBUTES, "reply ?62;22c, 2 open\r\n"])
-    it.play([POSITION, "reply 1, 5, 2 open\r\n", ATTRIBUTES, "reply ?62;22c, 1 open\r\n"])
-    it.play([POSITION * 3, "reply 1, 5, 1 open\r\n" * 2, f"{F3}\r\n"])
-    it.play([ATTRIBUTES + POSITION, "reply ?62;22c, 0 open\r\n", f"{F3}\r\n"])
     it.quit()
 
 
@@ -549,8 +552,30 @@ def test_question_at_once_when_it_is_back(start, before, told):
     """It isn't forgotten with those of before, and no reply that came before answers it."""
     it = start()
     for _ in range(2):
-        it.play([b"r" + before, "asked: yes, 1 open\r\n", *told, POSITION + ATTRIBUTES])
-        it.play(["reply 1, 5, 1 open\r\n", "reply ?62;22c, 0 open\r\n"])
+        it.play([b"r" + before, f"asked: yes, 1 open\r\n{RESUMED}\r\n", *told])
+        it.play([POSITION + ATTRIBUTES, "reply 1, 5, 1 open\r\n", "reply ?62;22c, 0 open\r\n"])
+    it.quit()
+
+
+def test_question_when_it_is_told_to_be_back(start):
+    it = start()
+    it.play([b"t", key("t")])
+    for _ in range(2):
+        it.ask()
+        it.stop()
+        it.continue_in_foreground()
+        it.play([f"{RESUMED}\r\n", "asked: yes, 1 open\r\n", POSITION + ATTRIBUTES])
+        it.play(["reply 1, 5, 1 open\r\n", "reply ?62;22c, 0 open\r\n", POSITION, f"{F3}\r\n"])
+    it.quit()
+
+
+def test_question_that_cannot_be_written(start):
+    """It isn't open, and those from before are as they were."""
+    it = start()
+    it.play([b"6u", "asked: yes, 1 open\r\n", "asked: the terminal can't be written, 1 open\r\n"])
+    it.play([POSITION * 2, "reply 1, 5, 1 open\r\n", f"{F3}\r\n"])
+    it.play([ATTRIBUTES, "reply ?62;22c, 0 open\r\n", b"u", "can't be written, 0 open\r\n"])
+    it.play([POSITION, f"{F3}\r\n"])
     it.quit()
 
 
@@ -621,6 +646,15 @@ def test_no_reply_at_the_end(start, seconds):
     assert it.what_is_left(terminal, 0) == b""
     least, most = (0.9, 1.3) if seconds else (0.15, 0.5)
     assert least < time.monotonic() - began < most
+
+
+@pytest.mark.timed
+def test_reply_that_is_overdue_at_the_end(start):
+    """It is owed no longer, also if the program hasn't waited since, so nothing is discarded."""
+    it = start()
+    terminal = it.open_terminal()
+    it.play([b"6" + 8 * b"kk" + b"q", "asked: yes, 1 open\r\n", 1.0, b"ls\r"])
+    assert it.what_is_left(terminal, 0) == b"ls\r"
 
 
 @pytest.mark.timed
