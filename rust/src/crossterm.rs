@@ -13,13 +13,15 @@
 //!
 //! ```
 //! use crossterm::event::{Event, KeyCode, KeyEvent, KeyModifiers};
-//! use hedrugal::extended::{self, Dialect, ExtendedParser};
+//! use hedrugal::{Dialect, Parser};
+//! use std::time::Instant;
 //!
-//! let mut events = ExtendedParser::new(Dialect::Extended).parse_as_vec(b"\x1b[1;5A\x1b[?0u", true);
-//! let reply = events.pop().unwrap();
+//! let mut parser = Parser::new(Dialect::Extended);
+//! parser.feed(Instant::now(), b"\x1b[1;5A\x1b[?0u");
+//! let (first, reply) = (parser.next().unwrap(), parser.next().unwrap());
 //! let up = KeyEvent::new(KeyCode::Up, KeyModifiers::CONTROL);
-//! assert_eq!(Event::try_from(events.remove(0)), Ok(Event::Key(up)));
-//! assert_eq!(Event::try_from(reply), Err(extended::Event::KeyboardFlags(0)));
+//! assert_eq!(Event::try_from(first), Ok(Event::Key(up)));
+//! assert_eq!(Event::try_from(reply.clone()), Err(reply));
 //! ```
 //!
 //! crossterm's type can't say:
@@ -33,12 +35,11 @@
 //! - of a key report that it has: what the key types with Shift or on the standard layout, and its
 //!   text. A text of several characters is a paste
 //! - that the program goes on after it was stopped: [`event::read`] returns its size then
-use crate::extended::{
-    self, typed_text, KeyEventKind, KeyPress, KeyReport, KittyModifiers, MouseKind, MouseReport,
-    Reading, ReportedKey,
+use crate::terminal::{restore, Modes, RawMode, Terminal};
+use crate::{
+    typed_text, Event, KeyCode, KeyEventKind, KeyPress, KeyReport, KittyModifiers, Modifiers,
+    MouseKind, MouseReport, Reading, ReportedKey,
 };
-use crate::input::{KeyCode, Modifiers};
-use crate::terminal::{restore, Event, Modes, RawMode, Terminal};
 use ::crossterm::event as theirs;
 use ::crossterm::terminal::{disable_raw_mode, enable_raw_mode, is_raw_mode_enabled};
 use std::io;
@@ -57,13 +58,14 @@ pub mod event {
 /// ```
 /// use crossterm::event::{Event, MouseButton, MouseEventKind};
 /// use hedrugal::crossterm::Converter;
-/// use hedrugal::extended::{Dialect, ExtendedParser};
+/// use hedrugal::{Dialect, Parser};
+/// use std::time::Instant;
 ///
-/// let (press, moved, release) = (b"\x1b[<2;1;1M", b"\x1b[<34;2;1M", b"\x1b[35;2;1M");
-/// let sent = [&press[..], moved, release].concat();
+/// let mut parser = Parser::new(Dialect::Extended);
+/// parser.feed(Instant::now(), b"\x1b[<2;1;1M\x1b[<34;2;1M\x1b[35;2;1M");
 /// let mut converter = Converter::default();
 /// let mut kinds = Vec::new();
-/// for event in ExtendedParser::new(Dialect::Extended).parse_as_vec(&sent, true) {
+/// for event in parser {
 ///     if let Ok(Event::Mouse(mouse)) = converter.convert(event) {
 ///         kinds.push(mouse.kind);
 ///     }
@@ -80,33 +82,32 @@ pub struct Converter {
 }
 
 impl Converter {
-    /// Converts an event.
+    /// Converts an event. A part of a paste is a paste.
     ///
     /// ```
     /// use crossterm::event::Event;
     /// use hedrugal::crossterm::Converter;
-    /// use hedrugal::extended;
     ///
     /// let mut converter = Converter::default();
-    /// assert_eq!(converter.convert(extended::Event::FocusLost), Ok(Event::FocusLost));
+    /// assert_eq!(converter.convert(hedrugal::Event::FocusLost), Ok(Event::FocusLost));
     /// ```
     ///
     /// # Errors
     ///
     /// The event, if crossterm's type can't say it.
-    pub fn convert(&mut self, event: extended::Event) -> Result<theirs::Event, extended::Event> {
+    pub fn convert(&mut self, event: Event) -> Result<theirs::Event, Event> {
+        if let Event::Paste(text) | Event::PastePart(text) = event {
+            return Ok(theirs::Event::Paste(text));
+        }
         let converted = match &event {
-            extended::Event::Key(report) => match typed_text(report) {
+            Event::Key(report) => match typed_text(report) {
                 "" => key(report).map(theirs::Event::Key),
                 text => Some(theirs::Event::Paste(text.to_string())),
             },
-            extended::Event::Mouse(report) => self.mouse(report).map(theirs::Event::Mouse),
-            extended::Event::Paste(text) => Some(theirs::Event::Paste(text.clone())),
-            extended::Event::FocusGained => Some(theirs::Event::FocusGained),
-            extended::Event::FocusLost => Some(theirs::Event::FocusLost),
-            extended::Event::Resize { columns, rows, .. } => {
-                Some(theirs::Event::Resize(*columns, *rows))
-            }
+            Event::Mouse(report) => self.mouse(report).map(theirs::Event::Mouse),
+            Event::FocusGained => Some(theirs::Event::FocusGained),
+            Event::FocusLost => Some(theirs::Event::FocusLost),
+            Event::Resized(size) => Some(theirs::Event::Resize(size.columns, size.rows)),
             _ => None,
         };
         converted.ok_or(event)
@@ -348,26 +349,12 @@ fn functional_code(number: u32) -> Option<(theirs::KeyCode, bool)> {
     })
 }
 
-impl TryFrom<extended::Event> for theirs::Event {
-    type Error = extended::Event;
-
-    /// Does what a [`Converter`] does, of which no mouse button was down before.
-    fn try_from(event: extended::Event) -> Result<theirs::Event, extended::Event> {
-        Converter::default().convert(event)
-    }
-}
-
 impl TryFrom<Event> for theirs::Event {
     type Error = Event;
 
-    /// Does the same. A part of a paste is a paste.
+    /// Does what a [`Converter`] does, of which no mouse button was down before.
     fn try_from(event: Event) -> Result<theirs::Event, Event> {
-        match event {
-            Event::Input(event) => theirs::Event::try_from(event).map_err(Event::Input),
-            Event::PastePart(text) => Ok(theirs::Event::Paste(text)),
-            Event::Resized { columns, rows } => Ok(theirs::Event::Resize(columns, rows)),
-            Event::Resumed => Err(event),
-        }
+        Converter::default().convert(event)
     }
 }
 
@@ -419,16 +406,9 @@ impl Reader {
             }
             let event = self.terminal.read()?;
             let event = event.ok_or(io::ErrorKind::UnexpectedEof)?;
-            self.front = self.convert(event);
+            self.front = self.converter.convert(event).ok();
         }
         Ok(true)
-    }
-
-    fn convert(&mut self, event: Event) -> Option<theirs::Event> {
-        match event {
-            Event::Input(event) => self.converter.convert(event).ok(),
-            event => event.try_into().ok(),
-        }
     }
 }
 

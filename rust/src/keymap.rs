@@ -10,7 +10,7 @@
 //! assert_eq!(map.lookup("\x1b[", true), Found::Ambiguous(1, "escape"));
 //! assert_eq!(map.lookup("a", true), Found::None);
 //! ```
-use crate::input::{granted, AllocError, FAULT};
+use crate::error::{granted, AllocError, FAULT};
 use crate::raw;
 use std::error;
 use std::fmt::{self, Debug};

@@ -1,33 +1,55 @@
-//! The key input of termwiz 0.23.3: key, mouse and paste events from the bytes that a terminal
-//! sends, the bytes that it sends for a key, and a map from byte strings to values. The items of
-//! [`input`] and [`keymap`] have termwiz's names, and so has [`escape::csi::KittyKeyboardFlags`].
-//! Left out are termwiz's modules `terminal`, `caps`, `surface`, `lineedit` and `readbuf`, the rest
-//! of `escape`, and Windows. [`extended`] is beyond termwiz: a parser of all that terminals send, by
-//! any keyboard protocol, and of what they reply. So is [`terminal`]: raw mode, and the events of the
-//! program's own terminal.
+//! The input of a terminal: keys, the mouse, pastes, and what the terminal replies, from the bytes
+//! that it sends.
 //!
-//! Behind them is a library whose calls are proved against their contracts. The proof ends at those
-//! calls; this crate is tested.
+//! A [`Parser`] reads what terminals send in any mode and by any keyboard protocol, so no program
+//! has to tell it which ones are on. The program's loop feeds it, and takes its [`Event`]s:
 //!
 //! ```
-//! use hedrugal::input::{InputEvent, InputParser, KeyCode, KeyEvent, Modifiers};
+//! use hedrugal::{Dialect, Event, Parser};
+//! use std::sync::mpsc::{self, Receiver, RecvTimeoutError};
+//! use std::time::{Duration, Instant};
 //!
-//! let mut parser = InputParser::new();
-//! let events = parser.parse_as_vec(b"\x1b[1;5A", true);
-//! assert_eq!(
-//!     events,
-//!     [InputEvent::Key(KeyEvent {
-//!         key: KeyCode::UpArrow,
-//!         modifiers: Modifiers::CTRL,
-//!     })]
-//! );
+//! fn run(reads: Receiver<Vec<u8>>, mut handle: impl FnMut(Event)) {
+//!     let mut parser = Parser::new(Dialect::Extended);
+//!     loop {
+//!         parser.by_ref().for_each(&mut handle);
+//!         let wait = parser.timeout(Instant::now()).unwrap_or(Duration::MAX);
+//!         match reads.recv_timeout(wait) {
+//!             Ok(bytes) => parser.feed(Instant::now(), &bytes),
+//!             Err(RecvTimeoutError::Timeout) => parser.idle(Instant::now()),
+//!             Err(RecvTimeoutError::Disconnected) => break,
+//!         }
+//!     }
+//!     parser.end();
+//!     parser.for_each(handle);
+//! }
+//!
+//! let (sender, reads) = mpsc::channel();
+//! sender.send(b"q\x1b[1;5A\x1b".to_vec()).unwrap();
+//! drop(sender);
+//! let mut names = Vec::new();
+//! run(reads, |event| names.extend(event.press().map(|press| press.to_string())));
+//! assert_eq!(names, ["q", "ctrl+up", "escape"]);
 //! ```
 //!
-//! A program that names termwiz's paths keeps its `use` lines by this dependency:
+//! Every key is a [`KeyReport`], typed or reported. A [`KeyPress`] is one name for it, however its
+//! terminal reports it, and a [`Chord`] is a list of these. [`Bindings`] tell what a program does at
+//! which chords, and a [`Matcher`] reads keys by them. docs/EXTENDED.md of the repository says what
+//! bytes mean.
+//!
+//! The other way are [`Event::encode`], [`KeyReport::encode`], [`SentMouse::encode`] and the
+//! functions here, for a terminal or a multiplexer.
+//!
+//! [`terminal`] has raw mode and the events of the program's own terminal. [`input`], [`keymap`] and
+//! [`escape`] have the names and paths of termwiz 0.23.3: a program that names them keeps its `use`
+//! lines by this dependency:
 //!
 //! ```toml
 //! termwiz = { package = "hedrugal", path = "hedrugal/rust" }
 //! ```
+//!
+//! Behind the package is a library whose calls are proved against their contracts. The proof ends at
+//! those calls; this crate is tested.
 //!
 //! A build finds the installed library by pkg-config, and without one takes the prebuilt one of the
 //! repository. `HEDRUGAL_LIBRARY` comes first: it names the file of a library, or the folder that
@@ -39,42 +61,77 @@
 //!
 //! # If memory is refused
 //!
-//! `new`, `feed`, `next_event`, `parse`, `parse_as_vec`, `end_paste`, `encode` and `insert` panic,
-//! and `take_paste`, `expire` and the forms whose names begin with `try_` return an
-//! error, after which every value may be used again. No event is lost: each error says how to go on.
+//! The plain forms, such as [`Parser::new`], [`Parser::feed`] and the iterator, panic. The forms
+//! whose names begin with `try_` return an error, after which every value may be used again. No
+//! event is lost: each error says how to go on.
 //!
 //! # Many parsers
 //!
 //! All parsers of a process share one sequence table. The first call that makes a parser makes the
 //! table too, which takes some half a millisecond, and it stays until the process ends. A further
-//! parser takes well below a microsecond and some two hundred bytes, and its buffer grows with what it
-//! reads. [`shrink_to`](input::InputParser::shrink_to) gives the memory of a session that is quiet
-//! back.
+//! parser takes well below a microsecond and some 250 bytes of the heap. Its buffer grows with what
+//! it reads. [`Parser::shrink_to`] gives the memory of a session that is quiet back.
 //!
 //! # Threads
 //!
-//! [`InputParser`](input::InputParser) is `Send` and `Sync`. Calls that change it borrow it alone
-//! (`&mut self`). Those that only read it ([`waiting`](input::InputParser::waiting),
-//! [`waiting_len`](input::InputParser::waiting_len),
-//! [`is_paste_open`](input::InputParser::is_paste_open), [`entry`](input::InputParser::entry) and
-//! [`completions`](input::InputParser::completions)) may be called by several threads, and lock it,
-//! since the library allows one thread at a time. The same holds for
-//! [`ExtendedParser`](extended::ExtendedParser), which has the first three of these. Parsers that
-//! share the table may be in different threads; making one locks the table for that moment. In a
-//! child of fork whose parent has threads, make no call before exec.
+//! A [`Parser`] is `Send` and `Sync`. Calls that change it borrow it alone (`&mut self`). Those that
+//! only read it may be made by several threads, and lock it, since the library allows one thread at a
+//! time. Parsers that share the table may be in different threads; making one locks the table for
+//! that moment. In a child of fork whose parent has threads, make no call before exec.
 //!
-//! [`KeyMap`](keymap::KeyMap) is `Send` and `Sync` if its values are. Lookups may be called by
-//! several threads too, and lock it.
+//! [`KeyMap`](keymap::KeyMap) and [`Bindings`] are `Send` and `Sync` if their values are. Lookups may
+//! be made by several threads too, and lock them.
 #![deny(missing_docs)]
 
+mod bindings;
+mod chord;
 #[cfg(feature = "crossterm")]
 pub mod crossterm;
+mod encode;
+mod entries;
+mod error;
 pub mod escape;
-pub mod extended;
+mod event;
 pub mod input;
 pub mod keymap;
-mod library_parser;
+mod matcher;
+mod names;
+mod parser;
+mod policy;
+mod press;
+mod questions;
 mod raw;
+mod reading;
+mod replies;
+mod sending;
 mod table;
 pub mod terminal;
+mod timer;
 mod times;
+mod written;
+
+pub use bindings::{BindError, BindErrorKind, Bindings, Iter};
+pub use chord::{Chord, Presses};
+pub use encode::KittyEncodeError;
+pub use entries::{Completions, EntryBytes};
+pub use error::{AllocError, FeedError};
+pub use event::{
+    Event, KeyEventKind, KeyReport, MouseKind, MouseReport, ReportedKey, Size, StringKind,
+};
+pub use input::flags::KittyModifiers;
+pub use input::{KeyCode, KittyKeyboardFlags, Modifiers, MouseButtons};
+pub use matcher::{Matcher, Outcome, Outcomes};
+pub use names::{KeyNameError, KeyNameErrorKind};
+pub use parser::{Parser, Waiting};
+pub use policy::Policy;
+pub use press::{typed_text, KeyPress};
+pub use reading::{Dialect, EraseByte, NewlineByte, Reading};
+pub use replies::{Colour, ColourName, ColourScheme, DeviceAttributes, ModeState, Reply};
+pub use sending::{
+    encode_paste, try_encode_paste, MouseButton, MouseEncoding, MouseError, MouseTracking,
+    SentMouse,
+};
+pub use timer::{Age, Seen, Timer};
+pub use written::{
+    encode_colour_scheme, encode_cursor_position, encode_device_attributes, EncodeEventError,
+};

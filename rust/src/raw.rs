@@ -33,7 +33,7 @@ pub const STATUS_TOO_FAR: u32 = 10;
 pub const STATUS_AMBIGUOUS: u32 = 11;
 /// No key of the map is a prefix of the text, but the text is a prefix of some key.
 pub const STATUS_NEED_DATA: u32 = 12;
-/// 32 presses are pending, and the press isn't.
+/// No more fits: 32 presses are pending, or 16 questions are open.
 pub const STATUS_FULL: u32 = 13;
 /// A control character but the tab is in the text.
 pub const STATUS_NAME_CONTROL_CHARACTER: u32 = 20;
@@ -97,7 +97,7 @@ pub const KIND_FOCUS_LOST: u8 = 6;
 /// The reply to a question for the cursor's position.
 pub const KIND_CURSOR_POSITION: u8 = 7;
 /// The terminal has a new size (mode 2048).
-pub const KIND_RESIZE: u8 = 8;
+pub const KIND_RESIZED: u8 = 8;
 /// The reply to a question for the flags of Kitty's keyboard protocol.
 pub const KIND_KEYBOARD_FLAGS: u8 = 9;
 /// Any other control sequence.
@@ -523,6 +523,30 @@ pub struct Reply {
     pub len: usize,
 }
 
+/// The most questions that are open at once.
+pub const QUESTIONS_MOST: usize = 16;
+
+/// A question that is open.
+#[repr(C)]
+#[derive(Debug, Clone, Copy, Default)]
+pub struct Question {
+    pub number: u64,
+    pub asked: u64,
+    pub until: u64,
+    pub positions: u32,
+}
+
+/// The questions that a program has asked its terminal. Its default is before the first.
+#[repr(C)]
+#[derive(Debug, Clone, Copy, Default)]
+pub struct Questions {
+    pub asked: u64,
+    pub answered: u64,
+    pub slowest: u64,
+    pub count: u32,
+    pub open: [Question; QUESTIONS_MOST],
+}
+
 // The layouts that the library was proved with.
 const _: () = {
     assert!(size_of::<Parser>() == 16 && offset_of!(Parser, state) == 8);
@@ -584,6 +608,12 @@ const _: () = {
     );
     assert!(offset_of!(Reply, index) == 8 && offset_of!(Reply, columns) == 18);
     assert!(offset_of!(Reply, mode) == 20 && offset_of!(Reply, len) == 24);
+    assert!(size_of::<Question>() == 32 && offset_of!(Question, positions) == 24);
+    assert!(
+        size_of::<Questions>() == 544
+            && offset_of!(Questions, count) == 24
+            && offset_of!(Questions, open) == 32
+    );
 };
 
 extern "C" {
@@ -598,6 +628,7 @@ extern "C" {
     pub fn hed_parser_idle(parser: *mut Parser, now: u64);
     pub fn hed_parser_flush(parser: *mut Parser);
     pub fn hed_parser_end(parser: *mut Parser);
+    pub fn hed_parser_interrupted(parser: *mut Parser, now: u64) -> u32;
     pub fn hed_parser_set_parts(parser: *mut Parser, limit: usize);
     pub fn hed_parser_skip_paste(parser: *mut Parser, count: *mut usize) -> u32;
     pub fn hed_parser_reset(parser: *mut Parser) -> usize;
@@ -784,4 +815,25 @@ extern "C" {
         out: *mut u8,
         capacity: usize,
     ) -> u32;
+    pub fn hed_questions_ask(
+        questions: *mut Questions,
+        parser: *mut Parser,
+        now: u64,
+        milliseconds: u64,
+        text: *const u8,
+        text_len: usize,
+        number: *mut u64,
+    ) -> u32;
+    pub fn hed_questions_note(
+        questions: *mut Questions,
+        parser: *mut Parser,
+        now: u64,
+        event: *const Event,
+        text: *const u8,
+        text_len: usize,
+        number: *mut u64,
+    ) -> u32;
+    pub fn hed_questions_expire(questions: *mut Questions, parser: *mut Parser, now: u64) -> u32;
+    pub fn hed_questions_forget(questions: *mut Questions, parser: *mut Parser);
+    pub fn hed_questions_timeout(questions: *const Questions, now: u64) -> i32;
 }

@@ -12,7 +12,7 @@
 // A child of fork has a copy of the table, and may make parsers. If its parent has threads, it may
 // not before exec, as the library's header says: another thread may have held this lock at the
 // fork, or malloc's.
-use crate::input::{granted, AllocError};
+use crate::error::{granted, AllocError};
 use crate::raw;
 use std::sync::{Mutex, PoisonError};
 

@@ -23,10 +23,8 @@
 //! No other module of this package does input of its own.
 #[cfg(feature = "tokio")]
 mod decoder;
-mod events;
 mod leftover;
 mod modes;
-mod questions;
 mod raw_mode;
 mod reader;
 #[cfg(feature = "mio")]
@@ -37,9 +35,22 @@ mod unix;
 
 #[cfg(feature = "tokio")]
 pub use decoder::EventDecoder;
-pub use events::Event;
 pub use modes::Modes;
 pub use raw_mode::{restore, Heeded, RawMode};
 pub use reader::{Answers, Terminal};
 #[cfg(feature = "tokio")]
 pub use stream::EventStream;
+
+use crate::{AllocError, Parser, Reading};
+
+// Of a paste so much is buffered, or it comes in parts.
+const PASTE_LIMIT: usize = 1 << 20;
+
+// A parser for a terminal that is read so. All is told, so its timeout is none.
+fn parser_of(reading: Reading) -> Result<Parser, AllocError> {
+    let mut parser = Parser::try_new(reading.dialect)?;
+    parser.set_reading(reading);
+    parser.set_parts(Some(PASTE_LIMIT));
+    parser.try_next()?;
+    Ok(parser)
+}

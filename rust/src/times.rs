@@ -1,5 +1,4 @@
 // Times as the library counts them, in milliseconds.
-use crate::raw;
 use std::time::{Duration, Instant};
 
 // Tells the library what time it is. It counts from the first time that it was told.
@@ -21,55 +20,9 @@ impl Clock {
         let first = self.first.unwrap_or(now);
         let millis = |time: Duration| u64::try_from(time.as_millis()).unwrap_or(FIRST);
         let before = first.saturating_duration_since(now);
-        FIRST.saturating_add(millis(now.saturating_duration_since(first))) - millis(before)
-    }
-}
-
-// The clock of a parser that is fed without times: bytes came at the next time that is noted. So it
-// stands then, unless what is buffered is limited since its first byte, which came before.
-#[derive(Debug, Default)]
-pub(crate) struct FedClock {
-    clock: Clock,
-    noted: Option<u64>,
-    millis: u64,
-    // How much older than by this clock the first byte is that is buffered.
-    behind: u64,
-    // What happened since the last note.
-    pub has_fed: bool,
-    pub is_front_new: bool,
-}
-
-impl FedClock {
-    // What the library was told last.
-    pub fn millis(&self) -> u64 {
-        self.millis
-    }
-
-    // Notes a time, while this is what waits. Returns what the library is told.
-    pub fn note(&mut self, now: Instant, waiting: u32) -> u64 {
-        let now = self.clock.begin(now);
-        let step = now.saturating_sub(self.noted.unwrap_or(now));
-        if self.is_front_new {
-            self.behind = 0;
-        }
-        match waiting {
-            // Limited since bytes last came.
-            raw::WAITING_ESCAPE | raw::WAITING_PASTE if !self.has_fed => {
-                self.millis = self.millis.saturating_add(step)
-            }
-            _ if self.is_front_new => {}
-            raw::WAITING_ESCAPE | raw::WAITING_PASTE => {
-                self.behind = self.behind.saturating_add(step)
-            }
-            _ => {
-                let older = step.saturating_add(std::mem::take(&mut self.behind));
-                self.millis = self.millis.saturating_add(older);
-            }
-        }
-        self.noted = Some(now);
-        self.has_fed = false;
-        self.is_front_new = waiting == raw::WAITING_NOTHING;
-        self.millis
+        FIRST
+            .saturating_add(millis(now.saturating_duration_since(first)))
+            .saturating_sub(millis(before))
     }
 }
 

@@ -4,17 +4,16 @@
 // What a thread of the tests asks for is refused if that thread said so.
 mod malloc;
 
-use hedrugal::extended::{
-    BindErrorKind, Bindings, Chord, Dialect, EncodeEventError, Event, ExtendedParser, KeyEventKind,
-    KeyReport, KittyEncodeError, KittyModifiers, Reading, ReportedKey, StringKind,
-};
-use hedrugal::input::{try_encode_paste, MouseButton, MouseEncoding, MouseError};
 use hedrugal::input::{
-    AllocError, EncodeError, InputEvent, InputParser, KeyCode, KeyCodeEncodeModes, KeyboardEncoding,
+    EncodeError, InputEvent, InputParser, KeyCodeEncodeModes, KeyboardEncoding, ParseError,
 };
-use hedrugal::input::{KittyKeyboardFlags, Modifiers, ParseError, Policy, Waiting};
-use hedrugal::input::{MouseReport, MouseTracking};
 use hedrugal::keymap::{Found, InsertError, KeyMap};
+use hedrugal::{
+    try_encode_paste, AllocError, BindErrorKind, Bindings, Chord, Dialect, EncodeEventError, Event,
+    FeedError, KeyCode, KeyEventKind, KeyReport, KittyEncodeError, KittyKeyboardFlags,
+    KittyModifiers, Modifiers, MouseButton, MouseEncoding, MouseError, MouseTracking, Parser,
+    Policy, Reading, ReportedKey, SentMouse, StringKind, Waiting,
+};
 use malloc::{in_use, refusing};
 use std::fmt::{Debug, Write};
 use std::time::{Duration, Instant};
@@ -120,69 +119,135 @@ fn goes_on_with_try_parse_as_vec() {
 const REPLIES: &[u8] =
     b"q\x1b[97;5:3u\x1b[97;2;65u\x1b[24;80R\x1b[?62;22c\x1b]11;rgb:1e1e/1e1e/1e1e\x1b\\\x1bP>|kitty\x1b\x1b[200~text\x1b[201~\x1b]l\x07";
 
-// Reads these in pieces by `ExtendedParser` with one request refused. Returns the events, and
-// how many refusals were told.
-fn read_replies(piece: usize, number: usize) -> (Vec<Event>, usize) {
-    let mut parser = ExtendedParser::new(Dialect::Extended);
-    let mut events = Vec::with_capacity(64);
-    let (told, refused) = refusing(number, || {
-        let mut told = 0;
-        for mut bytes in REPLIES.chunks(piece) {
-            while let Err(error) = parser.try_parse(bytes, |event| events.push(event), true) {
+// How long anything waits at most here.
+const LATER: Duration = Duration::from_secs(10);
+
+// Feeds bytes until they are taken. Returns the refusals that were told.
+fn feed(parser: &mut Parser, now: Instant, bytes: &[u8]) -> usize {
+    let mut told = 0;
+    while let Err(error) = parser.try_feed(now, bytes) {
+        assert_eq!(error, FeedError::Memory);
+        told += 1;
+    }
+    told
+}
+
+// Takes all events. One that is refused memory comes first, and is due at once. Returns the
+// refusals that were told.
+fn take(parser: &mut Parser, now: Instant, events: &mut Vec<Event>) -> usize {
+    let mut told = 0;
+    loop {
+        match parser.try_next() {
+            Ok(Some(event)) => events.push(event),
+            Ok(None) => return told,
+            Err(AllocError) => {
+                assert_eq!(parser.timeout(now), Some(Duration::ZERO));
+                assert_eq!(parser.interrupted(now), Err(FeedError::Busy));
                 told += 1;
-                if error == ParseError::Taken {
-                    bytes = b"";
-                }
             }
         }
-        told
+    }
+}
+
+// Reads these in pieces, and then a string that stalls and a paste in parts without an end, with one
+// request refused. Returns the events, and how many refusals were told.
+fn read_replies(piece: usize, number: usize) -> (Vec<Event>, usize) {
+    let (mut parser, now) = (Parser::new(Dialect::Extended), Instant::now());
+    let mut events = Vec::with_capacity(64);
+    parser.set_parts(Some(4));
+    let (told, refused) = refusing(number, || {
+        let mut told = 0;
+        for bytes in REPLIES.chunks(piece) {
+            told += feed(&mut parser, now, bytes);
+            told += take(&mut parser, now, &mut events);
+        }
+        told += feed(&mut parser, now, b"\x1b]11;rgb");
+        told += take(&mut parser, now, &mut events);
+        parser.idle(now + LATER);
+        told += take(&mut parser, now + LATER, &mut events);
+        told += feed(&mut parser, now, b"\x1b[200~a long text\x1b[20");
+        told += take(&mut parser, now, &mut events);
+        parser.end();
+        told + take(&mut parser, now, &mut events)
     });
     assert_eq!(told, refused, "pieces of {piece}, request {number}");
     (events, refused)
 }
 
 #[test]
-fn goes_on_with_the_extended_parser() {
-    for piece in [1, 7, REPLIES.len()] {
+fn goes_on_with_a_parser() {
+    for piece in [7, REPLIES.len()] {
         let (whole, none) = read_replies(piece, 0);
-        assert_eq!((whole.len(), none), (9, 0));
+        let rest = [
+            Event::StringCut {
+                kind: StringKind::Osc,
+                bytes: b"11;rgb".to_vec(),
+            },
+            Event::PastePart("a long text".to_string()),
+            Event::Paste("\x1b[20".to_string()),
+        ];
+        assert_eq!((&whole[whole.len() - 3..], none), (&rest[..], 0));
         let mut number = 1;
         while read_replies(piece, number).1 > 0 {
-            assert_eq!(
-                read_replies(piece, number).0,
-                whole,
-                "pieces of {piece}, request {number}"
-            );
+            let events = read_replies(piece, number).0;
+            assert_eq!(events, whole, "pieces of {piece}, request {number}");
             number += 1;
         }
         assert!(number > 8);
     }
 }
 
-// Bytes are fed in the middle of a flush with each request refused in turn. A refusal takes none of
-// them, and what the flush tells comes first.
-#[test]
-fn feeds_within_a_flush_after_a_refusal() {
+// Parsers that took these bytes, and were refused memory for an event: one for each request.
+fn refused_parsers(bytes: &[u8]) -> Vec<Parser> {
+    let mut parsers = Vec::new();
     for number in 1.. {
-        let mut parser = ExtendedParser::new(Dialect::Extended);
-        parser.feed(b"q\x1b]11;rgb");
-        let mut events = Vec::from_iter(parser.next_event(false));
-        let (fed, refused) = refusing(number, || parser.try_feed(b"\x1b[I"));
-        assert_eq!(fed.is_err(), refused > 0);
-        if refused > 0 {
-            parser.feed(b"\x1b[I");
+        let mut parser = Parser::new(Dialect::Extended);
+        parser.feed(Instant::now(), bytes);
+        match refusing(number, || parser.try_next()) {
+            (Err(AllocError), 1) => parsers.push(parser),
+            (told, refused) => {
+                assert!(told.is_ok() && refused == 0);
+                break;
+            }
         }
-        events.extend(std::iter::from_fn(|| parser.next_event(true)));
-        let cut = Event::StringCut {
-            kind: StringKind::Osc,
-            bytes: b"11;rgb".to_vec(),
-        };
-        assert!(events[0].key().is_some());
-        assert_eq!(events[1..], [cut, Event::FocusGained]);
-        if refused == 0 {
-            assert!(number > 3);
-            break;
-        }
+    }
+    assert_ne!(parsers.len(), 0);
+    parsers
+}
+
+const PASTE_AND_ESCAPE: &[u8] = b"\x1b[200~text\x1b[201~\x1b";
+
+fn text() -> Event {
+    Event::Paste("text".to_string())
+}
+
+// A refused event comes before all else: what is fed, flushed or due behind it.
+#[test]
+fn tells_a_refused_event_first() {
+    let now = Instant::now();
+    for mut parser in refused_parsers(PASTE_AND_ESCAPE) {
+        parser.feed(now, b"[A");
+        parser.shrink_to(0);
+        assert_eq!(parser.next(), Some(text()));
+        assert_eq!(parser.count(), 1);
+    }
+    for mut parser in refused_parsers(PASTE_AND_ESCAPE) {
+        parser.idle(now + LATER);
+        assert_eq!(parser.timeout(now), Some(Duration::ZERO));
+        assert_eq!((parser.next(), parser.next()), (Some(text()), None));
+        assert_eq!(parser.waiting(), Waiting::Escape);
+    }
+    for mut parser in refused_parsers(PASTE_AND_ESCAPE) {
+        parser.end();
+        assert_eq!((parser.next(), parser.count()), (Some(text()), 1));
+    }
+}
+
+#[test]
+fn forgets_a_refused_event() {
+    for mut parser in refused_parsers(PASTE_AND_ESCAPE) {
+        assert!(parser.reset() > 0);
+        assert_eq!((parser.next(), parser.waiting_len()), (None, 0));
     }
 }
 
@@ -192,19 +257,14 @@ fn feeds_within_a_flush_after_a_refusal() {
 fn answers_each_question_once_after_a_refusal() {
     let bytes = b"\x1b[1;5R\x1b]4;\x07\x1b[1;5R\x1b[?1;5c\x1b[1;5R";
     for number in 1.. {
-        let mut parser = ExtendedParser::new(Dialect::Extended);
+        let (mut parser, now) = (Parser::new(Dialect::Extended), Instant::now());
         parser.expect_position();
         parser.expect_position();
-        let (first, refused) = refusing(number, || parser.try_parse_as_vec(bytes, true));
-        let events = match first {
-            Ok(events) => events,
-            Err(error) => {
-                let rest: &[u8] = if error.taken { b"" } else { bytes };
-                let mut events = error.events;
-                events.extend(parser.parse_as_vec(rest, true));
-                events
-            }
-        };
+        let mut events = Vec::with_capacity(8);
+        let (told, refused) = refusing(number, || {
+            feed(&mut parser, now, bytes) + take(&mut parser, now, &mut events)
+        });
+        assert_eq!(told, refused);
         let position = Event::CursorPosition { row: 1, column: 5 };
         let is_position: Vec<bool> = events.iter().map(|event| *event == position).collect();
         assert_eq!(is_position, [true, false, true, false, false]);
@@ -218,7 +278,7 @@ fn answers_each_question_once_after_a_refusal() {
 
 #[test]
 fn changes_a_reading_without_memory() {
-    let mut parser = ExtendedParser::new(Dialect::Extended);
+    let mut parser = Parser::new(Dialect::Extended);
     let reading = Reading {
         x10_mouse: true,
         questions: 3,
@@ -322,311 +382,74 @@ fn binds_after_a_refusal() {
     assert!(granted > Some(5), "{granted:?}");
 }
 
-// A parser with an open paste, which has the text `OPEN_TEXT` if it is ended.
-fn parser_in_a_paste() -> InputParser {
-    let mut parser = InputParser::new();
-    assert_eq!(
-        parser.parse_as_vec(b"\x1b[200~h\xc3\xb6lle \xff\xff \x1b[", true),
-        []
-    );
-    parser
-}
-
-const OPEN_TEXT: &str = "hölle \u{fffd}\u{fffd} \x1b[";
-
-// Ends a paste with each request refused in turn, and goes on: the first event then is the paste.
-fn check_end(go_on: impl Fn(&mut InputParser) -> Vec<InputEvent>) {
-    let wanted = InputEvent::Paste(OPEN_TEXT.to_string());
-    let mut number = 1;
-    loop {
-        let mut parser = parser_in_a_paste();
-        let (ended, refused) = refusing(number, || parser.try_end_paste());
-        if refused == 0 {
-            assert_eq!(ended, Ok(Some(wanted)));
-            break;
-        }
-        assert_eq!((ended, parser.flush_escape()), (Err(AllocError), None));
-        assert_eq!(
-            go_on(&mut parser).first(),
-            Some(&wanted),
-            "request {number}"
-        );
-        assert_eq!(
-            (parser.waiting(), parser.try_end_paste()),
-            (Waiting::Nothing, Ok(None))
-        );
-        number += 1;
-    }
-    assert!(number > 2);
-}
-
-#[test]
-fn ends_a_paste_after_a_refusal() {
-    check_end(|parser| Vec::from_iter(parser.end_paste()));
-}
-
-// The paste is still open, or its event is the first.
-#[test]
-fn parses_on_after_a_refused_end() {
-    check_end(|parser| parser.parse_as_vec(b"\x1b[201~q", true));
-}
-
-// A part of a paste with each request refused in turn: a refusal that is told leaves all as it was.
-#[test]
-fn takes_a_part_after_a_refusal() {
-    let mut told = 0;
-    for number in 1.. {
-        let mut parser = parser_in_a_paste();
-        let len = parser.waiting_len();
-        let (mut taken, refused) = refusing(number, || parser.take_paste(3));
-        if taken.is_err() {
-            assert_eq!((parser.waiting_len(), refused), (len, 1));
-            taken = parser.take_paste(3);
-            told += 1;
-        }
-        assert_eq!(taken, Ok(Some("hölle \u{fffd}\u{fffd} ".to_string())));
-        assert_eq!(refusing(1, || parser.skip_paste()), (Some(0), 0));
-        assert_eq!(
-            (parser.waiting_len(), parser.waiting()),
-            (8, Waiting::Paste)
-        );
-        let rest = InputEvent::Paste("\x1b[".to_string());
-        assert_eq!(parser.parse_as_vec(b"\x1b[201~", true), [rest]);
-        if refused == 0 {
-            break;
-        }
-    }
-    assert!(told > 1, "{told}");
-}
-
-// Reads a paste of more than 64 MB in pieces of 4096 bytes, after each of which its text is taken
-// or skipped. Neither takes the memory of more than some parts.
-fn read_long_paste(take: impl Fn(&mut InputParser) -> Option<(usize, String)>, limit: usize) {
+// Reads a paste of more than 64 MB in pieces of 4096 bytes, in parts, or skipped after each read.
+// Neither takes the memory of more than some parts.
+fn read_long_paste(limit: Option<usize>, is_skipped: bool) {
     let text = "täxt \x1b[201\r".repeat(4096);
-    let mut parser = InputParser::new();
-    assert_eq!(parser.parse_as_vec(b"\x1b[200~", true), []);
+    let (mut parser, now) = (Parser::new(Dialect::Extended), Instant::now());
+    parser.set_parts(limit);
+    parser.feed(now, b"\x1b[200~");
+    assert_eq!(parser.next(), None);
     let (before, mut most, mut taken) = (in_use(), 0, 0);
     let repeats = (64 << 20) / text.len() + 1;
     for _ in 0..repeats {
         for bytes in text.as_bytes().chunks(4096) {
-            assert_eq!(parser.parse_as_vec(bytes, true), []);
-            if let Some((len, part)) = take(&mut parser) {
+            parser.feed(now, bytes);
+            for event in parser.by_ref() {
+                let Event::PastePart(part) = event else {
+                    panic!("{event:?}");
+                };
                 let from = text.as_bytes().iter().cycle().skip(taken % text.len());
                 assert!(from.take(part.len()).eq(part.as_bytes()));
-                taken += len;
+                taken += part.len();
+            }
+            if is_skipped {
+                taken += parser.skip_paste().expect("a paste is open");
             }
             most = most.max(in_use() - before);
-            assert!(parser.waiting_len() <= 6 + limit);
+            assert!(parser.waiting_len() <= 6 + limit.unwrap_or(5));
         }
     }
-    let events = parser.parse_as_vec(b"\x1b[201~q", true);
-    let InputEvent::Paste(rest) = &events[0] else {
-        panic!("{events:?}");
+    parser.feed(now, b"\x1b[201~q");
+    let Some(Event::Paste(rest)) = parser.next() else {
+        panic!("no paste");
     };
-    assert_eq!(
-        (taken + rest.len(), events.len()),
-        (repeats * text.len(), 2)
-    );
+    let all = (taken + rest.len(), parser.count());
+    assert_eq!(all, (repeats * text.len(), 1));
     assert!(most < 8 << 20, "{most} bytes");
 }
 
 #[test]
-fn takes_a_paste_of_64_mb() {
-    let take = |parser: &mut InputParser| parser.take_paste(1 << 20).expect("memory");
-    read_long_paste(
-        |parser| take(parser).map(|part| (part.len(), part)),
-        1 << 20,
-    );
+fn tells_a_paste_of_64_mb_in_parts() {
+    read_long_paste(Some(1 << 20), false);
 }
 
 #[test]
 fn skips_a_paste_of_64_mb() {
-    read_long_paste(|parser| Some((parser.skip_paste()?, String::new())), 5);
+    read_long_paste(None, true);
 }
-
-// Parsers that took these bytes, and were refused memory for an event: one for each request.
-fn refused_parsers(bytes: &[u8]) -> Vec<InputParser> {
-    let mut parsers = Vec::new();
-    for number in 1.. {
-        let mut parser = InputParser::new();
-        let (parsed, refused) = refusing(number, || parser.try_parse_as_vec(bytes, true));
-        if refused == 0 {
-            break;
-        }
-        if parsed.is_err_and(|error| error.taken) {
-            parsers.push(parser);
-        }
-    }
-    assert_ne!(parsers.len(), 0);
-    parsers
-}
-
-const PASTE_AND_ESCAPE: &[u8] = b"\x1b[200~text\x1b[201~\x1b";
-
-#[test]
-fn emits_a_refused_event_before_an_escape() {
-    for mut parser in refused_parsers(PASTE_AND_ESCAPE) {
-        assert_eq!(parser.flush_escape(), None);
-        assert_eq!(
-            parser.parse_as_vec(b"", true),
-            [InputEvent::Paste("text".to_string())]
-        );
-        assert_eq!(parser.waiting(), Waiting::Escape);
-        assert!(parser.flush_escape().is_some());
-    }
-}
-
-#[test]
-fn emits_a_refused_event_before_an_open_paste() {
-    for mut parser in refused_parsers(b"\x1b[A\x1b[200~text") {
-        assert_eq!(parser.try_end_paste(), Ok(None));
-        assert_eq!(parser.parse_as_vec(b"", true).len(), 1);
-        assert_eq!(
-            parser.end_paste(),
-            Some(InputEvent::Paste("text".to_string()))
-        );
-    }
-}
-
-#[test]
-fn forgets_a_refused_event() {
-    for mut parser in refused_parsers(PASTE_AND_ESCAPE) {
-        assert!(parser.reset() > 0);
-        assert_eq!(
-            (parser.parse_as_vec(b"", false), parser.waiting_len()),
-            (Vec::new(), 0)
-        );
-    }
-}
-
-const TEN_SECONDS: Duration = Duration::from_secs(10);
-
-// Limits for each kind of bytes, a paste too.
-const PASTE_IN_TIME: Policy = Policy {
-    paste: Some(TEN_SECONDS),
-    ..Policy::usual()
-};
 
 // No call that has to do with time takes memory.
 #[test]
 fn tells_time_without_memory() {
-    let (start, mut parser) = (Instant::now(), InputParser::new());
+    let (start, mut parser) = (Instant::now(), Parser::new(Dialect::Extended));
     for _ in 0..2 {
-        assert_eq!(parser.parse_as_vec(b"\x1b", true), []);
-        assert_eq!(
-            refusing(1, || parser.set_policy(PASTE_IN_TIME)),
-            (Ok(()), 0)
-        );
+        parser.feed(start, b"\x1b");
+        assert_eq!(refusing(1, || parser.next()), (None, 0));
+        assert_eq!(refusing(1, || parser.set_policy(Policy::usual())), ((), 0));
         let left = refusing(1, || parser.timeout(start));
         assert_eq!(left, (Policy::usual().escape, 0));
-        let expire = || parser.expire(start + TEN_SECONDS, drop);
-        assert_eq!(refusing(1, expire), (Ok(()), 0));
+        assert_eq!(refusing(1, || parser.idle(start + LATER)), ((), 0));
+        assert!(parser.next().is_some_and(|event| event.key().is_some()));
+        parser.feed(start, b"\x1b[1");
+        assert_eq!(parser.next(), None);
+        assert_eq!(refusing(1, || parser.interrupted(start)), (Ok(()), 0));
         assert_eq!(parser.waiting(), Waiting::Nothing);
     }
 }
 
-// A paste that stalls is ended with each request refused in turn: it is still due, and not lost.
-#[test]
-fn ends_a_paste_in_time_after_a_refusal() {
-    let start = Instant::now();
-    for number in 1.. {
-        let mut parser = parser_in_a_paste();
-        assert_eq!(parser.set_policy(PASTE_IN_TIME), Ok(()));
-        assert_eq!(parser.timeout(start), Some(TEN_SECONDS));
-        let (mut events, due) = (room(), start + TEN_SECONDS);
-        let (expired, refused) =
-            refusing(number, || parser.expire(due, |event| events.push(event)));
-        if refused > 0 {
-            assert_eq!((expired, events.len()), (Err(AllocError), 0));
-            assert_eq!(parser.timeout(due), Some(Duration::ZERO));
-            assert_eq!(parser.expire(due, |event| events.push(event)), Ok(()));
-        }
-        assert_eq!(events, [InputEvent::Paste(OPEN_TEXT.to_string())]);
-        assert_eq!(
-            (parser.timeout(due), parser.waiting()),
-            (None, Waiting::Nothing)
-        );
-        if refused == 0 {
-            assert!(number > 2);
-            break;
-        }
-    }
-}
-
-// The same for bytes that come before the second call: they are read behind the paste.
-#[test]
-fn reads_on_after_a_paste_was_refused_in_time() {
-    let (start, mut told) = (Instant::now(), 0);
-    for number in 1.. {
-        let mut parser = parser_in_a_paste();
-        assert_eq!(parser.set_policy(PASTE_IN_TIME), Ok(()));
-        assert_eq!(parser.timeout(start), Some(TEN_SECONDS));
-        let due = start + TEN_SECONDS;
-        let (expired, refused) = refusing(number, || parser.expire(due, drop));
-        if refused == 0 {
-            assert_eq!(expired, Ok(()));
-            break;
-        }
-        told += refused;
-        let events = parser.parse_as_vec(b"q", true);
-        let [paste, InputEvent::Key(_)] = &events[..] else {
-            panic!("{events:?}");
-        };
-        assert_eq!(paste, &InputEvent::Paste(OPEN_TEXT.to_string()));
-        assert_eq!(parser.timeout(due), None);
-    }
-    assert!(told > 1, "{told}");
-}
-
-// A string whose line is dead is cut off with each request refused in turn.
-#[test]
-fn cuts_a_string_in_time_after_a_refusal() {
-    let start = Instant::now();
-    let due = start + Duration::from_millis(5008);
-    for number in 1.. {
-        let mut parser = ExtendedParser::new(Dialect::Extended);
-        assert_eq!(parser.parse_as_vec(b"\x1b]11;rgb", true), []);
-        assert_eq!(parser.timeout(start), Some(due - start));
-        let mut events = Vec::with_capacity(1);
-        let (expired, refused) =
-            refusing(number, || parser.expire(due, |event| events.push(event)));
-        if refused > 0 {
-            assert_eq!((expired, events.len()), (Err(AllocError), 0));
-            assert_eq!(parser.timeout(due), Some(Duration::ZERO));
-            assert_eq!(parser.expire(due, |event| events.push(event)), Ok(()));
-        }
-        let cut = Event::StringCut {
-            kind: StringKind::Osc,
-            bytes: b"11;rgb".to_vec(),
-        };
-        assert_eq!((events, parser.timeout(due)), (vec![cut], None));
-        if refused == 0 {
-            assert!(number > 2);
-            break;
-        }
-    }
-}
-
-// An event that was refused memory is due at once, and what is decided behind it.
-#[test]
-fn emits_a_refused_event_in_time() {
-    let start = Instant::now();
-    let mut seen = 0;
-    for mut parser in refused_parsers(b"\x1b[200~text\x1b[201~\x1b[A\x1b") {
-        if parser.timeout(start) == Some(Duration::ZERO) {
-            let mut events = room();
-            assert_eq!(parser.expire(start, |event| events.push(event)), Ok(()));
-            assert_eq!(events[0], InputEvent::Paste("text".to_string()));
-            assert_eq!((events.len(), parser.waiting()), (2, Waiting::Escape));
-            assert_eq!(parser.timeout(start), Policy::usual().escape);
-            seen += 1;
-        }
-    }
-    assert!(seen > 0);
-}
-
 // Makes parsers once the table is there: tests/table.rs has the first one.
-fn check_new<Parser>(make: fn() -> Result<Parser, AllocError>) {
+fn check_new<Made>(make: fn() -> Result<Made, AllocError>) {
     assert!(make().is_ok());
     let mut number = 1;
     while refusing(number, make).1 > 0 {
@@ -641,7 +464,7 @@ fn check_new<Parser>(make: fn() -> Result<Parser, AllocError>) {
 #[test]
 fn makes_a_parser_after_a_refusal() {
     check_new(InputParser::try_new);
-    check_new(|| ExtendedParser::try_new(Dialect::Extended));
+    check_new(|| Parser::try_new(Dialect::Extended));
 }
 
 #[test]
@@ -716,7 +539,7 @@ fn sends_pastes_and_mouse_reports_after_a_refusal() {
             &wanted,
         );
     }
-    let report = MouseReport {
+    let report = SentMouse {
         x: 1,
         y: 1,
         button: MouseButton::Button1Press,
@@ -728,15 +551,16 @@ fn sends_pastes_and_mouse_reports_after_a_refusal() {
 
 #[test]
 fn writes_events_after_a_refusal() {
-    let mut parser = ExtendedParser::new(Dialect::Extended);
+    let mut parser = Parser::new(Dialect::Extended);
     for written in [
         &b"\x1b[A"[..],
         b"\x1b[<0;1;1M",
         b"\x1b[?62;22c",
         b"\x1b]52;c;some text that needs memory\x1b\\",
     ] {
-        let events = parser.parse_as_vec(written, false);
-        let write = || events[0].try_encode(&parser);
+        parser.feed(Instant::now(), written);
+        let event = parser.next().expect("an event");
+        let write = || event.try_encode(&parser);
         sends_after_a_refusal(write, &EncodeEventError::Memory, &written.to_vec());
     }
 }
@@ -805,54 +629,21 @@ fn replaces_and_looks_up_without_memory() {
 
 #[test]
 fn tells_rows_without_memory() {
-    let mut parser = InputParser::new();
-    assert_eq!(parser.parse_as_vec(b"\x1b\x1b[1;5", true), []);
+    let mut parser = Parser::new(Dialect::Termwiz);
+    parser.feed(Instant::now(), b"\x1b\x1b[1;5");
+    assert_eq!(parser.next(), None);
     let (completions, refused) = refusing(1, || parser.completions());
     assert_eq!((completions.with_alt, refused), (true, 0));
-    let all_told = || {
-        completions
-            .entries
-            .clone()
-            .all(|place| parser.entry(place).is_some())
-    };
+    let mut places = completions.entries.clone();
+    let all_told = || places.all(|place| parser.entry(place).is_some());
     assert_eq!(refusing(1, all_told), (true, 0));
     assert_eq!(refusing(1, || parser.entry(usize::MAX)), (None, 0));
 }
 
-// A parser of either kind, as the tests of its memory use it.
-trait Session {
-    fn make() -> Self;
-    // Returns the number of the events.
-    fn read(&mut self, bytes: &[u8]) -> usize;
-    fn shrink_to(&mut self, min_capacity: usize);
-}
-
-impl Session for InputParser {
-    fn make() -> Self {
-        InputParser::new()
-    }
-
-    fn read(&mut self, bytes: &[u8]) -> usize {
-        self.parse_as_vec(bytes, true).len()
-    }
-
-    fn shrink_to(&mut self, min_capacity: usize) {
-        self.shrink_to(min_capacity);
-    }
-}
-
-impl Session for ExtendedParser {
-    fn make() -> Self {
-        ExtendedParser::new(Dialect::Extended)
-    }
-
-    fn read(&mut self, bytes: &[u8]) -> usize {
-        self.parse_as_vec(bytes, true).len()
-    }
-
-    fn shrink_to(&mut self, min_capacity: usize) {
-        self.shrink_to(min_capacity);
-    }
+// Returns the number of the events.
+fn count(parser: &mut Parser, bytes: &[u8]) -> usize {
+    parser.feed(Instant::now(), bytes);
+    parser.count()
 }
 
 const LONG: usize = 100_000;
@@ -863,33 +654,29 @@ fn long_paste() -> String {
 
 // The library keeps a text no longer once it is an event, and nothing past the parser's end. Keys
 // of as many bytes come first, so that the buffer has room.
-fn check_freed<Parser: Session>() {
-    drop(Parser::make());
+#[test]
+fn frees_memory() {
+    drop(Parser::new(Dialect::Extended));
     let (keys, paste) = ("x".repeat(LONG + 12), long_paste());
     let before = in_use();
-    let mut parser = Parser::make();
-    assert_eq!(parser.read(keys.as_bytes()), keys.len());
+    let mut parser = Parser::new(Dialect::Extended);
+    assert_eq!(count(&mut parser, keys.as_bytes()), keys.len());
     let with_buffer = in_use();
-    assert_eq!(parser.read(paste.as_bytes()), 1);
+    assert_eq!(count(&mut parser, paste.as_bytes()), 1);
     assert!(in_use() < with_buffer + LONG / 2);
     drop(parser);
     assert_eq!(in_use(), before);
 }
 
-#[test]
-fn frees_memory() {
-    check_freed::<InputParser>();
-    check_freed::<ExtendedParser>();
-}
-
 // A parser that read a long paste gives its memory back, but for the room that is asked for, as far
 // as there is that room. What is buffered stays.
-fn check_shrunk<Parser: Session>() {
-    drop(Parser::make());
+#[test]
+fn shrinks() {
+    drop(Parser::new(Dialect::Extended));
     let paste = long_paste() + "\x1b[1;5";
     let before = in_use();
-    let mut parser = Parser::make();
-    assert_eq!(parser.read(paste.as_bytes()), 1);
+    let mut parser = Parser::new(Dialect::Extended);
+    assert_eq!(count(&mut parser, paste.as_bytes()), 1);
     assert!(in_use() >= before + LONG);
     assert_eq!(refusing(1, || parser.shrink_to(0)).1, 1);
     assert!(in_use() >= before + LONG);
@@ -900,44 +687,25 @@ fn check_shrunk<Parser: Session>() {
         (LONG, 0..1024),
     ] {
         parser.shrink_to(kept);
-        assert!(
-            wanted.contains(&(in_use() - before)),
-            "{} for {kept}",
-            in_use() - before
-        );
+        let left = in_use() - before;
+        assert!(wanted.contains(&left), "{left} for {kept}");
     }
-    assert_eq!((parser.read(b"A"), parser.read(paste.as_bytes())), (1, 1));
-}
-
-#[test]
-fn shrinks() {
-    check_shrunk::<InputParser>();
-    check_shrunk::<ExtendedParser>();
-}
-
-// A text that was refused memory is still the library's, and isn't given back.
-#[test]
-fn shrinks_behind_a_refused_event() {
-    for mut parser in refused_parsers(PASTE_AND_ESCAPE) {
-        parser.shrink_to(0);
-        assert_eq!(
-            parser.parse_as_vec(b"", true),
-            [InputEvent::Paste("text".to_string())]
-        );
-        assert_eq!(parser.waiting(), Waiting::Escape);
-    }
+    assert_eq!(count(&mut parser, b"A"), 1);
+    assert_eq!(count(&mut parser, paste.as_bytes()), 1);
 }
 
 #[test]
 fn panics_if_refused() {
     let refused = |call: fn()| refusing(1, || std::panic::catch_unwind(call)).0.is_err();
     assert!(refused(|| drop(InputParser::new())));
+    assert!(refused(|| drop(Parser::new(Dialect::Extended))));
     assert!(refused(|| KeyMap::new().insert("a", 1)));
-    let mut parser = parser_in_a_paste();
-    let end = std::panic::AssertUnwindSafe(|| parser.end_paste());
-    assert!(refusing(1, || std::panic::catch_unwind(end)).0.is_err());
-    assert_eq!(
-        parser.end_paste(),
-        Some(InputEvent::Paste(OPEN_TEXT.to_string()))
-    );
+    let (mut parser, now) = (Parser::new(Dialect::Extended), Instant::now());
+    let long = long_paste();
+    let fed = std::panic::AssertUnwindSafe(|| parser.feed(now, long.as_bytes()));
+    assert!(refusing(1, || std::panic::catch_unwind(fed)).0.is_err());
+    parser.feed(now, PASTE_AND_ESCAPE);
+    let next = std::panic::AssertUnwindSafe(|| parser.next());
+    assert!(refusing(1, || std::panic::catch_unwind(next)).0.is_err());
+    assert_eq!(parser.next(), Some(text()));
 }

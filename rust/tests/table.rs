@@ -2,9 +2,10 @@
 // test, since a process has one first parser.
 mod malloc;
 
-use hedrugal::extended::{Dialect, Event, ExtendedParser};
-use hedrugal::input::{AllocError, InputEvent, InputParser, KeyCode, KeyEvent, Modifiers};
+use hedrugal::input::{InputEvent, InputParser, KeyCode, KeyEvent, Modifiers};
+use hedrugal::{AllocError, Dialect, Event, Parser};
 use malloc::{in_use, refusing};
+use std::time::Instant;
 
 const PARSERS: usize = 1000;
 
@@ -22,7 +23,7 @@ fn refuse_the_first() {
             if number % 2 == 0 {
                 InputParser::try_new().err()
             } else {
-                ExtendedParser::try_new(Dialect::Extended).err()
+                Parser::try_new(Dialect::Extended).err()
             }
         });
         assert_eq!(
@@ -55,7 +56,7 @@ fn share_the_table() {
     let start = in_use();
     let mut parsers: Vec<_> = (0..PARSERS).map(|_| InputParser::new()).collect();
     let mut extended: Vec<_> = (0..PARSERS)
-        .map(|_| ExtendedParser::new(Dialect::Extended))
+        .map(|_| Parser::new(Dialect::Extended))
         .collect();
     assert!(
         in_use() - start < 2 * PARSERS * PARSER,
@@ -66,8 +67,8 @@ fn share_the_table() {
         assert_eq!(parser.parse_as_vec(b"\x1b[1;5A", true), [up()]);
     }
     for mut parser in extended.drain(..) {
-        let events = parser.parse_as_vec(b"\x1b[1;5A", true);
-        assert!(matches!(events[..], [Event::Key(_)]));
+        parser.feed(Instant::now(), b"\x1b[1;5A");
+        assert!(matches!(parser.next(), Some(Event::Key(_))));
     }
     drop((parsers, extended));
     assert_eq!(in_use(), start);

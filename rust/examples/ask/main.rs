@@ -10,8 +10,8 @@
 //! What is typed meanwhile comes as events like any other. This program counts them; an editor would
 //! handle them. The terminal is restored whenever the program ends, also by SIGHUP, SIGINT, SIGQUIT
 //! and SIGTERM. A SIGTSTP stops it once the terminal is restored.
-use hedrugal::extended;
-use hedrugal::terminal::{Answers, Event, Terminal};
+use hedrugal::terminal::{Answers, Terminal};
+use hedrugal::Event;
 use std::io;
 use std::process::ExitCode;
 use std::time::Duration;
@@ -20,16 +20,16 @@ const QUESTIONS: &str = "\x1b[6n\x1b]11;?\x1b\\\x1b[?u";
 const LONGEST_WAIT: Duration = Duration::from_secs(1);
 
 /// Returns a line for a reply that was asked for.
-fn line(reply: &extended::Event) -> Option<String> {
+fn line(reply: &Event) -> Option<String> {
     Some(match reply {
-        extended::Event::CursorPosition { row, column } => {
+        Event::CursorPosition { row, column } => {
             format!("cursor in row {row}, column {column}")
         }
-        extended::Event::Osc(bytes) if bytes.starts_with(b"11;") => {
+        Event::Osc(bytes) if bytes.starts_with(b"11;") => {
             format!("background {}", bytes[3..].escape_ascii())
         }
-        extended::Event::KeyboardFlags(flags) => format!("keyboard flags {flags}"),
-        extended::Event::Csi(bytes) if bytes.starts_with(b"?") && bytes.ends_with(b"c") => {
+        Event::KeyboardFlags(flags) => format!("keyboard flags {}", flags.bits()),
+        Event::Csi(bytes) if bytes.starts_with(b"?") && bytes.ends_with(b"c") => {
             format!("attributes {}", bytes.escape_ascii())
         }
         _ => return None,
@@ -43,7 +43,7 @@ fn ask() -> io::Result<(Answers, usize)> {
     let mut typed = 0;
     while terminal.poll(Duration::ZERO)? {
         match terminal.read()? {
-            Some(event) => typed += usize::from(matches!(event, Event::Input(_))),
+            Some(event) => typed += usize::from(event.key().is_some()),
             None => break,
         }
     }

@@ -1,7 +1,6 @@
 //! What presses do by the bindings, and the pause that ends a chord.
 use crate::commands::Command;
-use hedrugal::extended::{Bindings, Chord, KeyPress, Matcher, Outcome};
-use hedrugal::input::{Age, Seen, Timer};
+use hedrugal::{Age, Bindings, Chord, KeyPress, Matcher, Outcome, Seen, Timer};
 use std::iter;
 use std::time::{Duration, Instant};
 

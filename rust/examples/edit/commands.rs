@@ -1,5 +1,5 @@
 //! The commands, and the file that binds chords to them.
-use hedrugal::extended::{Bindings, Chord, KeyNameError, KeyNameErrorKind};
+use hedrugal::{Bindings, Chord, KeyNameError, KeyNameErrorKind};
 use std::path::Path;
 use std::str::{self, FromStr};
 use std::{error, fmt, fs, io};

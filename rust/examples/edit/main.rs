@@ -15,9 +15,8 @@ mod text;
 
 use chords::Chords;
 use commands::{Command, FileError};
-use hedrugal::extended::{self, typed_text, Bindings, KeyPress, KeyReport};
-use hedrugal::input::KittyKeyboardFlags;
-use hedrugal::terminal::{Event, Modes, Terminal};
+use hedrugal::terminal::{Modes, Terminal};
+use hedrugal::{typed_text, Bindings, Event, KeyPress, KeyReport, KittyKeyboardFlags};
 use screen::Screen;
 use std::io;
 use std::path::Path;
@@ -26,8 +25,8 @@ use std::time::Instant;
 
 const MODES: Modes = Modes {
     paste: true,
-    other_keys: true,
-    keyboard: KittyKeyboardFlags::DISAMBIGUATE_ESCAPE_CODES
+    modify_other_keys: 2,
+    kitty: KittyKeyboardFlags::DISAMBIGUATE_ESCAPE_CODES
         .union(KittyKeyboardFlags::REPORT_ALTERNATE_KEYS),
     ..Modes::NONE
 };
@@ -69,10 +68,8 @@ impl Edit {
 
     fn handle(&mut self, event: &Event) -> io::Result<bool> {
         match event {
-            Event::Input(extended::Event::Key(report)) => self.handle_key(report),
-            Event::Input(extended::Event::Paste(text)) | Event::PastePart(text) => {
-                self.insert(text)
-            }
+            Event::Key(report) => self.handle_key(report),
+            Event::Paste(text) | Event::PastePart(text) => self.insert(text),
             _ => Ok(true),
         }
     }

@@ -1,8 +1,8 @@
 //! The text on the terminal, and a line for each thing that happens to it.
 use crate::commands::Command;
 use crate::text::Text;
-use hedrugal::extended::{KeyPress, Outcome};
 use hedrugal::terminal::Terminal;
+use hedrugal::{KeyPress, Outcome};
 use std::io::{self, Write};
 
 pub struct Screen {

@@ -1,7 +1,9 @@
 //! The lines that the live programs print.
-use hedrugal::extended::{self, KeyEventKind, KeyReport, KittyModifiers, MouseReport, ReportedKey};
-use hedrugal::input::{KeyCode, Modifiers, MouseTracking};
-use hedrugal::terminal::{Event, Modes, Terminal};
+use hedrugal::terminal::{Modes, Terminal};
+use hedrugal::{
+    Event, KeyCode, KeyEventKind, KeyReport, KittyModifiers, Modifiers, MouseReport, MouseTracking,
+    ReportedKey,
+};
 use std::io::{self, Write};
 use std::process::ExitCode;
 
@@ -45,21 +47,15 @@ fn mouse_line(report: &MouseReport) -> String {
     line
 }
 
-fn input_line(event: &extended::Event) -> String {
-    match event {
-        extended::Event::Key(report) => key_line(report),
-        extended::Event::Mouse(report) => mouse_line(report),
-        extended::Event::Paste(text) => format!("paste of {} bytes", text.len()),
-        other => format!("{other:?}"),
-    }
-}
-
 fn line(event: &Event) -> Option<String> {
     Some(match event {
-        Event::Input(event) => input_line(event),
+        Event::Key(report) => key_line(report),
+        Event::Mouse(report) => mouse_line(report),
+        Event::Paste(text) => format!("paste of {} bytes", text.len()),
         Event::PastePart(text) => format!("part of a paste, {} bytes", text.len()),
-        Event::Resized { columns, rows } => format!("size {columns} x {rows}"),
+        Event::Resized(size) => format!("size {} x {}", size.columns, size.rows),
         Event::Resumed => return None,
+        other => format!("{other:?}"),
     })
 }
 

@@ -2,8 +2,9 @@
 use crate::keys::key_text;
 use crate::modes::ChildModes;
 use crate::mouse::mouse_bytes;
-use hedrugal::extended::{encode_cursor_position, Event, ExtendedParser, KeyReport, ReportedKey};
-use hedrugal::input::{encode_paste, KeyCode};
+use hedrugal::{
+    encode_cursor_position, encode_paste, Event, KeyCode, KeyReport, Parser, ReportedKey,
+};
 
 const PASTE_START: &str = "\x1b[200~";
 const PASTE_END: &str = "\x1b[201~";
@@ -27,9 +28,10 @@ pub struct Sender {
 
 impl Sender {
     /// Returns what the child gets for an event of the terminal's parser.
-    pub fn bytes(&mut self, event: &Event, modes: &ChildModes, parser: &ExtendedParser) -> Vec<u8> {
+    pub fn bytes(&mut self, event: &Event, modes: &ChildModes, parser: &Parser) -> Vec<u8> {
         match event {
             Event::Mouse(report) => mouse_bytes(report, modes, parser),
+            Event::PastePart(text) => self.paste_part(text, modes.paste),
             Event::Paste(text) => self.paste_end(text, modes.paste),
             // The start of its paste came too slowly, and was passed on as keys.
             Event::Key(KeyReport {
@@ -59,7 +61,7 @@ impl Sender {
     }
 
     /// Returns a part of a long paste, which stays open.
-    pub fn paste_part(&mut self, text: &str, is_bracketed: bool) -> Vec<u8> {
+    fn paste_part(&mut self, text: &str, is_bracketed: bool) -> Vec<u8> {
         let starts = is_bracketed && !self.is_in_paste();
         let paste = self.paste.get_or_insert(OpenPaste {
             is_bracketed,
@@ -81,7 +83,7 @@ impl Sender {
 
     /// Returns a reply or another sequence as the terminal sent it. One that was cut off, or is
     /// longer than the parser's limit, isn't passed on.
-    fn reply(&mut self, event: &Event, parser: &ExtendedParser) -> Vec<u8> {
+    fn reply(&mut self, event: &Event, parser: &Parser) -> Vec<u8> {
         let is_part = matches!(event, Event::StringPart { .. });
         let is_rest = std::mem::replace(&mut self.is_rest, is_part);
         if is_rest {

@@ -1,7 +1,10 @@
 //! What the child gets for a key.
 use crate::modes::ChildModes;
-use hedrugal::extended::{typed_text, EraseByte, KeyPress, KeyReport, KittyModifiers, ReportedKey};
-use hedrugal::input::{KeyCode, KeyCodeEncodeModes, KittyKeyboardFlags, Modifiers};
+use hedrugal::input::{KeyCodeEncodeModes, Modifiers};
+use hedrugal::{
+    typed_text, EraseByte, KeyCode, KeyPress, KeyReport, KittyKeyboardFlags, KittyModifiers,
+    ReportedKey,
+};
 
 /// The keys of the keypad, and what each sends after ESC `O` in the keypad's application mode. Out
 /// of it, and where they type a character, they send what keys of the main block send.

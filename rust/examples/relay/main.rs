@@ -21,10 +21,8 @@ mod scanner;
 mod terminal;
 mod unix;
 
-use hedrugal::extended::{
-    DeviceAttributes, Dialect, Event, ExtendedParser, ExtendedWaiting, Reply,
-};
 use hedrugal::terminal::Heeded;
+use hedrugal::{DeviceAttributes, Dialect, Event, Parser, Reply, Waiting};
 use input::Sender;
 use modes::Wanted;
 use output::Output;
@@ -46,8 +44,6 @@ Runs a program, or else $SHELL, on a terminal of its own, and passes keys, mouse
 reports, pastes and the focus on in the modes that the program set.";
 const O_NONBLOCK_NOCTTY: i32 = 0o4400;
 const PASTE_LIMIT: usize = 1 << 16;
-/// What was open when another program had the terminal ends once nothing came for so long.
-const LONGEST_GAP: Duration = Duration::from_secs(1);
 /// Nothing more is read for a side that hasn't taken so many bytes yet.
 const MOST_PENDING: usize = 1 << 16;
 /// A child that asks on and on, and reads nothing, gets no more replies than that.
@@ -80,9 +76,7 @@ enum Next {
 }
 
 struct Relay {
-    parser: ExtendedParser,
-    /// When a paste or a string ends where it is that was open while another program had the terminal.
-    cut_at: Option<Instant>,
+    parser: Parser,
     sender: Sender,
     output: Output,
     child: PtyChild,
@@ -108,7 +102,8 @@ impl Relay {
             status: 1,
             says: format!("the terminal can't be opened: {error}"),
         })?;
-        let mut parser = ExtendedParser::try_new(Dialect::Extended).map_err(io::Error::other)?;
+        let mut parser = Parser::try_new(Dialect::Extended).map_err(io::Error::from)?;
+        parser.set_parts(Some(PASTE_LIMIT));
         let child = PtyChild::start(words, &settings, size).map_err(|error| Failure {
             status: if error.kind() == ErrorKind::NotFound {
                 127
@@ -121,7 +116,6 @@ impl Relay {
         parser.set_reading(terminal.guard.reading());
         Ok(Relay {
             parser,
-            cut_at: None,
             sender: Sender::default(),
             output: Output::default(),
             child,
@@ -188,7 +182,8 @@ impl Relay {
         if keys != 0 {
             self.read_keys()?;
         } else if reads_keys {
-            self.expire(now)?;
+            self.parser.idle(now);
+            self.handle_events()?;
         }
         if child & POLLOUT != 0 {
             write_some(&mut self.child.terminal, &mut self.to_child)?;
@@ -208,8 +203,7 @@ impl Relay {
         if self.ended.is_some() && reads_child {
             Some(Duration::ZERO)
         } else if reads_keys {
-            let cut = self.cut_at.map(|at| at.saturating_duration_since(now));
-            [self.parser.timeout(now), cut].into_iter().flatten().min()
+            self.parser.timeout(now)
         } else {
             None
         }
@@ -223,7 +217,7 @@ impl Relay {
                 return Ok(Next::Signal);
             }
             Heeded::Resumed => {
-                self.resume();
+                self.resume()?;
                 self.child.resize(self.terminal.size()?)?;
                 self.child.redraw();
             }
@@ -233,19 +227,15 @@ impl Relay {
         Ok(Next::Step)
     }
 
-    /// Goes on after another program had the terminal. A paste or a string stays open, and a reply
-    /// would be a part of it. Nothing else that came before counts.
-    fn resume(&mut self) {
-        match self.parser.waiting() {
-            ExtendedWaiting::Paste | ExtendedWaiting::String => {
-                self.parser.forget_positions();
-                self.cut_at = Some(Instant::now() + LONGEST_GAP);
-            }
-            _ => {
-                self.parser.reset();
-                self.terminal.ask(&mut self.to_terminal);
-            }
+    /// Goes on after another program had the terminal. Within a paste or a string a reply would be a
+    /// part of that.
+    fn resume(&mut self) -> io::Result<()> {
+        self.handle_events()?;
+        self.parser.interrupted(Instant::now())?;
+        if !matches!(self.parser.waiting(), Waiting::Paste | Waiting::String) {
+            self.terminal.ask(&mut self.to_terminal);
         }
+        Ok(())
     }
 
     fn read_keys(&mut self) -> io::Result<()> {
@@ -254,42 +244,19 @@ impl Relay {
         if count == 0 {
             return Err(io::Error::other("the terminal is gone"));
         }
-        let fed = self.parser.try_feed(&bytes[..count]);
-        fed.map_err(io::Error::other)?;
-        self.cut_at = self.cut_at.map(|_| Instant::now() + LONGEST_GAP);
-        // One at a time, since an event may change how the next is read.
-        while let Some(event) = self.parser.try_next_event(true).map_err(io::Error::other)? {
+        self.parser.try_feed(Instant::now(), &bytes[..count])?;
+        self.handle_events()
+    }
+
+    /// Handles the events one at a time, since one may change how the next is read.
+    fn handle_events(&mut self) -> io::Result<()> {
+        while let Some(event) = self.parser.try_next()? {
             self.handle(&event);
-        }
-        let part = self.parser.take_paste(PASTE_LIMIT);
-        if let Some(text) = part.map_err(io::Error::other)? {
-            let is_bracketed = self.output.modes.paste;
-            self.to_child
-                .append(&mut self.sender.paste_part(&text, is_bracketed));
         }
         Ok(())
     }
 
-    /// Handles what no byte has completed in time. All that came before that time was read.
-    fn expire(&mut self, now: Instant) -> io::Result<()> {
-        let mut events = Vec::new();
-        if self.cut_at.is_some_and(|at| at <= now) {
-            self.cut_at = None;
-            let cut = match self.parser.waiting() {
-                ExtendedWaiting::Paste => self.parser.try_end_paste(),
-                _ => self.parser.try_next_event(false),
-            };
-            events.extend(cut.map_err(io::Error::other)?);
-        }
-        let expired = self.parser.expire(now, |event| events.push(event));
-        events.iter().for_each(|event| self.handle(event));
-        expired.map_err(io::Error::other)
-    }
-
     fn handle(&mut self, event: &Event) {
-        if !matches!(event, Event::StringPart { .. }) {
-            self.cut_at = None; // what was open comes before all else
-        }
         if is_attributes(event) && !self.terminal.note_attributes() {
             return;
         }

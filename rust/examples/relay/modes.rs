@@ -1,8 +1,7 @@
 //! The modes that a child sets for its input, by the sequences that it writes. Those of xterm are
 //! in its list of control sequences, and Kitty's keyboard flags on the page of that protocol.
-use hedrugal::input::{
-    KeyCodeEncodeModes, KeyboardEncoding, KittyKeyboardFlags, MouseEncoding, MouseTracking,
-};
+use hedrugal::input::{KeyCodeEncodeModes, KeyboardEncoding};
+use hedrugal::{KittyKeyboardFlags, MouseEncoding, MouseTracking};
 use std::collections::BTreeMap;
 
 /// A stack of Kitty's flags loses its oldest ones beyond so many.

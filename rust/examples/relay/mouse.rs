@@ -1,17 +1,19 @@
 //! What the child gets for a mouse report.
 use crate::modes::ChildModes;
-use hedrugal::extended::{Event, ExtendedParser, MouseKind, MouseReport};
-use hedrugal::input::{self, Modifiers, MouseButton, MouseEncoding, MouseTracking};
+use hedrugal::{
+    Event, Modifiers, MouseButton, MouseEncoding, MouseKind, MouseReport, MouseTracking, Parser,
+    SentMouse,
+};
 
 /// Returns what the child gets for a report.
-pub fn mouse_bytes(report: &MouseReport, modes: &ChildModes, parser: &ExtendedParser) -> Vec<u8> {
+pub fn mouse_bytes(report: &MouseReport, modes: &ChildModes, parser: &Parser) -> Vec<u8> {
     let Some(tracking) = modes.mouse_tracking() else {
         return Vec::new();
     };
     let encoding = modes.mouse_encoding();
     let sent = match button_of(report) {
         Some(button) => {
-            let sent = input::MouseReport {
+            let sent = SentMouse {
                 x: report.x,
                 y: report.y,
                 button,

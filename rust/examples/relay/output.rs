@@ -7,16 +7,16 @@ use hedrugal::terminal::Modes;
 /// pastes and modifyOtherKeys.
 const KEYS: Modes = Modes {
     paste: true,
-    other_keys: true,
-    also_on: "\x1b=",
-    also_off: "\x1b>",
+    modify_other_keys: 2,
+    enter: "\x1b=",
+    leave: "\x1b>",
     ..Modes::NONE
 };
 /// These, and all of Kitty's flags, of which each screen has a stack. They aren't those of the guard,
 /// which would ask for them anew within a paste.
 pub const MODES: Modes = Modes {
-    also_on: "\x1b=\x1b[>31u",
-    also_off: "\x1b[<u\x1b>",
+    enter: "\x1b=\x1b[>31u",
+    leave: "\x1b[<u\x1b>",
     ..KEYS
 };
 const PUSH: &str = "\x1b[>31u";
@@ -126,7 +126,7 @@ impl Passed {
 #[cfg(test)]
 mod tests {
     use super::Output;
-    use hedrugal::input::{MouseEncoding, MouseTracking};
+    use hedrugal::{MouseEncoding, MouseTracking};
 
     /// What a child has written so far, in reads of a length.
     struct Run {

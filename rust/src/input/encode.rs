@@ -1,5 +1,6 @@
 // Keys to the text that a terminal sends for them.
-use super::{KeyCode, KittyKeyboardFlags, Modifiers, FAULT};
+use super::{KeyCode, KittyKeyboardFlags, Modifiers};
+use crate::error::FAULT;
 use crate::raw;
 use std::{error, fmt, str};
 

@@ -1,6 +1,6 @@
 // What happens at a terminal.
-use super::{AllocError, KeyCode, Modifiers, MouseButtons, FAULT};
-use crate::library_parser::LibraryEvent;
+use super::{KeyCode, Modifiers, MouseButtons};
+use crate::error::FAULT;
 use crate::raw;
 
 /// A key press: which key, and the modifiers held with it.
@@ -15,7 +15,7 @@ use crate::raw;
 /// assert_eq!(format!("{event:?}"), "KeyEvent { key: Char('x'), modifiers: Modifiers(ALT) }");
 /// ```
 ///
-/// It is printed by the [name](crate::extended::Chord) of its [press](crate::extended::KeyPress), and
+/// It is printed by the [name](crate::Chord) of its [press](crate::KeyPress), and
 /// read from one:
 ///
 /// ```
@@ -130,12 +130,10 @@ impl KeyEvent {
     }
 }
 
-impl LibraryEvent for InputEvent {
-    fn of(
-        event: &raw::Event,
-        text: impl FnOnce(usize) -> Result<Vec<u8>, AllocError>,
-    ) -> Result<InputEvent, AllocError> {
-        Ok(match event.kind {
+impl InputEvent {
+    // An event of the library in termwiz's dialect, and the bytes that it brought.
+    pub(crate) fn of(event: &raw::Event, text: Vec<u8>) -> InputEvent {
+        match event.kind {
             raw::KIND_KEY => InputEvent::Key(KeyEvent::of(event)),
             raw::KIND_MOUSE => InputEvent::Mouse(MouseEvent {
                 x: event.x,
@@ -143,10 +141,8 @@ impl LibraryEvent for InputEvent {
                 mouse_buttons: MouseButtons::from_bits(event.buttons).expect(FAULT),
                 modifiers: Modifiers::of_kitty(event.modifiers),
             }),
-            raw::KIND_PASTE => {
-                InputEvent::Paste(String::from_utf8(text(event.text_len)?).expect(FAULT))
-            }
+            raw::KIND_PASTE => InputEvent::Paste(String::from_utf8(text).expect(FAULT)),
             _ => unreachable!("{FAULT}"),
-        })
+        }
     }
 }

@@ -1,5 +1,5 @@
 // Sets of flags, each a number whose bits have names.
-use super::FAULT;
+use crate::error::FAULT;
 use std::ops::{
     BitAnd, BitAndAssign, BitOr, BitOrAssign, BitXor, BitXorAssign, Not, Sub, SubAssign,
 };
@@ -102,11 +102,10 @@ macro_rules! base {
     };
 }
 
-// A type of sets, with the calls and operators that such a type has in termwiz. `module` has it,
-// and `head` begins each example: it makes two flags, a and b.
+// A type of sets, with the calls and operators that such a type has in termwiz. `head` begins its
+// example: it makes two flags, a and b.
 macro_rules! flags {
     (
-        in $module:literal
         $head:literal
         $(#[$about:meta])*
         $name:ident: $bits:ty { $($(#[$meaning:meta])* const $flag:ident = $value:literal;)* }
@@ -126,35 +125,18 @@ macro_rules! flags {
         impl $name {
             $(
                 $(#[$meaning])*
-                ///
-                /// ```
-                #[doc = concat!("use hedrugal::", $module, "::", stringify!($name), " as Flags;")]
-                #[doc = concat!("let bits = Flags::", stringify!($flag), ".bits();")]
-                #[doc = concat!("assert_eq!(bits, ", stringify!($value), ");")]
-                /// ```
                 pub const $flag: $name = $name($value);
             )*
 
             const NAMES: &'static [(&'static str, $bits)] = &[$((stringify!($flag), $value)),*];
 
             /// Returns the set as a number.
-            ///
-            /// ```
-            #[doc = $head]
-            /// assert_eq!((a | b).bits(), a.bits() + b.bits());
-            /// ```
             #[must_use]
             pub const fn bits(&self) -> $bits {
                 self.0
             }
 
             /// Returns the set of a number, or `None` if it has a bit that no flag has.
-            ///
-            /// ```
-            #[doc = $head]
-            /// assert_eq!(Flags::from_bits(a.bits()), Some(a));
-            /// assert_eq!(Flags::from_bits(!0).is_none(), Flags::all().bits() != !0);
-            /// ```
             #[must_use]
             pub const fn from_bits(bits: $bits) -> Option<$name> {
                 if bits & !$name::all().0 == 0 {
@@ -165,37 +147,18 @@ macro_rules! flags {
             }
 
             /// Returns the set of a number, without the bits that no flag has.
-            ///
-            /// ```
-            #[doc = $head]
-            /// assert_eq!(Flags::from_bits_truncate(a.bits()), a);
-            /// assert_eq!(Flags::from_bits_truncate(!0), Flags::all());
-            /// ```
             #[must_use]
             pub const fn from_bits_truncate(bits: $bits) -> $name {
                 $name(bits & $name::all().0)
             }
 
             /// Returns the set of a number, with the bits that no flag has too.
-            ///
-            /// ```
-            #[doc = $head]
-            /// assert_eq!(Flags::from_bits_retain(!0).bits(), !0);
-            /// ```
             #[must_use]
             pub const fn from_bits_retain(bits: $bits) -> $name {
                 $name(bits)
             }
 
             /// Returns the flag with a name, or `None` if there is none.
-            ///
-            /// ```
-            #[doc = $head]
-            /// let (name, flag) = a.iter_names().next().unwrap();
-            /// assert_eq!((Flags::from_name(name), flag), (Some(a), a));
-            /// assert_eq!(Flags::from_name("NONE"), Some(Flags::NONE));
-            /// assert_eq!(Flags::from_name("none"), None);
-            /// ```
             #[must_use]
             pub fn from_name(name: &str) -> Option<$name> {
                 let found = $name::NAMES.iter().find(|(known, _)| *known == name)?;
@@ -204,139 +167,69 @@ macro_rules! flags {
 
             /// Returns the flags of the set one by one, lowest first. Bits that no flag has come
             /// last, together.
-            ///
-            /// ```
-            #[doc = $head]
-            /// assert_eq!((a | b).iter().collect::<Vec<_>>(), [a, b]);
-            /// ```
             #[must_use]
             pub const fn iter(&self) -> FlagIter<$name> {
                 FlagIter { names: self.iter_names() }
             }
 
             /// Returns the flags of the set with their names, lowest first.
-            ///
-            /// ```
-            #[doc = $head]
-            /// assert_eq!(a.iter_names().next().map(|(name, _)| name),
-            /// Some(a.to_string()).as_deref());
-            /// ```
             #[must_use]
             pub const fn iter_names(&self) -> FlagNames<$name> {
                 FlagNames { rest: *self, next: 0 }
             }
 
             /// Returns the set that has no flag.
-            ///
-            /// ```
-            #[doc = $head]
-            /// assert!(!Flags::empty().contains(a));
-            /// ```
             #[must_use]
             pub const fn empty() -> $name {
                 $name(0)
             }
 
             /// Returns the set that has every flag.
-            ///
-            /// ```
-            #[doc = $head]
-            /// assert!(Flags::all().contains(a | b));
-            /// ```
             #[must_use]
             pub const fn all() -> $name {
                 $name(0 $(| $value)*)
             }
 
             /// Returns whether the set has no bit.
-            ///
-            /// ```
-            #[doc = $head]
-            /// assert!(Flags::NONE.is_empty() && !a.is_empty());
-            /// ```
             #[must_use]
             pub const fn is_empty(&self) -> bool {
                 self.0 == 0
             }
 
             /// Returns whether the set has every flag.
-            ///
-            /// ```
-            #[doc = $head]
-            /// assert!((a | !a).is_all() && !a.is_all());
-            /// ```
             #[must_use]
             pub const fn is_all(&self) -> bool {
                 self.contains($name::all())
             }
 
             /// Returns whether the set has a flag that `other` has too.
-            ///
-            /// ```
-            #[doc = $head]
-            /// assert!(a.intersects(a | b) && !a.intersects(b));
-            /// ```
             #[must_use]
             pub const fn intersects(&self, other: $name) -> bool {
                 self.0 & other.0 != 0
             }
 
             /// Returns whether the set has every flag that `other` has.
-            ///
-            /// ```
-            #[doc = $head]
-            /// assert!((a | b).contains(a) && !a.contains(a | b));
-            /// ```
             #[must_use]
             pub const fn contains(&self, other: $name) -> bool {
                 self.0 & other.0 == other.0
             }
 
             /// Adds the flags of `other`.
-            ///
-            /// ```
-            #[doc = $head]
-            /// let mut set = a;
-            /// set.insert(b);
-            /// assert_eq!(set, a | b);
-            /// ```
             pub fn insert(&mut self, other: $name) {
                 self.0 |= other.0;
             }
 
             /// Removes the flags of `other`.
-            ///
-            /// ```
-            #[doc = $head]
-            /// let mut set = a | b;
-            /// set.remove(a);
-            /// assert_eq!(set, b);
-            /// ```
             pub fn remove(&mut self, other: $name) {
                 self.0 &= !other.0;
             }
 
             /// Adds the flags of `other` that the set doesn't have, and removes the others.
-            ///
-            /// ```
-            #[doc = $head]
-            /// let mut set = a;
-            /// set.toggle(a | b);
-            /// assert_eq!(set, b);
-            /// ```
             pub fn toggle(&mut self, other: $name) {
                 self.0 ^= other.0;
             }
 
             /// Adds the flags of `other` if `value` is true, and removes them if not.
-            ///
-            /// ```
-            #[doc = $head]
-            /// let mut set = a;
-            /// set.set(b, true);
-            /// set.set(a, false);
-            /// assert_eq!(set, b);
-            /// ```
             pub fn set(&mut self, other: $name, value: bool) {
                 if value {
                     self.insert(other);
@@ -346,55 +239,30 @@ macro_rules! flags {
             }
 
             /// Returns the flags that either set has.
-            ///
-            /// ```
-            #[doc = $head]
-            /// assert_eq!(a.union(b), a | b);
-            /// ```
             #[must_use]
             pub const fn union(self, other: $name) -> $name {
                 $name(self.0 | other.0)
             }
 
             /// Returns the flags that both sets have.
-            ///
-            /// ```
-            #[doc = $head]
-            /// assert_eq!((a | b).intersection(b), b);
-            /// ```
             #[must_use]
             pub const fn intersection(self, other: $name) -> $name {
                 $name(self.0 & other.0)
             }
 
             /// Returns the flags that `other` doesn't have.
-            ///
-            /// ```
-            #[doc = $head]
-            /// assert_eq!((a | b).difference(b), a);
-            /// ```
             #[must_use]
             pub const fn difference(self, other: $name) -> $name {
                 $name(self.0 & !other.0)
             }
 
             /// Returns the flags that exactly one of the sets has.
-            ///
-            /// ```
-            #[doc = $head]
-            /// assert_eq!((a | b).symmetric_difference(b), a);
-            /// ```
             #[must_use]
             pub const fn symmetric_difference(self, other: $name) -> $name {
                 $name(self.0 ^ other.0)
             }
 
             /// Returns the flags that the set doesn't have.
-            ///
-            /// ```
-            #[doc = $head]
-            /// assert_eq!(a.complement(), Flags::all() - a);
-            /// ```
             #[must_use]
             pub const fn complement(self) -> $name {
                 $name(!self.0 & $name::all().0)
@@ -597,7 +465,6 @@ macro_rules! flags {
 }
 
 flags! {
-    in "input"
     "use hedrugal::input::Modifiers as Flags;\nlet (a, b) = (Flags::SHIFT, Flags::CTRL);"
     /// A set of modifier keys, such as those held while another key is pressed.
     Modifiers: u16 {
@@ -690,7 +557,6 @@ impl Modifiers {
 }
 
 flags! {
-    in "input"
     "use hedrugal::input::MouseButtons as Flags;\nlet (a, b) = (Flags::LEFT, Flags::VERT_WHEEL);"
     /// A set of mouse buttons and wheels.
     MouseButtons: u8 {
@@ -715,7 +581,6 @@ flags! {
 }
 
 flags! {
-    in "input"
     "use hedrugal::input::KittyKeyboardFlags as Flags;\n\
      let (a, b) = (Flags::DISAMBIGUATE_ESCAPE_CODES, Flags::REPORT_EVENT_TYPES);"
     /// What a program asks of a terminal in kitty's keyboard protocol.
@@ -739,8 +604,7 @@ flags! {
 }
 
 flags! {
-    in "extended"
-    "use hedrugal::extended::KittyModifiers as Flags;\nlet (a, b) = (Flags::SHIFT, Flags::CTRL);"
+    "use hedrugal::KittyModifiers as Flags;\nlet (a, b) = (Flags::SHIFT, Flags::CTRL);"
     /// A set of modifiers, as Kitty's keyboard protocol reports them: keys that are held, and locks
     /// that are on.
     KittyModifiers: u8 {

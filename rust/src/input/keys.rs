@@ -12,8 +12,8 @@
 /// assert_ne!(KeyCode::Char('a'), KeyCode::Char('A'));
 /// ```
 ///
-/// A key is printed by its [name](crate::extended::Chord), and read from one. That is the key of its
-/// [press](crate::extended::KeyPress):
+/// A key is printed by its [name](crate::Chord), and read from one. That is the key of its
+/// [press](crate::KeyPress):
 ///
 /// ```
 /// use hedrugal::input::KeyCode;

@@ -1,9 +1,8 @@
 // A decoder for the codecs of tokio-util.
-use super::events::{refused, Events};
-use super::Event;
-use crate::extended::Reading;
-use crate::input::Policy;
+use super::parser_of;
+use crate::{AllocError, Event, Parser, Reading};
 use bytes::BytesMut;
+use std::collections::VecDeque;
 use std::io;
 use std::time::{Duration, Instant};
 use tokio_util::codec::Decoder;
@@ -13,12 +12,12 @@ use tokio_util::codec::Decoder;
 ///
 /// A codec knows no time. So the program waits for the next event at most for
 /// [`timeout`](EventDecoder::timeout). If none came it looks at its connection once more: what is
-/// there may complete what is overdue. Only if nothing is there it calls
-/// [`expire`](EventDecoder::expire).
+/// there may complete what is due. Only if nothing is there it calls [`idle`](EventDecoder::idle).
 ///
 /// ```no_run
 /// use futures_core::Stream;
-/// use hedrugal::terminal::{Event, EventDecoder};
+/// use hedrugal::terminal::EventDecoder;
+/// use hedrugal::Event;
 /// use std::future::poll_fn;
 /// use std::io;
 /// use std::pin::Pin;
@@ -32,7 +31,7 @@ use tokio_util::codec::Decoder;
 /// async fn next_events(
 ///     frames: &mut FramedRead<TcpStream, EventDecoder>,
 /// ) -> io::Result<Option<Vec<Event>>> {
-///     let mut time = frames.decoder_mut().timeout().unwrap_or(Duration::MAX);
+///     let mut time = frames.decoder().timeout().unwrap_or(Duration::MAX);
 ///     for is_over in [false, true] {
 ///         if is_over {
 ///             yield_now().await; // the runtime looks at the connection
@@ -43,43 +42,25 @@ use tokio_util::codec::Decoder;
 ///             return event.transpose().map(|event| event.map(|it| vec![it]));
 ///         }
 ///     }
-///     frames.decoder_mut().expire().map(Some)
+///     frames.decoder_mut().idle().map(Some)
 /// }
-/// ```
-///
-/// What the decoder does by itself:
-///
-/// ```
-/// use bytes::BytesMut;
-/// use hedrugal::extended::Reading;
-/// use hedrugal::terminal::EventDecoder;
-/// use std::time::Duration;
-/// use tokio_util::codec::Decoder;
-///
-/// let mut decoder = EventDecoder::new(Reading::default())?;
-/// let mut bytes = BytesMut::from(&b"\x1b[A\x1b"[..]);
-/// let up = decoder.decode(&mut bytes)?.and_then(|event| event.press());
-/// assert_eq!(up.map(|press| press.to_string()).as_deref(), Some("up"));
-/// // ESC may still begin a sequence.
-/// assert_eq!(decoder.decode(&mut bytes)?, None);
-/// assert_eq!(decoder.timeout(), Some(Duration::from_millis(50)));
-/// # Ok::<(), std::io::Error>(())
 /// ```
 #[derive(Debug)]
 pub struct EventDecoder {
-    events: Events,
+    parser: Parser,
+    // What `idle` had told when memory was refused.
+    first: VecDeque<Event>,
 }
 
 impl EventDecoder {
     /// Makes a decoder for a terminal that is read so. A server for SSH takes `erase` from the modes
-    /// of the client's terminal (VERASE).
+    /// of the client's terminal (VERASE). A paste above a megabyte comes in parts.
     ///
     /// ```
-    /// use hedrugal::extended::{Dialect, Reading};
     /// use hedrugal::terminal::EventDecoder;
+    /// use hedrugal::{Dialect, Reading};
     ///
-    /// let mut decoder = EventDecoder::new(Reading::new(Dialect::Extended))?;
-    /// assert_eq!(decoder.timeout(), None);
+    /// let decoder = EventDecoder::new(Reading::new(Dialect::Extended))?;
     /// # Ok::<(), std::io::Error>(())
     /// ```
     ///
@@ -87,81 +68,89 @@ impl EventDecoder {
     ///
     /// With `OutOfMemory`.
     pub fn new(reading: Reading) -> io::Result<EventDecoder> {
-        let events = Events::new(reading).map_err(refused)?;
-        Ok(EventDecoder { events })
+        Ok(EventDecoder {
+            parser: parser_of(reading)?,
+            first: VecDeque::new(),
+        })
+    }
+
+    /// Returns the parser, for its limits in time and above how many bytes a paste comes in parts.
+    ///
+    /// ```
+    /// use hedrugal::terminal::EventDecoder;
+    /// use hedrugal::Reading;
+    ///
+    /// let mut decoder = EventDecoder::new(Reading::default())?;
+    /// decoder.parser().set_parts(Some(4096));
+    /// # Ok::<(), std::io::Error>(())
+    /// ```
+    #[must_use]
+    pub fn parser(&mut self) -> &mut Parser {
+        &mut self.parser
     }
 
     /// Returns how long to wait for more bytes. `None` is forever.
     ///
     /// ```
-    /// use hedrugal::extended::Reading;
     /// use hedrugal::terminal::EventDecoder;
+    /// use hedrugal::Reading;
+    /// use tokio_util::codec::Decoder;
     ///
     /// let mut decoder = EventDecoder::new(Reading::default())?;
     /// assert_eq!(decoder.timeout(), None);
+    /// // ESC may still begin a sequence.
+    /// assert_eq!(decoder.decode(&mut b"\x1b"[..].into())?, None);
+    /// assert!(decoder.timeout().is_some());
     /// # Ok::<(), std::io::Error>(())
     /// ```
     #[must_use]
-    pub fn timeout(&mut self) -> Option<Duration> {
-        self.events.timeout(Instant::now())
+    pub fn timeout(&self) -> Option<Duration> {
+        if self.first.is_empty() {
+            self.parser.timeout(Instant::now())
+        } else {
+            Some(Duration::ZERO)
+        }
     }
 
     /// Returns the events of what has waited so long: ESC is the Escape key then. Call it once a look
     /// at the connection after that time has found nothing.
     ///
     /// ```
-    /// use hedrugal::extended::Reading;
     /// use hedrugal::terminal::EventDecoder;
+    /// use hedrugal::Reading;
     ///
     /// let mut decoder = EventDecoder::new(Reading::default())?;
-    /// assert!(decoder.expire()?.is_empty());
+    /// assert!(decoder.idle()?.is_empty());
     /// # Ok::<(), std::io::Error>(())
     /// ```
     ///
     /// # Errors
     ///
     /// With `OutOfMemory`. No event is lost: call again.
-    pub fn expire(&mut self) -> io::Result<Vec<Event>> {
-        while self.events.pull().map_err(refused)? {}
-        self.events.expire(Instant::now()).map_err(refused)?;
-        Ok(self.events.take())
+    pub fn idle(&mut self) -> io::Result<Vec<Event>> {
+        self.parser.idle(Instant::now());
+        loop {
+            self.first.try_reserve(1).map_err(|_| AllocError)?;
+            match self.parser.try_next()? {
+                Some(event) => self.first.push_back(event),
+                None => return Ok(std::mem::take(&mut self.first).into()),
+            }
+        }
     }
 
-    /// Sets how long each kind of bytes may stay buffered.
-    ///
-    /// ```
-    /// use hedrugal::extended::Reading;
-    /// use hedrugal::terminal::EventDecoder;
-    ///
-    /// let mut decoder = EventDecoder::new(Reading::default())?;
-    /// decoder.set_policy(hedrugal::input::Policy::usual())?;
-    /// # Ok::<(), std::io::Error>(())
-    /// ```
-    ///
-    /// # Errors
-    ///
-    /// None: it asks for no memory.
-    pub fn set_policy(&mut self, policy: Policy) -> io::Result<()> {
-        self.events.set_policy(policy).map_err(refused)
-    }
-
-    /// Sets above how many bytes a paste comes in parts: before that, a megabyte.
-    ///
-    /// ```
-    /// use hedrugal::extended::Reading;
-    /// use hedrugal::terminal::EventDecoder;
-    ///
-    /// let mut decoder = EventDecoder::new(Reading::default())?;
-    /// decoder.set_paste_limit(4096);
-    /// # Ok::<(), std::io::Error>(())
-    /// ```
-    pub fn set_paste_limit(&mut self, limit: usize) {
-        self.events.set_paste_limit(limit);
-    }
-
-    fn next(&mut self) -> io::Result<Option<Event>> {
-        self.events.pull().map_err(refused)?;
-        Ok(self.events.pop())
+    // The next event, of what was fed and then of these bytes.
+    fn next(&mut self, bytes: &mut BytesMut) -> io::Result<Option<Event>> {
+        if !self.first.is_empty() {
+            return Ok(self.first.pop_front());
+        }
+        loop {
+            let event = self.parser.try_next()?;
+            if event.is_some() || bytes.is_empty() {
+                return Ok(event);
+            }
+            self.parser.try_feed(Instant::now(), bytes)?;
+            bytes.clear();
+        }
     }
 }
 
@@ -170,15 +159,16 @@ impl Decoder for EventDecoder {
     type Error = io::Error;
 
     fn decode(&mut self, bytes: &mut BytesMut) -> io::Result<Option<Event>> {
-        self.events.feed(bytes).map_err(refused)?;
-        bytes.clear();
-        self.next()
+        self.next(bytes)
     }
 
+    /// What is buffered is told, and an open paste ends where it is.
     fn decode_eof(&mut self, bytes: &mut BytesMut) -> io::Result<Option<Event>> {
-        self.events.feed(bytes).map_err(refused)?;
-        bytes.clear();
-        self.events.end();
-        self.next()
+        let event = self.next(bytes)?;
+        if event.is_some() {
+            return Ok(event);
+        }
+        self.parser.end();
+        self.next(bytes)
     }
 }

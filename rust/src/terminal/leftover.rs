@@ -1,5 +1,4 @@
 // What a terminal still sends when it is left.
-use super::questions::ATTRIBUTES;
 use super::unix;
 use std::fs::File;
 use std::io::{ErrorKind, Read};
@@ -7,6 +6,9 @@ use std::os::fd::AsRawFd;
 use std::sync::atomic::Ordering::SeqCst;
 use std::sync::atomic::{AtomicU64, AtomicUsize};
 use std::time::{Duration, Instant};
+
+/// The last question, which nearly every terminal answers, after those before it (DA1).
+pub const ATTRIBUTES: &[u8] = b"\x1b[c";
 
 // How long replies are waited for: twice as long as the slowest took, within these limits.
 const SHORTEST_WAIT: Duration = Duration::from_millis(200);
@@ -35,16 +37,16 @@ impl Leftover {
         self.longest.store(longest.map_or(NEVER, millis), SeqCst);
     }
 
-    // Whether a reply may come.
-    pub fn may_come(&self) -> bool {
-        self.owed.load(SeqCst) > 0
+    // Whether a reply may come. It is discarded, and owed no longer.
+    pub fn take(&self) -> bool {
+        self.owed.swap(0, SeqCst) > 0
     }
 
     // Reads up to the last reply that is owed, once modes are turned off. Where mouse reports came, a
     // terminal that answers is asked once more: no report comes behind its reply. Returns whether
-    // nothing of all this is left.
+    // nothing of all this is left. No reply is owed any more.
     pub fn read(&self, input: &File, output: &File, has_mouse: bool) -> bool {
-        let (mut owed, longest) = (self.owed.load(SeqCst), self.longest.load(SeqCst));
+        let (mut owed, longest) = (self.owed.swap(0, SeqCst), self.longest.load(SeqCst));
         if owed == 0 && has_mouse && longest != NEVER {
             owed = usize::from(unix::write_all(output.as_raw_fd(), ATTRIBUTES).is_ok());
         }

@@ -1,16 +1,16 @@
 // What a program turns on at its terminal.
-use crate::input::{KittyKeyboardFlags, MouseTracking};
+use crate::{KittyKeyboardFlags, MouseTracking};
 
 /// What a program turns on at its terminal beside raw mode. [`RawMode`](super::RawMode) writes what
 /// turns it on, and in the opposite order what turns it off.
 ///
 /// ```
-/// use hedrugal::input::{KittyKeyboardFlags, MouseTracking};
 /// use hedrugal::terminal::Modes;
+/// use hedrugal::{KittyKeyboardFlags, MouseTracking};
 ///
 /// let modes = Modes {
 ///     mouse: Some(MouseTracking::Normal),
-///     keyboard: KittyKeyboardFlags::DISAMBIGUATE_ESCAPE_CODES,
+///     kitty: KittyKeyboardFlags::DISAMBIGUATE_ESCAPE_CODES,
 ///     ..Modes::default()
 /// };
 /// assert_eq!(modes.on(), "\x1b[?2004h\x1b[?1000h\x1b[?1006h\x1b[>1u");
@@ -25,15 +25,16 @@ pub struct Modes {
     pub mouse: Option<MouseTracking>,
     /// The terminal tells when it gains or loses the focus (mode 1004).
     pub focus: bool,
-    /// xterm reports keys that have no sequence of their own (modifyOtherKeys 2).
-    pub other_keys: bool,
     /// The flags of Kitty's keyboard protocol. A terminal without the protocol ignores them, and its
     /// keys are read all the same. Ask ESC `[?u` to know which of them the terminal has.
-    pub keyboard: KittyKeyboardFlags,
+    pub kitty: KittyKeyboardFlags,
+    /// The level of xterm's modifyOtherKeys: at 2 keys are reported that have no sequence of their
+    /// own. 0 is off.
+    pub modify_other_keys: u8,
     /// What else is written first, such as ESC `[?1049h` for the alternate screen.
-    pub also_on: &'static str,
+    pub enter: &'static str,
     /// What is written last, to turn that off.
-    pub also_off: &'static str,
+    pub leave: &'static str,
 }
 
 impl Modes {
@@ -42,10 +43,10 @@ impl Modes {
         paste: false,
         mouse: None,
         focus: false,
-        other_keys: false,
-        keyboard: KittyKeyboardFlags::NONE,
-        also_on: "",
-        also_off: "",
+        kitty: KittyKeyboardFlags::NONE,
+        modify_other_keys: 0,
+        enter: "",
+        leave: "",
     };
 
     /// Returns what turns the modes on.
@@ -56,7 +57,7 @@ impl Modes {
     #[must_use]
     pub fn on(&self) -> String {
         let switches = self.switches().into_iter().map(|(on, _)| on);
-        self.also_on.to_string() + &switches.collect::<String>()
+        self.enter.to_string() + &switches.collect::<String>()
     }
 
     /// Returns what turns the modes off.
@@ -67,7 +68,7 @@ impl Modes {
     #[must_use]
     pub fn off(&self) -> String {
         let switches = self.switches().into_iter().rev().map(|(_, off)| off);
-        switches.collect::<String>() + self.also_off
+        switches.collect::<String>() + self.leave
     }
 
     // What turns each mode on, and what turns it off.
@@ -83,11 +84,12 @@ impl Modes {
         if self.focus {
             switches.push(numbered(1004));
         }
-        if self.other_keys {
-            switches.push(("\x1b[>4;2m".to_string(), "\x1b[>4m".to_string()));
+        if self.modify_other_keys > 0 {
+            let on = format!("\x1b[>4;{}m", self.modify_other_keys);
+            switches.push((on, "\x1b[>4m".to_string()));
         }
-        if !self.keyboard.is_empty() {
-            let on = format!("\x1b[>{}u", self.keyboard.bits());
+        if !self.kitty.is_empty() {
+            let on = format!("\x1b[>{}u", self.kitty.bits());
             switches.push((on, "\x1b[<u".to_string()));
         }
         switches

@@ -3,7 +3,7 @@ use super::leftover::Leftover;
 use super::unix::{self, Action, Settings};
 use super::unix::{SIGALRM, SIGCONT, SIGHUP, SIGINT, SIGQUIT, SIGTERM, SIGTSTP, SIGWINCH};
 use super::Modes;
-use crate::extended::{Dialect, Reading};
+use crate::{Dialect, Reading, Size};
 use std::ffi::c_int;
 use std::fs::File;
 use std::io::{self, IsTerminal, Read, Write};
@@ -161,7 +161,7 @@ impl Entered {
         if self.is_owner() && IS_RAW.swap(false, SeqCst) {
             let _ = self.turn_off(unix::write_at_once);
             let input = self.input.as_raw_fd();
-            if self.has_mouse() || self.leftover.may_come() {
+            if self.leftover.take() || self.has_mouse() {
                 unix::discard(input);
             }
             let _ = self.saved.apply_at_once(input);
@@ -350,8 +350,8 @@ pub enum Heeded {
     Nothing,
     /// The terminal has a new size.
     Resized,
-    /// Another program had the terminal. What was begun before no longer counts, but an open paste
-    /// goes on. The size may be new.
+    /// Another program had the terminal, and the size may be new. A program that feeds a parser tells
+    /// what was read before, and then calls [`interrupted`](crate::Parser::interrupted).
     Resumed,
     /// A signal ends the program, which drops the guard.
     Ending,
@@ -399,7 +399,7 @@ impl RawMode {
     /// use hedrugal::terminal::{Modes, RawMode};
     ///
     /// let guard = RawMode::new(Modes { focus: true, ..Modes::default() })?;
-    /// let (columns, rows) = guard.size()?;
+    /// let size = guard.size()?;
     /// # Ok::<(), std::io::Error>(())
     /// ```
     ///
@@ -464,31 +464,31 @@ impl RawMode {
         unsafe { &*ENTERED.load(SeqCst) }
     }
 
-    /// Returns the terminal's columns and rows.
+    /// Returns the terminal's size. What the terminal doesn't know of it is 0.
     ///
     /// ```no_run
     /// use hedrugal::terminal::{Modes, RawMode};
     ///
-    /// let (columns, rows) = RawMode::new(Modes::default())?.size()?;
+    /// let size = RawMode::new(Modes::default())?.size()?;
     /// # Ok::<(), std::io::Error>(())
     /// ```
     ///
     /// # Errors
     ///
     /// If the terminal is gone.
-    pub fn size(&self) -> io::Result<(u16, u16)> {
+    pub fn size(&self) -> io::Result<Size> {
         unix::size(self.output().as_raw_fd())
     }
 
-    /// Returns how an [`ExtendedParser`](crate::extended::ExtendedParser) is to read this terminal:
-    /// which byte its Backspace key sends (VERASE), and what byte 10 is (ICRNL).
+    /// Returns how a [`Parser`](crate::Parser) is to read this terminal: which byte its Backspace key
+    /// sends (VERASE), and what byte 10 is (ICRNL).
     ///
     /// ```no_run
-    /// use hedrugal::extended::{Dialect, ExtendedParser};
     /// use hedrugal::terminal::{Modes, RawMode};
+    /// use hedrugal::{Dialect, Parser};
     ///
     /// let guard = RawMode::new(Modes::default())?;
-    /// let mut parser = ExtendedParser::new(Dialect::Extended);
+    /// let mut parser = Parser::new(Dialect::Extended);
     /// parser.set_reading(guard.reading());
     /// # Ok::<(), std::io::Error>(())
     /// ```
@@ -677,7 +677,8 @@ impl RawMode {
 
     /// Tells the guard how many replies to ESC `[c` are owed, and how long the slowest took so far. A
     /// program that reads by itself tells it after each such question and each reply. Where the guard
-    /// leaves the terminal it waits for the last of them, so that the shell gets none.
+    /// leaves the terminal it waits for the last of them, so that the shell gets none, and no reply is
+    /// owed after that.
     ///
     /// A [`Terminal`](super::Terminal) does it itself, after a question and whenever it reads.
     ///

@@ -1,10 +1,10 @@
 // A terminal that a program reads events from.
-use super::events::{refused, Events};
-use super::questions::{ATTRIBUTES, POSITION};
+use super::leftover::ATTRIBUTES;
 use super::unix::{self, Settings, EIO};
-use super::{Event, Heeded, Modes, RawMode};
-use crate::extended;
-use crate::input::Policy;
+use super::{parser_of, Heeded, Modes, RawMode};
+use crate::questions::Questions;
+use crate::{AllocError, Event, Parser, Size};
+use std::collections::VecDeque;
 use std::fmt;
 use std::io::{self, ErrorKind, Read, Write};
 use std::os::fd::{AsFd, AsRawFd, BorrowedFd};
@@ -27,22 +27,27 @@ const MOST_EVENTS: usize = 1 << 16;
 /// }
 /// # Ok::<(), std::io::Error>(())
 /// ```
-#[derive(Debug, Clone, PartialEq, Eq)]
+#[derive(Debug, Clone, Default, PartialEq, Eq)]
 pub struct Answers {
     /// The replies, in their order: `Csi`, `Osc`, `Dcs`, `Apc`, `StringPart`, `StringCut`,
     /// `CursorPosition` and `KeyboardFlags`.
-    pub events: Vec<extended::Event>,
+    pub events: Vec<Event>,
     /// Whether the last question, for the attributes, was answered: no reply is missing then but to
     /// questions that the terminal doesn't know.
     pub is_whole: bool,
 }
 
+// An event that waits for the program, and the number of the question that it is a reply to.
+struct Told {
+    event: Event,
+    question: Option<u64>,
+}
+
 /// A terminal in raw mode, and its events. It is restored when this is dropped, as [`RawMode`] says.
 ///
-/// Keys, mouse reports, pastes and replies are read by an
-/// [`ExtendedParser`](crate::extended::ExtendedParser) with its limits in time, so Escape alone
-/// comes 50 ms after it was pressed. A paste above a megabyte comes in parts. A new size is an event
-/// too. SIGTSTP stops the program in the call that waits for events.
+/// Keys, mouse reports, pastes and replies are read by a [`Parser`] with its limits in time, so
+/// Escape alone comes 50 ms after it was pressed. A paste above a megabyte comes in parts. A new size
+/// is an event too. SIGTSTP stops the program in the call that waits for events.
 ///
 /// SIGHUP, SIGINT, SIGQUIT or SIGTERM ends the events, as the end of the input does. The program
 /// then saves what it has to, within a second, and drops the terminal. That restores it, and sends
@@ -52,8 +57,8 @@ pub struct Answers {
 /// them. That takes a second at most. What was typed before such a reply is lost.
 ///
 /// ```no_run
-/// use hedrugal::input::MouseTracking;
 /// use hedrugal::terminal::{Modes, Terminal};
+/// use hedrugal::MouseTracking;
 ///
 /// let terminal = Terminal::open_with(Modes {
 ///     mouse: Some(MouseTracking::Normal),
@@ -65,18 +70,17 @@ pub struct Answers {
 /// # Ok::<(), std::io::Error>(())
 /// ```
 pub struct Terminal {
-    events: Events,
+    parser: Parser,
+    questions: Questions,
+    // What comes before what the parser has: events beside replies, and what signals tell.
+    first: VecDeque<Told>,
     // What was read and refused memory by the parser. It never grows.
     unfed: Vec<u8>,
+    is_ended: bool,
     raw_mode: RawMode,
 }
 
 impl Terminal {
-    #[cfg(feature = "crossterm")]
-    pub(crate) fn parser(&mut self) -> &mut crate::extended::ExtendedParser {
-        self.events.parser()
-    }
-
     /// Sets the program's terminal to raw mode with bracketed paste.
     ///
     /// ```no_run
@@ -112,13 +116,36 @@ impl Terminal {
 
     // `saved` has the settings to restore, if they aren't those of now.
     pub(crate) fn begin(modes: Modes, saved: Option<Settings>) -> io::Result<Terminal> {
-        let unfed = Vec::with_capacity(READ);
+        let mut unfed = Vec::new();
+        unfed.try_reserve_exact(READ).map_err(|_| AllocError)?;
         let raw_mode = RawMode::begin(modes, true, saved)?;
         Ok(Terminal {
-            events: Events::new(raw_mode.reading()).map_err(refused)?,
+            parser: parser_of(raw_mode.reading())?,
+            questions: Questions::default(),
+            first: VecDeque::new(),
             unfed,
+            is_ended: false,
             raw_mode,
         })
+    }
+
+    /// Returns the parser, for its limits in time, how it reads, and above how many bytes a paste
+    /// comes in parts.
+    ///
+    /// ```no_run
+    /// use hedrugal::terminal::Terminal;
+    /// use hedrugal::Policy;
+    /// use std::time::Duration;
+    ///
+    /// let mut terminal = Terminal::open()?;
+    /// let escape = Some(Duration::from_millis(20));
+    /// terminal.parser().set_policy(Policy { escape, ..Policy::usual() });
+    /// terminal.parser().set_parts(Some(4096));
+    /// # Ok::<(), std::io::Error>(())
+    /// ```
+    #[must_use]
+    pub fn parser(&mut self) -> &mut Parser {
+        &mut self.parser
     }
 
     /// Waits for an event. Returns `None` at the end of the input, where the terminal is gone, and
@@ -138,10 +165,13 @@ impl Terminal {
     ///
     /// If the terminal can't be read, or with `OutOfMemory`. No event is lost: call again.
     pub fn read(&mut self) -> io::Result<Option<Event>> {
-        if self.events.count() == 0 {
-            self.read_event(None)?;
+        loop {
+            let event = self.next_event()?;
+            if event.is_some() || self.is_over() {
+                return Ok(event);
+            }
+            self.wait(None)?;
         }
-        self.next_event()
     }
 
     /// Waits for an event, at most for so long. Returns whether [`Terminal::read`] returns at once:
@@ -163,14 +193,14 @@ impl Terminal {
     /// Those of [`Terminal::read`].
     pub fn poll(&mut self, time: Duration) -> io::Result<bool> {
         let end = Instant::now().checked_add(time);
-        Ok(self.events.count() > 0 || self.read_event(end)? || self.is_over())
+        Ok(!self.first.is_empty() || self.pull_until(end)? || self.is_over())
     }
 
     /// Asks the terminal, and waits for its replies, at most for so long. Other events that come
     /// meanwhile stay for [`Terminal::read`].
     ///
-    /// A terminal doesn't reply to a question that it doesn't know. So ESC `[c`, to which nearly all reply,
-    /// is asked last, and the call returns as soon as that is answered. Each ESC `[6n` in the
+    /// A terminal doesn't reply to a question that it doesn't know. So ESC `[c`, to which nearly all
+    /// reply, is asked last, and the call returns as soon as that is answered. Each ESC `[6n` in the
     /// questions is expected to be answered by a position, whose bytes may be those of an F3.
     ///
     /// A reply that comes later is an event, and answers no later question. The reply to ESC `[c` is
@@ -178,11 +208,12 @@ impl Terminal {
     /// another question is open, can't be told from the reply to it.
     ///
     /// The call also returns where another program had the terminal meanwhile, and once 65,536
-    /// events stay for [`Terminal::read`]. The answers aren't whole then.
+    /// events stay for [`Terminal::read`]. The answers aren't whole then. While 16 questions await
+    /// their replies, no further one is written, and there are no answers.
     ///
     /// ```no_run
-    /// use hedrugal::extended::Event;
     /// use hedrugal::terminal::Terminal;
+    /// use hedrugal::Event;
     /// use std::time::Duration;
     ///
     /// let mut terminal = Terminal::open()?;
@@ -198,52 +229,67 @@ impl Terminal {
     ///
     /// # Errors
     ///
-    /// Those of [`Terminal::read`], or if the questions can't be written. The replies that came before
-    /// stay for [`Terminal::read`], in their order with the other events.
+    /// Those of [`Terminal::read`], or if the questions can't be written. None of them is open then.
+    /// The replies that came before stay for [`Terminal::read`], in their order with the other events.
     pub fn ask(&mut self, questions: &str, time: Duration) -> io::Result<Answers> {
         let end = Instant::now().checked_add(time);
         while self.pull()? {} // what came before is no reply
-        let number = self.ask_attributes(questions, time)?;
-        let begin = self.read_replies(number, end)?;
+        let Some(number) = self.write_questions(questions, time)? else {
+            return Ok(Answers::default());
+        };
+        while self.questions.is_open(number) && self.first.len() < MOST_EVENTS {
+            if !self.pull_until(end)? {
+                break;
+            }
+        }
         Ok(Answers {
-            events: self.events.take_replies(begin).map_err(refused)?,
-            is_whole: self.events.questions().is_answered(number),
+            events: self.take_replies(number)?,
+            is_whole: self.questions.answered() == number,
         })
     }
 
-    // Asks these questions, and last the one that nearly every terminal answers. Returns its number.
-    fn ask_attributes(&mut self, questions: &str, time: Duration) -> io::Result<u64> {
-        let positions = questions.matches(POSITION).count();
-        let asked = self.events.ask(time, positions);
-        let number = asked.map_err(refused)?;
+    // Asks these questions, and last the one that nearly every terminal answers. Returns the number
+    // of all, and `None` if too many are open. If they can't be written, none of them is open.
+    fn write_questions(&mut self, questions: &str, time: Duration) -> io::Result<Option<u64>> {
+        let (now, text, before) = (Instant::now(), questions.as_bytes(), self.questions);
+        let number = self.questions.ask(&mut self.parser, now, time, text);
+        if number.is_none() {
+            return Ok(None);
+        }
         self.tell_owed();
-        io::stdout().flush()?;
-        let output = self.raw_mode.output().as_raw_fd();
-        unix::write_all(output, questions.as_bytes())?;
-        unix::write_all(output, ATTRIBUTES)?;
-        Ok(number)
+        let written = self.write_asked(text);
+        if written.is_err() {
+            self.questions = before;
+            self.expire_questions(now);
+        }
+        written.map(|()| number)
     }
 
-    // Reads events until the last question is answered, at most up to a time, while there is room.
-    // Returns the place of the first one behind what answers earlier questions.
-    fn read_replies(&mut self, number: u64, end: Option<Instant>) -> io::Result<usize> {
-        let mut begin = self.events.count();
-        while self.events.questions().is_owed(number) && self.events.count() < MOST_EVENTS {
-            if !self.read_event(end)? {
-                break;
-            }
-            let questions = self.events.questions();
-            let is_earlier = !questions.is_next(number) || self.events.is_last_attributes();
-            if questions.is_owed(number) && is_earlier {
-                begin = self.events.count();
+    fn write_asked(&self, text: &[u8]) -> io::Result<()> {
+        io::stdout().flush()?;
+        let output = self.raw_mode.output().as_raw_fd();
+        unix::write_all(output, text)?;
+        unix::write_all(output, ATTRIBUTES)
+    }
+
+    // Takes the replies to a question out of the events that are there.
+    fn take_replies(&mut self, number: u64) -> io::Result<Vec<Event>> {
+        let is_reply = |it: &Told| it.question == Some(number);
+        let count = self.first.iter().filter(|it| is_reply(it)).count();
+        let mut replies = Vec::new();
+        replies.try_reserve_exact(count).map_err(|_| AllocError)?;
+        for _ in 0..self.first.len() {
+            match self.first.pop_front() {
+                Some(told) if is_reply(&told) => replies.push(told.event),
+                told => self.first.extend(told),
             }
         }
-        Ok(begin)
+        Ok(replies)
     }
 
     /// Lends the terminal as it was to what a function runs, such as an editor, as
-    /// [`RawMode::lend`] does. A paste or a string that is open goes on after it. Nothing else that
-    /// was typed before and is no event yet counts any more.
+    /// [`RawMode::lend`] does. What was read before counts, and a paste or a string that is open goes
+    /// on after it. The beginning of anything else is forgotten, and so are open questions.
     ///
     /// ```no_run
     /// use hedrugal::terminal::Terminal;
@@ -255,28 +301,29 @@ impl Terminal {
     ///
     /// # Errors
     ///
-    /// If raw mode can't be set again.
+    /// If raw mode can't be set again, or with `OutOfMemory`: then nothing was called.
     pub fn lend<T>(&mut self, call: impl FnOnce() -> T) -> io::Result<T> {
-        self.forget_overdue();
-        let done = self.raw_mode.lend(call)?;
+        while self.pull()? {}
+        self.expire_questions(Instant::now());
+        let done = self.raw_mode.lend(call);
         self.resume();
-        Ok(done)
+        done
     }
 
-    /// Returns the terminal's columns and rows.
+    /// Returns the terminal's size. What the terminal doesn't know of it is 0.
     ///
     /// ```no_run
     /// use hedrugal::terminal::Terminal;
     ///
-    /// let mut terminal = Terminal::open()?;
-    /// let (columns, rows) = terminal.size()?;
+    /// let size = Terminal::open()?.size()?;
+    /// println!("{} x {}", size.columns, size.rows);
     /// # Ok::<(), std::io::Error>(())
     /// ```
     ///
     /// # Errors
     ///
     /// If the terminal is gone.
-    pub fn size(&self) -> io::Result<(u16, u16)> {
+    pub fn size(&self) -> io::Result<Size> {
         self.raw_mode.size()
     }
 
@@ -309,39 +356,6 @@ impl Terminal {
         &self.raw_mode
     }
 
-    /// Sets how long each kind of bytes may stay buffered. Before that, the limits are those of
-    /// [`Policy::usual`].
-    ///
-    /// ```no_run
-    /// use hedrugal::input::Policy;
-    /// use hedrugal::terminal::Terminal;
-    /// use std::time::Duration;
-    ///
-    /// let escape = Some(Duration::from_millis(20));
-    /// Terminal::open()?.set_policy(Policy { escape, ..Policy::usual() })?;
-    /// # Ok::<(), std::io::Error>(())
-    /// ```
-    ///
-    /// # Errors
-    ///
-    /// None: it asks for no memory.
-    pub fn set_policy(&mut self, policy: Policy) -> io::Result<()> {
-        self.events.set_policy(policy).map_err(refused)
-    }
-
-    /// Sets above how many bytes a paste comes in parts: before that, a megabyte.
-    ///
-    /// ```no_run
-    /// use hedrugal::terminal::Terminal;
-    ///
-    /// let mut terminal = Terminal::open()?;
-    /// terminal.set_paste_limit(4096);
-    /// # Ok::<(), std::io::Error>(())
-    /// ```
-    pub fn set_paste_limit(&mut self, limit: usize) {
-        self.events.set_paste_limit(limit);
-    }
-
     /// Returns how long a loop of the program's own may wait at most. `None` is forever.
     ///
     /// Such a loop waits until one of [`Terminal::descriptors`] can be read, or this time is over.
@@ -349,14 +363,22 @@ impl Terminal {
     ///
     /// ```no_run
     /// use hedrugal::terminal::Terminal;
+    /// use std::time::Duration;
     ///
     /// let mut terminal = Terminal::open()?;
-    /// assert_eq!(terminal.timeout(), None);
+    /// while terminal.poll(Duration::ZERO)? {
+    ///     println!("{:?}", terminal.read()?);
+    /// }
+    /// println!("{:?}", terminal.timeout());
     /// # Ok::<(), std::io::Error>(())
     /// ```
     #[must_use]
-    pub fn timeout(&mut self) -> Option<Duration> {
-        self.events.timeout(Instant::now())
+    pub fn timeout(&self) -> Option<Duration> {
+        if self.first.is_empty() && self.unfed.is_empty() {
+            self.limit(Instant::now())
+        } else {
+            Some(Duration::ZERO)
+        }
     }
 
     /// Returns what a loop of the program's own waits for: the terminal, and the signals that came.
@@ -375,138 +397,163 @@ impl Terminal {
 
     // Waits for an event at most up to a time, and has it come last of those that are there. Returns
     // whether one came.
-    fn read_event(&mut self, end: Option<Instant>) -> io::Result<bool> {
-        let count = self.events.count();
+    fn pull_until(&mut self, end: Option<Instant>) -> io::Result<bool> {
+        let count = self.first.len();
         loop {
-            if self.pull()? || self.events.count() > count {
+            if self.pull()? || self.first.len() > count {
                 return Ok(true);
             }
             let left = end.map(|end| end.saturating_duration_since(Instant::now()));
             if self.is_over() || !self.wait(left)? && left == Some(Duration::ZERO) {
-                return Ok(self.pull()? || self.events.count() > count);
+                return Ok(self.pull()? || self.first.len() > count);
             }
         }
     }
 
     // Whether no event comes any more.
     pub(crate) fn is_over(&self) -> bool {
-        self.events.is_ended() || self.raw_mode.ending().is_some()
+        self.is_ended || self.raw_mode.ending().is_some()
     }
 
     // An event that is there.
     pub(crate) fn next_event(&mut self) -> io::Result<Option<Event>> {
-        if self.events.count() == 0 {
-            self.pull()?;
-        }
-        Ok(self.events.pop())
+        let told = match self.first.pop_front() {
+            None => self.tell()?,
+            told => told,
+        };
+        Ok(told.map(|told| told.event))
     }
 
     // Has the next event of what was read come last of those that are there. Returns whether there
     // was one.
     fn pull(&mut self) -> io::Result<bool> {
-        if !self.unfed.is_empty() {
-            self.events.feed(&self.unfed).map_err(refused)?;
-            self.unfed.clear();
-        }
-        let owed = self.events.questions().count();
-        let pulled = self.events.pull().map_err(refused);
-        if self.events.questions().count() != owed {
-            self.tell_owed();
-        }
-        pulled
+        self.first.try_reserve(1).map_err(|_| AllocError)?;
+        let told = self.tell()?;
+        let is_told = told.is_some();
+        self.first.extend(told);
+        Ok(is_told)
     }
 
-    // Waits for input, a signal or a limit in time, at most for so long. Nothing is flushed unless
-    // nothing was there once its limit had passed: what is there may complete it. Returns whether
-    // input or a signal came.
+    // The next event of what was read.
+    fn tell(&mut self) -> io::Result<Option<Told>> {
+        loop {
+            if let Some(event) = self.parser.try_next()? {
+                let question = self.note(&event);
+                return Ok(Some(Told { event, question }));
+            }
+            if self.unfed.is_empty() {
+                return Ok(None);
+            }
+            self.parser.try_feed(Instant::now(), &self.unfed)?;
+            self.unfed.clear();
+        }
+    }
+
+    // Notes an event. Returns the number of the question that it is a reply to.
+    fn note(&mut self, event: &Event) -> Option<u64> {
+        if self.questions.count() == 0 {
+            return None;
+        }
+        let question = self.questions.note(&mut self.parser, Instant::now(), event);
+        self.tell_owed();
+        question
+    }
+
+    // How long to wait for more bytes.
+    fn limit(&self, now: Instant) -> Option<Duration> {
+        let limits = [self.parser.timeout(now), self.questions.timeout(now)];
+        limits.into_iter().flatten().min()
+    }
+
+    // Waits for input, a signal or a limit in time, at most for so long. The clock is read first:
+    // nothing came up to then if nothing is there. Returns whether input or a signal came.
     pub(crate) fn wait(&mut self, time: Option<Duration>) -> io::Result<bool> {
         let now = Instant::now();
-        let limits = [time, self.events.timeout(now)];
+        let limits = [time, self.limit(now)];
         let came = self.handle_ready(limits.into_iter().flatten().min())?;
         if !came {
-            self.events.expire(now).map_err(refused)?;
+            self.parser.idle(now);
+            self.expire_questions(now);
         }
         Ok(came)
     }
 
     // Waits for input or a signal, and handles it. Returns whether one came.
     pub(crate) fn handle_ready(&mut self, time: Option<Duration>) -> io::Result<bool> {
-        match self.is_ready(time)? {
-            [_, true] => self.heed()?,
-            [true, false] => self.read_input()?,
-            [false, false] => return Ok(false),
+        let polled = self.descriptors().map(|it| it.as_raw_fd());
+        match unix::poll_all(polled, time) {
+            Ok([_, true]) => self.heed()?,
+            Ok([true, false]) => self.read_input()?,
+            Ok([false, false]) => return Ok(false),
+            Err(error) if error.kind() == ErrorKind::Interrupted => self.heed()?,
+            Err(error) => return Err(error),
         }
         Ok(true)
     }
 
-    // Whether there is input, and whether a signal came.
-    fn is_ready(&self, time: Option<Duration>) -> io::Result<[bool; 2]> {
-        let polled = self.descriptors().map(|it| it.as_raw_fd());
-        match unix::poll_all(polled, time) {
-            Err(error) if error.kind() == ErrorKind::Interrupted => Ok([false, true]),
-            ready => ready,
-        }
-    }
-
+    // Heeds the signals that came. All that was read is told by then. A terminal that is gone has no
+    // size, which the next read tells.
     fn heed(&mut self) -> io::Result<()> {
-        self.forget_overdue();
-        match self.raw_mode.heed()? {
-            Heeded::Resumed => {
-                self.resume();
-                self.events.push(Event::Resumed);
-                self.note_size();
-            }
-            Heeded::Resized => self.note_size(),
-            Heeded::Nothing | Heeded::Ending => {}
+        self.first.try_reserve(2).map_err(|_| AllocError)?;
+        self.expire_questions(Instant::now());
+        let heeded = self.raw_mode.heed()?;
+        if heeded == Heeded::Resumed {
+            self.resume();
+            self.push(Event::Resumed);
+        }
+        if let (Heeded::Resumed | Heeded::Resized, Ok(size)) = (heeded, self.size()) {
+            self.push(Event::Resized(size));
         }
         Ok(())
     }
 
-    // One that is gone has no size, which the next read tells.
-    fn note_size(&mut self) {
-        if let Ok((columns, rows)) = self.size() {
-            self.events.push(Event::Resized { columns, rows });
-        }
+    fn push(&mut self, event: Event) {
+        let question = None;
+        self.first.push_back(Told { event, question });
     }
 
-    // Another program had the terminal.
+    // Another program had the terminal. All that was read before is told, so the parser isn't busy.
     fn resume(&mut self) {
-        let _ = self.events.feed(&self.unfed); // of a paste that is open
-        self.unfed.clear();
-        self.events.resume(Instant::now());
+        let _ = self.parser.interrupted(Instant::now());
+        self.questions.forget(&mut self.parser);
+        self.tell_owed();
+    }
+
+    fn expire_questions(&mut self, now: Instant) {
+        self.questions.expire(&mut self.parser, now);
         self.tell_owed();
     }
 
     // Has the guard know what the terminal still owes, for when it is left.
-    fn forget_overdue(&mut self) {
-        self.events.forget_overdue();
-        self.tell_owed();
-    }
-
     fn tell_owed(&self) {
-        let questions = self.events.questions();
+        let questions = &self.questions;
         self.raw_mode
-            .set_owed(questions.count(), questions.longest());
+            .set_owed(questions.count(), questions.slowest());
     }
 
     // Reads what is there. A terminal that is gone is at its end.
     fn read_input(&mut self) -> io::Result<()> {
         let mut bytes = [0; READ];
         match self.raw_mode.input().read(&mut bytes) {
-            Ok(0) => self.events.end(),
+            Ok(0) => self.end(),
             Ok(count) => self.unfed.extend_from_slice(&bytes[..count]),
-            Err(error) if error.raw_os_error() == Some(EIO) => self.events.end(),
+            Err(error) if error.raw_os_error() == Some(EIO) => self.end(),
             Err(error)
                 if matches!(error.kind(), ErrorKind::WouldBlock | ErrorKind::Interrupted) => {}
             Err(error) => return Err(error),
         }
         Ok(())
     }
+
+    fn end(&mut self) {
+        self.is_ended = true;
+        self.parser.end();
+    }
 }
 
 impl Drop for Terminal {
     fn drop(&mut self) {
-        self.forget_overdue();
+        self.expire_questions(Instant::now());
     }
 }
 

@@ -1,5 +1,6 @@
 // The events of a terminal as a stream on tokio's runtime.
-use super::{Event, Terminal};
+use super::Terminal;
+use crate::Event;
 use futures_core::Stream;
 use std::fmt;
 use std::future::{poll_fn, Future};
@@ -76,7 +77,7 @@ impl EventStream {
     ///
     /// # async fn run() -> std::io::Result<()> {
     /// let mut events = EventStream::new(Terminal::open()?)?;
-    /// let (columns, rows) = events.terminal().size()?;
+    /// let size = events.terminal().size()?;
     /// # Ok(())
     /// # }
     /// ```

@@ -1,6 +1,6 @@
 // The calls of Unix that this module needs and std doesn't have, with the numbers of Linux. This
 // package depends on no other crate.
-use crate::extended::{EraseByte, NewlineByte};
+use crate::{EraseByte, NewlineByte, Size};
 use std::ffi::{c_int, c_short, c_uint, c_ulong, c_void};
 use std::io;
 use std::os::fd::RawFd;
@@ -49,7 +49,8 @@ struct PollFd {
 struct WindowSize {
     rows: u16,
     columns: u16,
-    pixels: [u16; 2],
+    width: u16,
+    height: u16,
 }
 
 /// A `struct sigaction`: what a signal does.
@@ -178,12 +179,17 @@ pub fn discard(terminal: RawFd) {
     unsafe { tcflush(terminal, TCIFLUSH) };
 }
 
-/// Returns the columns and rows of a terminal.
-pub fn size(terminal: RawFd) -> io::Result<(u16, u16)> {
+/// Returns the size of a terminal.
+pub fn size(terminal: RawFd) -> io::Result<Size> {
     let mut size = WindowSize::default();
     // SAFETY: the request writes a `struct winsize`.
     checked(unsafe { ioctl(terminal, TIOCGWINSZ, &mut size as *mut WindowSize) })?;
-    Ok((size.columns, size.rows))
+    Ok(Size {
+        columns: size.columns,
+        rows: size.rows,
+        width: size.width,
+        height: size.height,
+    })
 }
 
 /// Waits until a descriptor can be read or is at its end, or until the time is over. Returns which

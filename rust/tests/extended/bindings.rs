@@ -1,7 +1,7 @@
 // Bindings of chords, and matchers.
 use crate::draws::Draws;
 use crate::plain::chords::{chord, either, is_continued, is_dead_end, read, Chords};
-use hedrugal::extended::{BindError, BindErrorKind, Bindings, Chord, KeyPress, Matcher, Outcome};
+use hedrugal::{BindError, BindErrorKind, Bindings, Chord, KeyPress, Matcher, Outcome};
 use std::collections::BTreeMap;
 use std::rc::Rc;
 use std::thread;

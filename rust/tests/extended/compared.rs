@@ -1,16 +1,17 @@
-// Texts that `ExtendedParser` reads as the plain reader does.
+// Texts that `Parser` reads as the plain reader does.
+use crate::calls::Calls;
 use crate::draws::Draws;
 use crate::examples::{Step, BOTH, LAST, MORE};
 use crate::generated::any_text;
 use crate::plain::PlainReader;
-use hedrugal::extended::{Dialect, ExtendedParser, Reading};
+use hedrugal::{Dialect, Parser, Reading};
 
 // The end of a paste.
 const END: &[u8] = b"\x1b[201~";
 
 // The parser, the plain reader, how both read first, and what the reader has buffered.
 pub struct Comparison {
-    parser: ExtendedParser,
+    parser: Parser,
     reader: PlainReader,
     first: Reading,
     waiting: Vec<u8>,
@@ -20,7 +21,7 @@ impl Comparison {
     pub fn new(dialect: Dialect) -> Comparison {
         let first = Reading::new(dialect);
         Comparison {
-            parser: ExtendedParser::new(dialect),
+            parser: Parser::new(dialect),
             reader: PlainReader::new(first),
             first,
             waiting: Vec::new(),
@@ -89,7 +90,7 @@ impl Comparison {
     fn check_call(&mut self, bytes: &[u8], more: bool) {
         let text = [&self.waiting, bytes].concat();
         let (events, rest) = self.reader.read(&text, more);
-        let parsed = self.parser.parse_as_vec(bytes, more);
+        let parsed = self.parser.read(bytes, more);
         assert_eq!(parsed, events, "{}, {more}", text.escape_ascii());
         assert_eq!(
             self.parser.waiting_len(),

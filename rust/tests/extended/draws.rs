@@ -1,5 +1,5 @@
 // Texts and readings that look random, and are the same in each run.
-use hedrugal::extended::{Dialect, EraseByte, NewlineByte, Reading};
+use hedrugal::{Dialect, EraseByte, NewlineByte, Reading};
 
 // A linear congruential generator.
 pub struct Draws(u64);

@@ -1,9 +1,9 @@
 // Key reports to bytes, and back.
-use hedrugal::extended::{
-    Dialect, Event, ExtendedParser, KeyEventKind, KeyReport, KittyEncodeError, KittyModifiers,
-    ReportedKey,
-};
+use crate::calls::Calls;
 use hedrugal::input::{KeyCode, KittyKeyboardFlags as Flags};
+use hedrugal::{
+    Dialect, Event, KeyEventKind, KeyReport, KittyEncodeError, KittyModifiers, Parser, ReportedKey,
+};
 
 const KINDS: [KeyEventKind; 3] = [
     KeyEventKind::Press,
@@ -847,7 +847,7 @@ fn texts_of_a_key_alone() {
 
 #[test]
 fn read_back() {
-    let mut parser = ExtendedParser::new(Dialect::Extended);
+    let mut parser = Parser::new(Dialect::Extended);
     let keys = [
         KeyCode::Char('a'),
         KeyCode::Char('\u{10ffff}'),
@@ -865,7 +865,7 @@ fn read_back() {
     let mut read = |report: KeyReport| {
         let sent = report.encode(Flags::all()).unwrap();
         assert_eq!(
-            parser.parse_as_vec(sent.as_bytes(), true),
+            parser.read(sent.as_bytes(), true),
             [Event::Key(report)],
             "{}",
             sent.escape_debug()
@@ -890,10 +890,10 @@ fn read_back() {
 // key can be another: 29 is F16, and what Ctrl makes of i is Tab.
 #[test]
 fn legacy_read_back() {
-    let mut parser = ExtendedParser::new(Dialect::Extended);
+    let mut parser = Parser::new(Dialect::Extended);
     let mut read = |sent: &KeyReport, key: KeyCode, modifiers: KittyModifiers| {
         let text = sent.encode(Flags::NONE).unwrap();
-        let events = parser.parse_as_vec(text.as_bytes(), false);
+        let events = parser.read(text.as_bytes(), false);
         let [event] = events.as_slice() else {
             panic!("{sent:?}: {events:?}");
         };

@@ -1,5 +1,5 @@
 // Examples: what each call of a fresh parser gives.
-use hedrugal::extended::Dialect;
+use hedrugal::Dialect;
 
 pub const MORE: bool = true;
 

@@ -1,12 +1,13 @@
 // Texts that look random: how they are cut, by which call they are read, and what the port reads of
 // them.
+use crate::calls::Calls;
 use crate::cuts::read_cut;
 use crate::draws::Draws;
 use crate::examples::BOTH;
 use crate::lines::port_of;
 use crate::parser::{begin, parsed, CALLS};
-use hedrugal::extended::{Dialect, ExtendedParser, Reading};
 use hedrugal::input::InputParser;
+use hedrugal::{Dialect, Parser, Reading};
 
 // The bytes that the forms name, and parts and wholes of sequences. ESC stands twice, so that it is
 // drawn more often.
@@ -119,15 +120,9 @@ pub fn any_text(draws: &mut Draws) -> Vec<u8> {
 }
 
 // The text has the same events, and as many bytes are buffered, in whatever pieces it is read.
-fn check_cuts(
-    draws: &mut Draws,
-    parser: &mut ExtendedParser,
-    reading: Reading,
-    text: &[u8],
-    more: bool,
-) {
+fn check_cuts(draws: &mut Draws, parser: &mut Parser, reading: Reading, text: &[u8], more: bool) {
     begin(parser, reading);
-    let wanted = parser.parse_as_vec(text, more);
+    let wanted = parser.read(text, more);
     let left = parser.reading();
     let waiting_len = parser.waiting_len();
     for limit in [1, 2, 4, 16] {
@@ -147,9 +142,9 @@ fn check_cuts(
 }
 
 // The text has the same events, and as many bytes are buffered, by whatever call it is read.
-fn check_calls(parser: &mut ExtendedParser, reading: Reading, text: &[u8], more: bool) {
+fn check_calls(parser: &mut Parser, reading: Reading, text: &[u8], more: bool) {
     begin(parser, reading);
-    let wanted = parser.parse_as_vec(text, more);
+    let wanted = parser.read(text, more);
     let waiting_len = parser.waiting_len();
     for call in 0..CALLS {
         begin(parser, reading);
@@ -171,7 +166,7 @@ fn check_calls(parser: &mut ExtendedParser, reading: Reading, text: &[u8], more:
 #[test]
 fn reads_2000_texts_however_cut() {
     for dialect in BOTH {
-        let (mut draws, mut parser) = (Draws::new(1), ExtendedParser::new(*dialect));
+        let (mut draws, mut parser) = (Draws::new(1), Parser::new(*dialect));
         for _ in 0..2000 {
             let text = any_text(&mut draws);
             let more = draws.below(2) == 0;
@@ -185,23 +180,23 @@ fn reads_2000_texts_however_cut() {
 // A text without extra sequences is read as the port reads it.
 #[test]
 fn reads_2000_usual_texts_as_the_port() {
-    let (mut port, mut parser) = (InputParser::new(), ExtendedParser::new(Dialect::Extended));
+    let mut parser = Parser::new(Dialect::Extended);
     let mut draws = Draws::new(2);
     for _ in 0..2000 {
         let text = drawn(&mut draws, USUAL_SYMBOLS);
-        port.reset();
+        let mut port = InputParser::new();
         parser.reset();
         let wanted: Vec<_> = port
             .parse_as_vec(&text, false)
             .into_iter()
             .map(Some)
             .collect();
-        let events = parser.parse_as_vec(&text, false);
+        let events = parser.read(&text, false);
         let events: Vec<_> = events.iter().map(port_of).collect();
         assert_eq!(events, wanted, "{}", text.escape_ascii());
         assert_eq!(
             parser.waiting_len(),
-            port.waiting_len(),
+            port.parser().waiting_len(),
             "{}",
             text.escape_ascii()
         );
@@ -211,21 +206,21 @@ fn reads_2000_usual_texts_as_the_port() {
 // By termwiz's dialect each text is read as the port reads it, whatever else is set.
 #[test]
 fn reads_2000_texts_as_the_port() {
-    let (mut port, mut parser) = (InputParser::new(), ExtendedParser::new(Dialect::Termwiz));
+    let mut parser = Parser::new(Dialect::Termwiz);
     let mut draws = Draws::new(6);
     for _ in 0..2000 {
         let (text, more) = (any_text(&mut draws), draws.below(2) == 0);
-        port.reset();
+        let mut port = InputParser::new();
         begin(&mut parser, draws.reading(Dialect::Termwiz));
         let wanted: Vec<_> = port
             .parse_as_vec(&text, more)
             .into_iter()
             .map(Some)
             .collect();
-        let events = parser.parse_as_vec(&text, more);
+        let events = parser.read(&text, more);
         let events: Vec<_> = events.iter().map(port_of).collect();
         assert_eq!(events, wanted, "{}", text.escape_ascii());
-        assert_eq!(parser.waiting_len(), port.waiting_len());
-        assert_eq!(parser.is_paste_open(), port.is_paste_open());
+        assert_eq!(parser.waiting_len(), port.parser().waiting_len());
+        assert_eq!(parser.waiting(), port.parser().waiting());
     }
 }

@@ -1,10 +1,9 @@
 // What kitty sent for keys (kitty.tsv), and what is written for their reports. The report of a key
 // is what kitty sent for it with all flags. So it shows which key that was, what it types with
 // Shift, and its text.
-use hedrugal::extended::{
-    Dialect, Event, ExtendedParser, KeyEventKind, KeyReport, KittyModifiers, ReportedKey,
-};
+use crate::calls::Calls;
 use hedrugal::input::{KeyCode, KittyKeyboardFlags as Flags};
+use hedrugal::{Dialect, Event, KeyEventKind, KeyReport, KittyModifiers, Parser, ReportedKey};
 
 const RECORDED: &str = include_str!("kitty.tsv");
 
@@ -128,7 +127,7 @@ fn unescaped(column: &str) -> String {
 
 // The report that kitty sent with all flags.
 fn told(name: &str, modifiers: &str, sent: &str) -> KeyReport {
-    let events = ExtendedParser::new(Dialect::Extended).parse_as_vec(sent.as_bytes(), true);
+    let events = Parser::new(Dialect::Extended).read(sent.as_bytes(), true);
     let [Event::Key(report)] = events.as_slice() else {
         panic!("{name} {modifiers}: {}", sent.escape_debug());
     };

@@ -2,7 +2,7 @@
 use crate::cuts::read_cut;
 use crate::examples::MORE;
 use crate::parser::given;
-use hedrugal::extended::{Dialect, ExtendedParser};
+use hedrugal::{Dialect, Parser};
 
 // A text, or what it gives with more to come, by its parts, each so many times.
 type Parts<Part> = &'static [(Part, usize)];
@@ -143,7 +143,7 @@ pub fn joined<Part: AsRef<[u8]>>(parts: Parts<Part>) -> Vec<u8> {
 
 // The parser reads the text of an example by one call, and in pieces of 64 bytes, with its last
 // byte alone or not.
-fn check(parser: &mut ExtendedParser, (parts, wanted): &LongExample) {
+fn check(parser: &mut Parser, (parts, wanted): &LongExample) {
     let (text, wanted) = (joined(parts), joined(wanted));
     for place in [0, text.len() - 1, text.len()] {
         parser.reset();
@@ -156,7 +156,7 @@ fn check(parser: &mut ExtendedParser, (parts, wanted): &LongExample) {
 }
 
 pub fn check_all(examples: &[LongExample]) {
-    let mut parser = ExtendedParser::new(Dialect::Extended);
+    let mut parser = Parser::new(Dialect::Extended);
     for example in examples {
         check(&mut parser, example);
     }

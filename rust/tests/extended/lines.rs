@@ -1,8 +1,8 @@
 // Events as lines of text.
-use hedrugal::extended::{
+use hedrugal::input::{InputEvent, KeyEvent, Modifiers, MouseEvent};
+use hedrugal::{
     Event, KeyEventKind, KeyReport, KittyModifiers, MouseReport, ReportedKey, StringKind,
 };
-use hedrugal::input::{InputEvent, KeyEvent, Modifiers, MouseEvent};
 
 fn mouse(report: &MouseReport) -> String {
     let (x, y, buttons, modifiers) = (report.x, report.y, report.buttons, report.modifiers);
@@ -52,22 +52,22 @@ pub fn line(event: &Event) -> String {
         Event::Key(event) => report(event),
         Event::Mouse(event) => mouse(event),
         Event::Paste(text) => format!("paste {text:?}"),
+        Event::PastePart(text) => format!("paste part {text:?}"),
         Event::FocusGained => "focus gained".to_string(),
         Event::FocusLost => "focus lost".to_string(),
         Event::CursorPosition { row, column } => format!("cursor {row} {column}"),
-        Event::Resize {
-            rows,
-            columns,
-            height,
-            width,
-        } => format!("size {rows} {columns} {height} {width}"),
-        Event::KeyboardFlags(flags) => format!("flags {flags}"),
+        Event::Resized(size) => format!(
+            "size {} {} {} {}",
+            size.rows, size.columns, size.height, size.width
+        ),
+        Event::KeyboardFlags(flags) => format!("flags {}", flags.bits()),
         Event::Csi(text) => bytes("csi", text),
         Event::Osc(text) => bytes("osc", text),
         Event::Dcs(text) => bytes("dcs", text),
         Event::Apc(text) => bytes("apc", text),
         Event::StringPart { kind, bytes: part } => bytes(&format!("{} part", name_of(*kind)), part),
         Event::StringCut { kind, bytes: cut } => bytes(&format!("{} cut", name_of(*kind)), cut),
+        Event::Resumed => "resumed".to_string(),
     }
 }
 

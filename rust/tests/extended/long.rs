@@ -1,13 +1,14 @@
 // Long texts, by each way to call the parser.
+use crate::calls::Calls;
 use crate::examples::LAST;
 use crate::limits::{check_all, joined, LongExample};
 use crate::lines::lines;
 use crate::parser::{parsed, CALLS};
-use hedrugal::extended::{Dialect, Event, ExtendedParser, ExtendedWaiting};
+use hedrugal::{Dialect, Event, Parser, Waiting};
 
 // A text of one event, by each call as a whole, and in reads of 4096 bytes.
 fn check(text: &[u8], wanted: &Event) {
-    let mut parser = ExtendedParser::new(Dialect::Extended);
+    let mut parser = Parser::new(Dialect::Extended);
     for call in 0..CALLS {
         assert!(
             parsed(call, &mut parser, text, true) == [wanted.clone()],
@@ -73,23 +74,20 @@ fn a_clipboard_of_100_kb() {
         (b"\x1b_Gi=", b"", "pc"),
     ] {
         for size in [1, 4096, 200_000] {
-            let mut parser = ExtendedParser::new(Dialect::Extended);
+            let mut parser = Parser::new(Dialect::Extended);
             let mut events = Vec::new();
             for bytes in [opening, &text, end].concat().chunks(size) {
-                events.extend(parser.parse_as_vec(bytes, true));
+                events.extend(parser.read(bytes, true));
                 assert!(parser.waiting_len() <= 65535);
             }
             if wanted == "pc" {
-                assert_eq!(parser.waiting(), ExtendedWaiting::String);
-                events.extend(parser.parse_as_vec(b"", LAST));
+                assert_eq!(parser.waiting(), Waiting::String);
+                events.extend(parser.read(b"", LAST));
             }
             let (kinds, data) = joined_string(&events, opening.len() - 2);
             assert_eq!(kinds, wanted);
             assert!(data == text, "pieces of {size}");
-            assert_eq!(
-                lines(&parser.parse_as_vec(b"q", true)),
-                "key Char('q') NONE"
-            );
+            assert_eq!(lines(&parser.read(b"q", true)), "key Char('q') NONE");
         }
     }
 }
@@ -97,7 +95,7 @@ fn a_clipboard_of_100_kb() {
 // 70000 events in one call.
 #[test]
 fn events_70000_at_once() {
-    let mut parser = ExtendedParser::new(Dialect::Extended);
+    let mut parser = Parser::new(Dialect::Extended);
     for call in 0..CALLS {
         let events = parsed(call, &mut parser, &b"\x1b[I\x1b]4;\x07".repeat(35000), true);
         let wanted = [Event::FocusGained, Event::Osc(b"4;".to_vec())];
@@ -141,7 +139,7 @@ fn mixed_events_at_once() {
     let (parts, wanted) = MIXED;
     let (text, wanted) = (joined(parts), joined(wanted));
     assert_eq!(text.len(), 100_001);
-    let mut parser = ExtendedParser::new(Dialect::Extended);
+    let mut parser = Parser::new(Dialect::Extended);
     for call in 0..CALLS {
         let events = parsed(call, &mut parser, &text, LAST);
         assert_eq!(events.len(), 24001, "call {call}");

@@ -1,5 +1,6 @@
-// `ExtendedParser`, by the crate's public calls alone.
+// A parser, by the crate's public calls alone.
 mod bindings;
+mod calls;
 mod compared;
 mod cuts;
 mod draws;
@@ -18,6 +19,7 @@ mod reading;
 mod recorded;
 mod replies;
 mod rows;
+mod runs;
 mod sending;
 mod streams;
 mod waiting;

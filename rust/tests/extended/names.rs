@@ -2,10 +2,8 @@
 use crate::draws::Draws;
 use crate::plain::names::{print, read};
 use crate::presses::drawn_key;
-use hedrugal::extended::{
-    Chord, KeyNameError, KeyNameErrorKind, KeyPress, KittyModifiers, ReportedKey,
-};
 use hedrugal::input::{KeyCode, KeyEvent, Modifiers};
+use hedrugal::{Chord, KeyNameError, KeyNameErrorKind, KeyPress, KittyModifiers, ReportedKey};
 use std::collections::{BTreeSet, HashSet};
 
 // Texts and what is printed of the chords that they name.

@@ -1,4 +1,5 @@
-// `ExtendedParser` on worked examples.
+// `Parser` on worked examples.
+use crate::calls::Calls;
 use crate::compared::Comparison;
 use crate::cuts::check_cuts;
 use crate::examples::{
@@ -7,14 +8,15 @@ use crate::examples::{
     THIRD_FUNCTION_KEYS, X10_REPORTS,
 };
 use crate::lines::lines;
-use hedrugal::extended::{
-    Dialect, Event, ExtendedParser, ExtendedWaiting, KeyEventKind, KeyReport, KittyModifiers,
-    MouseReport, Reading, ReportedKey,
-};
+use crate::port::feeder::at;
 use hedrugal::input::{InputEvent, InputParser, KeyCode, KittyKeyboardFlags};
+use hedrugal::{
+    Dialect, Event, KeyEventKind, KeyReport, KittyModifiers, MouseReport, Parser, Reading,
+    ReportedKey, Waiting,
+};
 
 // What a call gave, and how many bytes are buffered after it.
-pub fn given(events: &[Event], parser: &ExtendedParser) -> String {
+pub fn given(events: &[Event], parser: &Parser) -> String {
     let mut given = lines(events);
     if parser.waiting_len() > 0 {
         given += &format!("; {}", parser.waiting_len());
@@ -26,43 +28,28 @@ pub fn given(events: &[Event], parser: &ExtendedParser) -> String {
 }
 
 // Forgets what is buffered, and reads so from now on.
-pub fn begin(parser: &mut ExtendedParser, reading: Reading) {
+pub fn begin(parser: &mut Parser, reading: Reading) {
     parser.reset();
     parser.set_reading(reading);
 }
 
 // The events of a call, by each way to call the parser.
-pub fn parsed(call: usize, parser: &mut ExtendedParser, bytes: &[u8], more: bool) -> Vec<Event> {
-    let mut events = Vec::new();
-    match call {
-        0 => return parser.parse_as_vec(bytes, more),
-        1 => {
-            return parser
-                .try_parse_as_vec(bytes, more)
-                .expect("memory is granted")
-        }
-        2 => parser.parse(bytes, |event| events.push(event), more),
-        3 => parser
-            .try_parse(bytes, |event| events.push(event), more)
-            .expect("memory is granted"),
-        4 => {
-            parser.feed(bytes);
-            events.extend(std::iter::from_fn(|| parser.next_event(more)));
-        }
-        _ => {
-            parser.try_feed(bytes).expect("memory is granted");
-            events.extend(std::iter::from_fn(|| {
-                parser.try_next_event(more).expect("memory is granted")
-            }));
-        }
+pub fn parsed(call: usize, parser: &mut Parser, bytes: &[u8], more: bool) -> Vec<Event> {
+    if call == 0 {
+        return parser.read(bytes, more);
     }
-    events
+    parser.try_feed(at(0), bytes).expect("memory is granted");
+    if !more {
+        parser.flush();
+    }
+    let next = || parser.try_next().expect("memory is granted");
+    std::iter::from_fn(next).collect()
 }
 
 // How many ways there are.
-pub const CALLS: usize = 6;
+pub const CALLS: usize = 2;
 
-fn check_steps(parser: &mut ExtendedParser, reading: Reading, steps: &[Step]) {
+fn check_steps(parser: &mut Parser, reading: Reading, steps: &[Step]) {
     for call in 0..CALLS {
         begin(parser, reading);
         for (bytes, more, wanted) in steps {
@@ -79,22 +66,22 @@ fn check_steps(parser: &mut ExtendedParser, reading: Reading, steps: &[Step]) {
 
 // The events of a text in pieces and what is buffered then, and then of a flush.
 fn in_pieces<'a>(
-    parser: &mut ExtendedParser,
+    parser: &mut Parser,
     reading: Reading,
     pieces: impl IntoIterator<Item = &'a [u8]>,
 ) -> [String; 2] {
     begin(parser, reading);
     let mut events = Vec::new();
     for bytes in pieces {
-        parser.parse(bytes, |event| events.push(event), true);
+        events.extend(parser.read(bytes, true));
     }
     let before = given(&events, parser);
-    let flushed = parser.parse_as_vec(b"", false);
+    let flushed = parser.read(b"", false);
     [before, given(&flushed, parser)]
 }
 
 // All bytes of an example, byte by byte and cut at each place, give what they give as a whole.
-fn check_pieces(parser: &mut ExtendedParser, reading: Reading, steps: &[Step]) {
+fn check_pieces(parser: &mut Parser, reading: Reading, steps: &[Step]) {
     let text: Vec<u8> = steps
         .iter()
         .flat_map(|(bytes, _, _)| bytes.iter().copied())
@@ -118,7 +105,7 @@ fn check_pieces(parser: &mut ExtendedParser, reading: Reading, steps: &[Step]) {
 
 // The examples are read by this reading.
 fn check_all_by(reading: Reading, examples: &[Example]) {
-    let mut parser = ExtendedParser::new(Dialect::Extended);
+    let mut parser = Parser::new(Dialect::Extended);
     let mut comparison = Comparison::new(Dialect::Extended);
     comparison.set_first(reading);
     for steps in examples {
@@ -207,8 +194,8 @@ fn pressed(key: KeyCode, modifiers: KittyModifiers) -> KeyReport {
 // A key that is typed is a press, so a program needs one case for both.
 #[test]
 fn finds_keys_of_events() {
-    let mut parser = ExtendedParser::new(Dialect::Extended);
-    let events = parser.parse_as_vec(
+    let mut parser = Parser::new(Dialect::Extended);
+    let events = parser.read(
         b"a\x1b[1;8A\x1b[I\x1b[97;5:3u\x1b[200~p\x1b[201~\x1b[<0;1;1M\x1b[?1u\x1b]4;\x07",
         true,
     );
@@ -238,8 +225,8 @@ fn finds_keys_of_events() {
 // Each key is found as a report, also one with a text and a key of the port.
 #[test]
 fn finds_keys_of_reports() {
-    let mut parser = ExtendedParser::new(Dialect::Extended);
-    let events = parser.parse_as_vec(
+    let mut parser = Parser::new(Dialect::Extended);
+    let events = parser.read(
         b"a\x1b[97;5u\x1b[I\x1b[1;2:3A\x1b[200~p\x1b[201~\x1b[97;;65u\x1bOP",
         false,
     );
@@ -258,13 +245,10 @@ fn finds_keys_of_reports() {
 // The flags of a reply are those that a program pushes.
 #[test]
 fn tells_keyboard_flags() {
-    let events = ExtendedParser::new(Dialect::Extended).parse_as_vec(b"\x1b[?5u", true);
-    let [Event::KeyboardFlags(bits)] = events[..] else {
-        panic!("{events:?}")
-    };
+    let events = Parser::new(Dialect::Extended).read(b"\x1b[?5u", true);
     let flags =
         KittyKeyboardFlags::DISAMBIGUATE_ESCAPE_CODES | KittyKeyboardFlags::REPORT_ALTERNATE_KEYS;
-    assert_eq!(KittyKeyboardFlags::from_bits(bits.into()), Some(flags));
+    assert_eq!(events, [Event::KeyboardFlags(flags)]);
 }
 
 #[test]
@@ -278,33 +262,18 @@ fn writes_and_reads_modifiers() {
     assert_eq!(KittyModifiers::from_bits(255), Some(KittyModifiers::all()));
 }
 
-// A callback that panics loses no later event.
-#[test]
-fn goes_on_after_a_panic() {
-    let mut parser = ExtendedParser::new(Dialect::Extended);
-    let caught = std::panic::catch_unwind(std::panic::AssertUnwindSafe(|| {
-        parser.parse(
-            b"\x1b[I\x1b]4;\x07",
-            |_| std::panic::resume_unwind(Box::new(())),
-            true,
-        );
-    }));
-    assert!(caught.is_err());
-    assert_eq!(parser.parse_as_vec(b"", true), [Event::Osc(b"4;".to_vec())]);
-}
-
 // What stays buffered is read by two threads at once, and the parser then goes on in a third.
 #[test]
 fn shares_a_parser_between_threads() {
-    let mut parser = ExtendedParser::new(Dialect::Extended);
-    parser.parse(b"\x1b]0;title", |_| {}, true);
+    let mut parser = Parser::new(Dialect::Extended);
+    assert_eq!(parser.read(b"\x1b]0;title", true), []);
     std::thread::scope(|scope| {
         for _ in 0..2 {
             scope.spawn(|| {
                 for _ in 0..1000 {
                     assert_eq!(
                         (parser.waiting(), parser.waiting_len()),
-                        (ExtendedWaiting::String, 9)
+                        (Waiting::String, 9)
                     );
                     assert!(!parser.is_paste_open());
                     assert_eq!(parser.reading(), Reading::new(Dialect::Extended));
@@ -312,14 +281,14 @@ fn shares_a_parser_between_threads() {
             });
         }
     });
-    let events = std::thread::spawn(move || parser.parse_as_vec(b"\x07", true)).join();
+    let events = std::thread::spawn(move || parser.read(b"\x07", true)).join();
     assert_eq!(events.ok(), Some(vec![Event::Osc(b"0;title".to_vec())]));
 }
 
 #[test]
 fn has_the_traits() {
     fn is_shared<T: Send + Sync + std::panic::UnwindSafe + std::panic::RefUnwindSafe>() {}
-    is_shared::<ExtendedParser>();
+    is_shared::<Parser>();
     is_shared::<Event>();
     is_shared::<KittyModifiers>();
     is_shared::<Reading>();
@@ -328,11 +297,11 @@ fn has_the_traits() {
 
 #[test]
 fn shows_a_parser() {
-    let mut parser = ExtendedParser::new(Dialect::Extended);
-    parser.parse(b"\x1b[", |_| (), true);
+    let mut parser = Parser::new(Dialect::Extended);
+    assert_eq!(parser.read(b"\x1b[", true), []);
     assert_eq!(
         format!("{parser:?}"),
-        "ExtendedParser { reading: Reading { dialect: Extended, x10_mouse: false, questions: 0, \
+        "Parser { reading: Reading { dialect: Extended, x10_mouse: false, questions: 0, \
          erase: Delete, newline: CtrlJ }, waiting_len: 2, .. }"
     );
 }
@@ -340,13 +309,13 @@ fn shows_a_parser() {
 // Two parsers at once, of either kind, have nothing in common.
 #[test]
 fn parts_parsers() {
-    let (mut plain, mut extended) = (InputParser::new(), ExtendedParser::new(Dialect::Extended));
+    let (mut plain, mut extended) = (InputParser::new(), Parser::new(Dialect::Extended));
     assert_eq!(plain.parse_as_vec(b"\x1b[200~a", true), []);
-    assert_eq!(extended.parse_as_vec(b"\x1b[200~b", true), []);
+    assert_eq!(extended.read(b"\x1b[200~b", true), []);
     let (a, b) = (
         InputEvent::Paste("a".to_string()),
         Event::Paste("b".to_string()),
     );
     assert_eq!(plain.parse_as_vec(b"\x1b[201~", true), [a]);
-    assert_eq!(extended.parse_as_vec(b"\x1b[201~", true), [b]);
+    assert_eq!(extended.read(b"\x1b[201~", true), [b]);
 }

@@ -1,5 +1,5 @@
 // A slow reader. It follows docs/EXTENDED.md sentence by sentence and by trying everything, and
-// shares nothing with `ExtendedParser` but the types of events. What the port knows it asks the
+// shares nothing with `Parser` but the types of events. What the port knows it asks the
 // port's plain reader. A number in a comment is that of the page's sentence.
 pub mod chords;
 mod forms;
@@ -12,10 +12,10 @@ mod strings;
 
 use crate::port::plain::{report_of, PlainReader as PortReader};
 use forms::{is_form, is_keypad_key};
-use hedrugal::extended::{
+use hedrugal::input::{InputEvent, KeyCode, KeyEvent, Modifiers};
+use hedrugal::{
     Dialect, EraseByte, Event, KeyReport, KittyModifiers, NewlineByte, Reading, ReportedKey,
 };
-use hedrugal::input::{InputEvent, KeyCode, KeyEvent, Modifiers};
 use meanings::{event_of, pressed, sgr_report};
 use strings::{begins_opening, opening_of, string_at};
 

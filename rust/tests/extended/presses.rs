@@ -1,11 +1,11 @@
 // Presses of events and of key reports.
+use crate::calls::Calls;
 use crate::draws::Draws;
 use crate::plain::presses::{said_of, second_of, Said};
-use hedrugal::extended::{
-    typed_text, Dialect, ExtendedParser, KeyEventKind, KeyPress, KeyReport, KittyModifiers,
-    ReportedKey,
-};
 use hedrugal::input::{KeyCode, KeyEvent, Modifiers};
+use hedrugal::{
+    typed_text, Dialect, KeyEventKind, KeyPress, KeyReport, KittyModifiers, Parser, ReportedKey,
+};
 use std::collections::{BTreeSet, HashMap};
 
 const NONE: KittyModifiers = KittyModifiers::NONE;
@@ -578,7 +578,7 @@ fn bytes_of_one_key_have_one_press() {
         let presses: BTreeSet<KeyPress> = texts
             .iter()
             .map(|text| {
-                let events = ExtendedParser::new(Dialect::Extended).parse_as_vec(text, false);
+                let events = Parser::new(Dialect::Extended).read(text, false);
                 KeyPress::of_report(events[0].key().unwrap()).unwrap()
             })
             .collect();

@@ -1,23 +1,25 @@
 // How a parser reads: the reading that it begins with, what changes it, and what is buffered then.
+use crate::calls::Calls;
 use crate::examples::BOTH;
 use crate::lines::lines;
 use crate::parser::given;
-use hedrugal::extended::{Dialect, EraseByte, ExtendedParser, NewlineByte, Reading};
+use crate::port::feeder::at;
+use hedrugal::{Dialect, EraseByte, NewlineByte, Parser, Reading};
 
 // What a call with more to come gives.
-fn read(parser: &mut ExtendedParser, bytes: &[u8]) -> String {
-    let events = parser.parse_as_vec(bytes, true);
+fn read(parser: &mut Parser, bytes: &[u8]) -> String {
+    let events = parser.read(bytes, true);
     given(&events, parser)
 }
 
-fn questions(parser: &ExtendedParser) -> u8 {
+fn questions(parser: &Parser) -> u8 {
     parser.reading().questions
 }
 
 #[test]
 fn begins_without_questions() {
     for dialect in BOTH {
-        let parser = ExtendedParser::new(*dialect);
+        let parser = Parser::new(*dialect);
         let wanted = Reading {
             dialect: *dialect,
             x10_mouse: false,
@@ -34,7 +36,7 @@ fn begins_without_questions() {
 // Each reading is the one that was set.
 #[test]
 fn tells_the_reading() {
-    let mut parser = ExtendedParser::new(Dialect::Extended);
+    let mut parser = Parser::new(Dialect::Extended);
     for dialect in BOTH {
         for x10_mouse in [true, false] {
             for questions in [0, 1, 254, 255] {
@@ -49,7 +51,6 @@ fn tells_the_reading() {
                         };
                         parser.set_reading(reading);
                         assert_eq!(parser.reading(), reading);
-                        assert_eq!(parser.dialect(), *dialect);
                     }
                 }
             }
@@ -60,7 +61,7 @@ fn tells_the_reading() {
 // A question is answered once. The next reply that nobody asked for is a key.
 #[test]
 fn expects_each_position_once() {
-    let mut parser = ExtendedParser::new(Dialect::Extended);
+    let mut parser = Parser::new(Dialect::Extended);
     let f3 = "key Function(3) CTRL";
     assert_eq!(read(&mut parser, b"\x1b[1;5R"), f3);
     parser.expect_position();
@@ -78,23 +79,23 @@ fn expects_each_position_once() {
 // A position that nobody asked for, or that no entry has the bytes of, takes no question below 0.
 #[test]
 fn counts_from_0_to_255() {
-    let mut parser = ExtendedParser::new(Dialect::Extended);
+    let mut parser = Parser::new(Dialect::Extended);
     assert_eq!(read(&mut parser, b"\x1b[?24;80R"), "cursor 24 80");
     assert_eq!(questions(&parser), 0);
     for count in 1..=300 {
         parser.expect_position();
         assert_eq!(questions(&parser), u8::try_from(count).unwrap_or(255));
     }
-    parser.parse(&b"\x1b[24;80R".repeat(254), |_| (), true);
+    assert_eq!(parser.read(&b"\x1b[24;80R".repeat(254), true).len(), 254);
     assert_eq!(questions(&parser), 1);
-    parser.parse(&b"\x1b[24;80R".repeat(3), |_| (), true);
+    assert_eq!(parser.read(&b"\x1b[24;80R".repeat(3), true).len(), 3);
     assert_eq!(questions(&parser), 0);
 }
 
 // A reply that is overdue is expected no longer. Bytes that came before are read by the later call.
 #[test]
 fn forgets_positions() {
-    let mut parser = ExtendedParser::new(Dialect::Extended);
+    let mut parser = Parser::new(Dialect::Extended);
     parser.expect_position();
     parser.expect_position();
     assert_eq!(read(&mut parser, b"\x1b[1;"), "; 4");
@@ -111,12 +112,12 @@ fn forgets_positions() {
 // A flush at a limit in time keeps the questions.
 #[test]
 fn keeps_questions_over_a_pause() {
-    let mut parser = ExtendedParser::new(Dialect::Extended);
+    let mut parser = Parser::new(Dialect::Extended);
     parser.expect_position();
     assert_eq!(read(&mut parser, b"\x1b"), "; 1");
-    assert_eq!(lines(parser.flush_escape().as_slice()), "key Escape NONE");
+    assert_eq!(lines(&parser.read(b"", false)), "key Escape NONE");
     assert_eq!(read(&mut parser, b"\x1b[1;2"), "; 5");
-    assert!(!parser.parse_as_vec(b"", false).is_empty());
+    assert!(!parser.read(b"", false).is_empty());
     assert_eq!(questions(&parser), 1);
     assert_eq!(read(&mut parser, b"\x1b[1;2R"), "cursor 1 2");
 }
@@ -124,7 +125,7 @@ fn keeps_questions_over_a_pause() {
 // A reset forgets questions alone of the reading.
 #[test]
 fn resets_questions() {
-    let mut parser = ExtendedParser::new(Dialect::Extended);
+    let mut parser = Parser::new(Dialect::Extended);
     let with_x10 = Reading {
         x10_mouse: true,
         ..Reading::new(Dialect::Extended)
@@ -148,14 +149,14 @@ fn resets_questions() {
 // What is buffered is read by the reading that is set.
 #[test]
 fn reads_what_is_buffered_anew() {
-    let mut parser = ExtendedParser::new(Dialect::Extended);
-    parser.feed(b"\x1b[1;9A\x08");
+    let mut parser = Parser::new(Dialect::Extended);
+    parser.feed(at(0), b"\x1b[1;9A\x08");
     parser.set_reading(Reading::new(Dialect::Termwiz));
     assert_eq!(
         read(&mut parser, b""),
         "key UpArrow ALT, key Backspace NONE"
     );
-    parser.feed(b"\x1b[1;9A\x08");
+    parser.feed(at(0), b"\x1b[1;9A\x08");
     parser.set_reading(Reading::new(Dialect::Extended));
     assert_eq!(
         read(&mut parser, b""),
@@ -168,11 +169,11 @@ fn reads_what_is_buffered_anew() {
 // Between two events of one read the reading may change too.
 #[test]
 fn changes_between_events() {
-    let mut parser = ExtendedParser::new(Dialect::Extended);
-    parser.feed(b"\x1b[1;9A\x1b[1;9A\n\n");
+    let mut parser = Parser::new(Dialect::Extended);
+    parser.feed(at(0), b"\x1b[1;9A\x1b[1;9A\n\n");
     let mut next = |reading| {
         parser.set_reading(reading);
-        lines(parser.next_event(true).as_slice())
+        lines(parser.next().as_slice())
     };
     let extended = Reading::new(Dialect::Extended);
     let newline = NewlineByte::Enter;
@@ -192,7 +193,7 @@ fn changes_between_events() {
 // The beginning of an X10 report is decided once these are read no longer.
 #[test]
 fn decides_the_beginning_of_a_mouse_report() {
-    let mut parser = ExtendedParser::new(Dialect::Extended);
+    let mut parser = Parser::new(Dialect::Extended);
     let without_x10 = parser.reading();
     parser.set_reading(Reading {
         x10_mouse: true,
@@ -210,7 +211,7 @@ fn decides_the_beginning_of_a_mouse_report() {
 // An open paste and an open string stay as they are.
 #[test]
 fn keeps_pastes_and_strings() {
-    let mut parser = ExtendedParser::new(Dialect::Extended);
+    let mut parser = Parser::new(Dialect::Extended);
     for (begin, waiting, end, wanted) in [
         (
             &b"\x1b[200~\x1b[1;5R"[..],

@@ -1,4 +1,4 @@
-// The answers in tests/recorded, and the port's on generated texts. By termwiz's dialect the extended
+// The answers in tests/recorded, and the port's on generated texts. By termwiz's dialect a
 // parser gives the same. By its own it does, but for the bytes 8, 10 and 127, and where an extra
 // sequence occurs or has begun.
 use crate::compared::Comparison;
@@ -8,33 +8,34 @@ use crate::port::draws::Draws;
 use crate::port::feeder::{answer, at, data, feed_file, told, Counts, Feeder, Reader};
 use crate::port::lines::{bytes, hex, line};
 use crate::port::plain::PlainReader as PortReader;
-use hedrugal::extended::{Dialect, Event, ExtendedParser};
 use hedrugal::input::InputParser;
+use hedrugal::{Dialect, Event, Parser};
 
-impl Reader for ExtendedParser {
+impl Reader for Parser {
     fn reset(&mut self) {
-        ExtendedParser::reset(self);
+        Parser::reset(self);
     }
 
-    fn call(&mut self, bytes: &[u8], more: bool) -> Vec<String> {
-        let events = self.parse_as_vec(bytes, more);
-        events.iter().map(answer_line).collect()
+    fn call(&mut self, now: u64, bytes: &[u8], more: bool) -> Vec<String> {
+        self.feed(at(now), bytes);
+        if !more {
+            self.flush();
+        }
+        self.map(|event| answer_line(&event)).collect()
     }
 
     fn waiting_len(&self) -> usize {
-        ExtendedParser::waiting_len(self)
+        Parser::waiting_len(self)
     }
 
     fn timeout(&mut self, now: u64) -> Option<u64> {
-        let left = ExtendedParser::timeout(self, at(now))?;
+        let left = Parser::timeout(self, at(now))?;
         Some(left.as_millis() as u64)
     }
 
-    fn expire(&mut self, now: u64) -> Vec<String> {
-        let mut events = Vec::new();
-        let note = |event| events.push(answer_line(&event));
-        ExtendedParser::expire(self, at(now), note).expect("memory");
-        events
+    fn idle(&mut self, now: u64) -> Vec<String> {
+        Parser::idle(self, at(now));
+        self.map(|event| answer_line(&event)).collect()
     }
 
     fn check_other(&mut self, came: &str, _: &[u8], wanted: &str) {
@@ -61,7 +62,7 @@ pub fn answer_line(event: &Event) -> String {
 
 // The parser, its calls since the last reset, and whether one had another answer than the port's.
 struct OwnReader {
-    parser: ExtendedParser,
+    parser: Parser,
     calls: Vec<(Vec<u8>, bool)>,
     is_other: bool,
     comparison: Comparison,
@@ -72,7 +73,7 @@ struct OwnReader {
 impl OwnReader {
     fn new() -> OwnReader {
         OwnReader {
-            parser: ExtendedParser::new(Dialect::Extended),
+            parser: Parser::new(Dialect::Extended),
             calls: Vec::new(),
             is_other: false,
             comparison: Comparison::new(Dialect::Extended),
@@ -88,9 +89,9 @@ impl Reader for OwnReader {
         self.is_other = false;
     }
 
-    fn call(&mut self, bytes: &[u8], more: bool) -> Vec<String> {
+    fn call(&mut self, now: u64, bytes: &[u8], more: bool) -> Vec<String> {
         self.calls.push((bytes.to_vec(), more));
-        self.parser.call(bytes, more)
+        self.parser.call(now, bytes, more)
     }
 
     fn waiting_len(&self) -> usize {
@@ -101,8 +102,8 @@ impl Reader for OwnReader {
         Reader::timeout(&mut self.parser, now)
     }
 
-    fn expire(&mut self, now: u64) -> Vec<String> {
-        Reader::expire(&mut self.parser, now)
+    fn idle(&mut self, now: u64) -> Vec<String> {
+        Reader::idle(&mut self.parser, now)
     }
 
     // The plain reader answers the calls as the parser does. In the first other answer there is an
@@ -135,7 +136,7 @@ impl Reader for OwnReader {
 // tests/recorded/README.md says.
 fn check(file: &str) {
     let wanted = told(file);
-    let mut termwiz = ExtendedParser::new(Dialect::Termwiz);
+    let mut termwiz = Parser::new(Dialect::Termwiz);
     let counts = feed_file(&mut termwiz, file);
     assert_eq!(
         counts,
@@ -175,7 +176,7 @@ fn times() {
 
 // The calls of a line, each cut in this way, have the answers of the line.
 fn check_cut(
-    parser: &mut ExtendedParser,
+    parser: &mut Parser,
     calls: &[(Vec<u8>, bool)],
     answers: &str,
     place: usize,
@@ -199,7 +200,7 @@ fn check_cut(
 // them.
 #[test]
 fn strings() {
-    let mut parser = ExtendedParser::new(Dialect::Extended);
+    let mut parser = Parser::new(Dialect::Extended);
     assert_eq!(feed_file(&mut parser, "strings.txt"), told("strings.txt"));
     let mut comparison = Comparison::new(Dialect::Extended);
     for line in data("strings.txt").lines() {
@@ -225,14 +226,15 @@ fn strings() {
 // 5000 texts that the port's generated tests draw, each whole, cut in two at each place and byte by
 // byte. So many of them are answered otherwise than the port answers.
 fn check_drawn(seed: u64, others: usize) {
-    let (mut port, mut reader) = (InputParser::new(), OwnReader::new());
+    let mut reader = OwnReader::new();
     let mut draws = Draws::new(seed, &PortReader::new());
     let mut seen = 0;
     for _ in 0..5000 {
         let text = draws.text();
+        let mut port = InputParser::new();
         let events = port.parse_as_vec(&text, false);
         let lines: Vec<String> = events.iter().map(line).collect();
-        let waiting = &text[text.len() - port.reset()..];
+        let waiting = &text[text.len() - port.parser().waiting_len()..];
         let mut feeder = Feeder::new(&mut reader);
         feeder.check_whole(&text, &answer(&lines, waiting));
         seen += usize::from(feeder.is_other);

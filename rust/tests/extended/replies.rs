@@ -1,11 +1,12 @@
 // What replies say: those that terminals sent, worked ones, and generated ones against a plain reader.
+use crate::calls::Calls;
 use crate::draws::Draws;
 use crate::plain::replies::reply;
 use crate::port::feeder::data;
 use crate::port::lines::{bytes, hex};
-use hedrugal::extended::{
-    ColourName, ColourScheme, DeviceAttributes, Dialect, Event, ExtendedParser, ModeState, Reply,
-    StringKind,
+use hedrugal::{
+    ColourName, ColourScheme, DeviceAttributes, Dialect, Event, KittyKeyboardFlags, ModeState,
+    Parser, Reply, StringKind,
 };
 
 // A reply as a line of tests/recorded/replies.txt has it.
@@ -61,7 +62,7 @@ fn reads_what_terminals_replied() {
     let mut count = 0;
     for recorded in file.lines().filter(|line| !line.starts_with('#')) {
         let (sent, wanted) = recorded.split_once(" =").expect("an equals sign");
-        let events = ExtendedParser::new(Dialect::Extended).parse_as_vec(&bytes(sent), false);
+        let events = Parser::new(Dialect::Extended).read(&bytes(sent), false);
         assert_eq!(events.len(), 1, "{sent}");
         let told = events[0]
             .reply()
@@ -76,14 +77,14 @@ fn reads_what_terminals_replied() {
 fn other_events_are_no_replies() {
     let bytes = || b"11;rgb:0/0/0".to_vec();
     let kind = StringKind::Osc;
-    let typed = ExtendedParser::new(Dialect::Extended).parse_as_vec(b"c\x1b[<0;1;1M", true);
+    let typed = Parser::new(Dialect::Extended).read(b"c\x1b[<0;1;1M", true);
     for event in [
         typed[0].clone(),
         typed[1].clone(),
         Event::Paste("c".to_string()),
         Event::FocusGained,
         Event::CursorPosition { row: 1, column: 1 },
-        Event::KeyboardFlags(1),
+        Event::KeyboardFlags(KittyKeyboardFlags::NONE),
         Event::Apc(bytes()),
         Event::Dcs(bytes()),
         Event::Csi(bytes()),
@@ -128,7 +129,7 @@ fn versions_may_have_any_bytes() {
 fn reads_long_clipboards() {
     for len in [4, 65520, 65524] {
         let sent = ["\x1b]52;c;", &"QUFB".repeat(len / 4), "\x07"].concat();
-        let events = ExtendedParser::new(Dialect::Extended).parse_as_vec(sent.as_bytes(), true);
+        let events = Parser::new(Dialect::Extended).read(sent.as_bytes(), true);
         let bytes = vec![b'A'; len / 4 * 3];
         let selection = Some('c');
         assert_eq!(

@@ -1,8 +1,9 @@
 // Pasted texts and mouse reports that are sent, and read back.
-use hedrugal::extended::{self, Dialect, Event, ExtendedParser, MouseKind, Reading};
-use hedrugal::input::{
-    encode_paste, InputEvent, InputParser, Modifiers, MouseButton, MouseButtons, MouseEncoding,
-    MouseError, MouseReport, MouseTracking,
+use crate::calls::Calls;
+use hedrugal::input::{InputEvent, InputParser};
+use hedrugal::{
+    encode_paste, Dialect, Event, Modifiers, MouseButton, MouseButtons, MouseEncoding, MouseError,
+    MouseKind, MouseReport, MouseTracking, Parser, Reading, SentMouse,
 };
 
 // Texts, and what they are made.
@@ -23,10 +24,13 @@ fn is_one_paste(text: &[u8], safe: &str) {
     assert_eq!(encode_paste(text, false), safe);
     let mut port = InputParser::new();
     assert_eq!(port.parse_as_vec(sent.as_bytes(), true), [paste()]);
-    let mut extended = ExtendedParser::new(Dialect::Extended);
-    let events = extended.parse_as_vec(sent.as_bytes(), true);
+    let mut extended = Parser::new(Dialect::Extended);
+    let events = extended.read(sent.as_bytes(), true);
     assert_eq!(events, [Event::Paste(safe.to_string())]);
-    assert_eq!((port.waiting_len(), extended.waiting_len()), (0, 0));
+    assert_eq!(
+        (port.parser().waiting_len(), extended.waiting_len()),
+        (0, 0)
+    );
 }
 
 #[test]
@@ -37,8 +41,8 @@ fn pastes_are_made_safe_and_read_back() {
     is_one_paste(&[0x1b; 1000], &"␛".repeat(1000));
 }
 
-fn report(x: u16, y: u16, button: MouseButton, modifiers: Modifiers) -> MouseReport {
-    MouseReport {
+fn report(x: u16, y: u16, button: MouseButton, modifiers: Modifiers) -> SentMouse {
+    SentMouse {
         x,
         y,
         button,
@@ -47,13 +51,13 @@ fn report(x: u16, y: u16, button: MouseButton, modifiers: Modifiers) -> MouseRep
 }
 
 // The report that the bytes are read as, by a parser that reads X10 mouse reports.
-fn read(bytes: &[u8]) -> Option<extended::MouseReport> {
-    let mut parser = ExtendedParser::new(Dialect::Extended);
+fn read(bytes: &[u8]) -> Option<MouseReport> {
+    let mut parser = Parser::new(Dialect::Extended);
     parser.set_reading(Reading {
         x10_mouse: true,
         ..Reading::default()
     });
-    let events = parser.parse_as_vec(bytes, true);
+    let events = parser.read(bytes, true);
     assert_eq!(parser.waiting_len(), 0);
     match &events[..] {
         [] => None,
@@ -107,7 +111,7 @@ fn mouse_reports_are_read_back() {
         ),
     ] {
         assert_eq!(it.encode(tracking, encoding).as_deref(), Ok(sent));
-        let event = extended::MouseReport {
+        let event = MouseReport {
             x: it.x,
             y: it.y,
             modifiers: it.modifiers,
@@ -125,7 +129,7 @@ fn mouse_reports_are_read_back() {
 
 #[test]
 fn what_is_no_report() {
-    let encode = |it: MouseReport| it.encode(MouseTracking::Any, MouseEncoding::Default);
+    let encode = |it: SentMouse| it.encode(MouseTracking::Any, MouseEncoding::Default);
     let far = report(1, 224, MouseButton::None, Modifiers::NONE);
     let unnamed = report(1, 1, MouseButton::None, Modifiers::from_bits_retain(1));
     assert_eq!(encode(far), Err(MouseError::TooFar));

@@ -1,12 +1,13 @@
 // Random streams of sequences and their beginnings: how they are cut changes no event, and what a
 // pause flushes is flushed in time.
+use crate::calls::Calls;
 use crate::draws::Draws;
 use crate::lines::port_of;
 use crate::plain::PlainReader;
 use crate::port::feeder::{events_in_time, Reader, Timed};
 use crate::recorded::answer_line;
 use crate::waiting::{limit_of, LIMITS};
-use hedrugal::extended::{Dialect, Event, ExtendedParser, ExtendedWaiting, Reading};
+use hedrugal::{Dialect, Event, Parser, Reading, Waiting};
 
 const SYMBOLS: &[&[u8]] = &[
     b"\x1b",
@@ -69,22 +70,22 @@ type Read = (Vec<Event>, usize, Reading);
 
 // The events of a text in pieces, and of a flush at its end; then what an open paste gives. As much
 // is buffered after each cut.
-fn read(parser: &mut ExtendedParser, reading: Reading, text: &[u8], piece: usize) -> Read {
+fn read(parser: &mut Parser, reading: Reading, text: &[u8], piece: usize) -> Read {
     parser.set_reading(reading);
     let mut events = Vec::new();
     for bytes in text.chunks(piece) {
-        parser.parse(bytes, |event| events.push(event), true);
+        events.extend(parser.read(bytes, true));
     }
     let waiting = parser.waiting_len();
-    parser.parse(b"", |event| events.push(event), false);
-    events.extend(parser.end_paste());
+    parser.end();
+    events.extend(parser.by_ref());
     assert_eq!(parser.waiting_len(), 0);
     (events, waiting, parser.reading())
 }
 
 #[test]
 fn cuts_change_nothing() {
-    let (mut draws, mut parser) = (Draws::new(31), ExtendedParser::new(Dialect::Extended));
+    let (mut draws, mut parser) = (Draws::new(31), Parser::new(Dialect::Extended));
     let mut extra = 0;
     for _ in 0..5000 {
         let count = 1 + draws.below(20);
@@ -109,14 +110,14 @@ fn cuts_change_nothing() {
 }
 
 // What a rest is.
-fn kind_of(reader: &PlainReader, rest: &[u8]) -> ExtendedWaiting {
+fn kind_of(reader: &PlainReader, rest: &[u8]) -> Waiting {
     match rest {
-        [] => ExtendedWaiting::Nothing,
-        [0x1b] | [0x1b, 0x1b] => ExtendedWaiting::Escape,
-        _ if rest.starts_with(b"\x1b[200~") => ExtendedWaiting::Paste,
-        _ if reader.is_string(rest) => ExtendedWaiting::String,
-        [byte, ..] | [0x1b, byte, ..] if !byte.is_ascii() => ExtendedWaiting::Character,
-        _ => ExtendedWaiting::Sequence,
+        [] => Waiting::Nothing,
+        [0x1b] | [0x1b, 0x1b] => Waiting::Escape,
+        _ if rest.starts_with(b"\x1b[200~") => Waiting::Paste,
+        _ if reader.is_string(rest) => Waiting::String,
+        [byte, ..] | [0x1b, byte, ..] if !byte.is_ascii() => Waiting::Character,
+        _ => Waiting::Sequence,
     }
 }
 
@@ -134,7 +135,7 @@ impl Rest {
         let kind = kind_of(reader, &self.bytes);
         let limit = limit_of(&LIMITS, &self.bytes, kind)?.as_millis() as u64;
         Some(match kind {
-            ExtendedWaiting::Escape | ExtendedWaiting::Paste => self.last + limit,
+            Waiting::Escape | Waiting::Paste => self.last + limit,
             _ => self.first + limit,
         })
     }
@@ -193,7 +194,7 @@ fn plain_events(
 
 // A parser that expects a position before some of the reads.
 struct Asking<'a> {
-    parser: &'a mut ExtendedParser,
+    parser: &'a mut Parser,
     asks: std::slice::Iter<'a, bool>,
 }
 
@@ -202,11 +203,11 @@ impl Reader for Asking<'_> {
         Reader::reset(self.parser);
     }
 
-    fn call(&mut self, bytes: &[u8], more: bool) -> Vec<String> {
+    fn call(&mut self, now: u64, bytes: &[u8], more: bool) -> Vec<String> {
         if self.asks.next() == Some(&true) {
             self.parser.expect_position();
         }
-        self.parser.call(bytes, more)
+        self.parser.call(now, bytes, more)
     }
 
     fn waiting_len(&self) -> usize {
@@ -217,8 +218,8 @@ impl Reader for Asking<'_> {
         Reader::timeout(self.parser, now)
     }
 
-    fn expire(&mut self, now: u64) -> Vec<String> {
-        Reader::expire(self.parser, now)
+    fn idle(&mut self, now: u64) -> Vec<String> {
+        Reader::idle(self.parser, now)
     }
 
     fn check_other(&mut self, came: &str, waiting: &[u8], wanted: &str) {
@@ -228,9 +229,9 @@ impl Reader for Asking<'_> {
 
 #[test]
 fn pauses_flush_in_time() {
-    let (mut draws, mut parser) = (Draws::new(32), ExtendedParser::new(Dialect::Extended));
+    let (mut draws, mut parser) = (Draws::new(32), Parser::new(Dialect::Extended));
     let mut reader = PlainReader::new(Reading::new(Dialect::Extended));
-    assert_eq!(parser.set_policy(LIMITS), Ok(()));
+    parser.set_policy(LIMITS);
     let mut flushed = 0;
     for _ in 0..2000 {
         let (mut time, mut reads, mut asks) = (0, Vec::new(), Vec::new());

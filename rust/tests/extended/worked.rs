@@ -1,9 +1,8 @@
 // Worked rows: what bytes are by the own dialect, and the presses of their keys.
+use crate::calls::Calls;
 use crate::compared::Comparison;
 use crate::lines::lines;
-use hedrugal::extended::{
-    Dialect, EraseByte, Event, ExtendedParser, KeyPress, NewlineByte, Reading,
-};
+use hedrugal::{Dialect, EraseByte, Event, KeyPress, NewlineByte, Parser, Reading};
 
 const MORE: bool = true;
 const LAST: bool = false;
@@ -188,9 +187,9 @@ fn presses(events: &[Event]) -> String {
 #[test]
 fn worked_rows() {
     for (reading, bytes, more, wanted, named) in ROWS {
-        let mut parser = ExtendedParser::new(reading.dialect);
+        let mut parser = Parser::new(reading.dialect);
         parser.set_reading(*reading);
-        let events = parser.parse_as_vec(bytes, *more);
+        let events = parser.read(bytes, *more);
         assert_eq!(lines(&events), *wanted, "{}", bytes.escape_ascii());
         assert_eq!(presses(&events), *named, "{}", bytes.escape_ascii());
         assert_eq!(parser.waiting_len(), 0);

@@ -1,10 +1,11 @@
 // Events that are written as bytes, and read back.
-use hedrugal::extended::{
-    encode_colour_scheme, encode_cursor_position, encode_device_attributes, ColourScheme, Dialect,
-    EncodeEventError, EraseByte, Event, ExtendedParser, KeyEventKind, KeyReport, KittyModifiers,
-    MouseKind, MouseReport, NewlineByte, Reading, ReportedKey, StringKind,
-};
+use crate::calls::Calls;
 use hedrugal::input::{KeyCode, Modifiers, MouseButtons};
+use hedrugal::{
+    encode_colour_scheme, encode_cursor_position, encode_device_attributes, ColourScheme, Dialect,
+    EncodeEventError, EraseByte, Event, KeyEventKind, KeyReport, KittyModifiers, MouseKind,
+    MouseReport, NewlineByte, Parser, Reading, ReportedKey, StringKind,
+};
 
 const USUAL: Reading = Reading::new(Dialect::Extended);
 const TERMWIZ: Reading = Reading::new(Dialect::Termwiz);
@@ -36,8 +37,8 @@ const WAITING: [&[u8]; 7] = [
     b"\x1b_",
 ];
 
-fn parser(reading: Reading) -> ExtendedParser {
-    let mut parser = ExtendedParser::new(reading.dialect);
+fn parser(reading: Reading) -> Parser {
+    let mut parser = Parser::new(reading.dialect);
     parser.set_reading(reading);
     parser
 }
@@ -45,7 +46,7 @@ fn parser(reading: Reading) -> ExtendedParser {
 // The event that the bytes are, with nothing left over.
 fn read(bytes: &[u8], reading: Reading, more: bool) -> Event {
     let mut parser = parser(reading);
-    let mut events = parser.parse_as_vec(bytes, more);
+    let mut events = parser.read(bytes, more);
     assert_eq!((events.len(), parser.waiting_len()), (1, 0), "{events:?}");
     events.remove(0)
 }
@@ -61,9 +62,7 @@ fn is_written(event: &Event, reading: Reading, bytes: &[u8]) {
     if more {
         let mut parser = parser(reading);
         let pieces = bytes.chunks(1);
-        let events: Vec<_> = pieces
-            .flat_map(|it| parser.parse_as_vec(it, true))
-            .collect();
+        let events: Vec<_> = pieces.flat_map(|it| parser.read(it, true)).collect();
         assert_eq!(events, std::slice::from_ref(event));
     }
 }
@@ -295,6 +294,8 @@ fn what_no_bytes_are_read_as() {
             bytes: bytes.clone(),
         },
         Event::StringCut { kind, bytes },
+        Event::PastePart("a".to_string()),
+        Event::Resumed,
     ] {
         refuses(&event, USUAL, EncodeEventError::NoText);
         refuses(&event, TERMWIZ, EncodeEventError::NoText);
@@ -356,13 +357,13 @@ fn what_has_bits_without_a_name() {
 #[test]
 fn what_is_buffered_stays() {
     let mut buffered = parser(USUAL);
-    buffered.parse(b"\x1b[1;", |_| {}, true);
+    assert_eq!(buffered.read(b"\x1b[1;", true), []);
     for _ in 0..2 {
         let character = key(KeyCode::Char('a'), KittyModifiers::NONE);
         assert_eq!(character.encode(&buffered).as_deref(), Ok(&b"a"[..]));
     }
     assert_eq!(
-        buffered.parse_as_vec(b"5A", true),
+        buffered.read(b"5A", true),
         [key(KeyCode::UpArrow, KittyModifiers::CTRL)]
     );
 }

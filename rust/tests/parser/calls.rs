@@ -1,5 +1,29 @@
-// The calls that parse.
+// The calls that parse, and what is buffered after one.
 use hedrugal::input::{InputEvent, InputParser};
+use hedrugal::Waiting;
+
+pub trait Buffer {
+    fn waiting_len(&self) -> usize;
+
+    fn is_paste_open(&self) -> bool;
+
+    // Puts a new parser in its place. Returns how many bytes were buffered.
+    fn reset(&mut self) -> usize;
+}
+
+impl Buffer for InputParser {
+    fn waiting_len(&self) -> usize {
+        self.parser().waiting_len()
+    }
+
+    fn is_paste_open(&self) -> bool {
+        self.parser().waiting() == Waiting::Paste
+    }
+
+    fn reset(&mut self) -> usize {
+        std::mem::take(self).waiting_len()
+    }
+}
 
 // The most that stays buffered, but for an open paste: one ESC, and the longest proper beginning of
 // a sequence.
@@ -16,20 +40,9 @@ pub enum Call {
     Callback,
     // `try_parse`.
     TryCallback,
-    // `feed` and `next_event`.
-    Single,
-    // `try_feed` and `try_next_event`.
-    TrySingle,
 }
 
-pub const CALLS: [Call; 6] = [
-    Call::List,
-    Call::TryList,
-    Call::Callback,
-    Call::TryCallback,
-    Call::Single,
-    Call::TrySingle,
-];
+pub const CALLS: [Call; 4] = [Call::List, Call::TryList, Call::Callback, Call::TryCallback];
 
 impl Call {
     // The events of what is buffered and of these bytes. After the call few bytes stay buffered, or
@@ -47,15 +60,6 @@ impl Call {
             Call::TryCallback => parser
                 .try_parse(bytes, |event| events.push(event), more)
                 .expect("memory is granted"),
-            Call::Single => {
-                parser.feed(bytes);
-                events.extend(std::iter::from_fn(|| parser.next_event(more)));
-            }
-            Call::TrySingle => {
-                parser.try_feed(bytes).expect("memory is granted");
-                let next = || parser.try_next_event(more).expect("memory is granted");
-                events.extend(std::iter::from_fn(next));
-            }
         }
         assert!(
             parser.waiting_len() <= MOST || parser.is_paste_open(),

@@ -11,8 +11,8 @@ pub trait Reader {
     // Empties the buffer.
     fn reset(&mut self);
 
-    // The lines of a call's events.
-    fn call(&mut self, bytes: &[u8], more: bool) -> Vec<String>;
+    // The lines of a call's events at a time.
+    fn call(&mut self, now: u64, bytes: &[u8], more: bool) -> Vec<String>;
 
     fn waiting_len(&self) -> usize;
 
@@ -20,7 +20,7 @@ pub trait Reader {
     fn timeout(&mut self, now: u64) -> Option<u64>;
 
     // The lines of the events of what has waited too long.
-    fn expire(&mut self, now: u64) -> Vec<String>;
+    fn idle(&mut self, now: u64) -> Vec<String>;
 
     // After the calls since the last reset the parser may give this answer in place of the recorded
     // one.
@@ -53,11 +53,11 @@ pub fn events_in_time(
         let came = match (read, due) {
             (Some((time, bytes)), _) => {
                 now = *time;
-                reader.call(bytes, true)
+                reader.call(now, bytes, true)
             }
             (None, Some(due)) => {
                 now = due;
-                reader.expire(now)
+                reader.idle(now)
             }
             (None, None) => return events,
         };
@@ -135,7 +135,7 @@ impl<R: Reader> Feeder<'_, R> {
 
     fn call(&mut self, bytes: &[u8], more: bool) -> Vec<String> {
         self.fed.extend_from_slice(bytes);
-        self.reader.call(bytes, more)
+        self.reader.call(0, bytes, more)
     }
 
     // Compares the events, and what is buffered, with the recorded answer.

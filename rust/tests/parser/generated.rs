@@ -1,9 +1,10 @@
 // Generated texts in pieces, read by the parser as by the plain reader.
-use crate::calls::{Call, CALLS, MOST};
+use crate::calls::{Buffer, Call, CALLS, MOST};
 use crate::draws::Draws;
 use crate::lines::hex;
 use crate::plain::PlainReader;
-use hedrugal::input::{InputEvent, InputParser, Waiting};
+use hedrugal::input::{InputEvent, InputParser};
+use hedrugal::Waiting;
 
 // What the plain reader finds in a call with these bytes.
 struct Reading<'a> {
@@ -60,7 +61,7 @@ fn check_readings(parser: &mut InputParser, call: Call, readings: &[Reading]) {
             name()
         );
         assert_eq!(parser.waiting_len(), reading.rest.len(), "{}", name());
-        assert_eq!(parser.waiting(), reading.kind, "{}", name());
+        assert_eq!(parser.parser().waiting(), reading.kind, "{}", name());
         assert_eq!(
             parser.is_paste_open(),
             reading.kind == Waiting::Paste,
@@ -183,8 +184,8 @@ fn read_with_pauses(parser: &mut InputParser, pieces: &[&[u8]], ends: &[usize]) 
     for piece in pieces {
         place += piece.len();
         events.append(&mut Call::List.events(parser, piece, true));
-        if ends.contains(&place) {
-            events.extend(parser.flush_escape());
+        if ends.contains(&place) && parser.parser().waiting() == Waiting::Escape {
+            events.append(&mut Call::List.events(parser, b"", false));
         }
     }
     events.append(&mut Call::List.events(parser, b"", false));

@@ -1,6 +1,6 @@
 // Input far past any small bound: many keys in one call, many calls, a long paste, and beginnings
 // without an end.
-use crate::calls::{check_sizes, read_in_pieces, Call, CALLS};
+use crate::calls::{check_sizes, read_in_pieces, Buffer, Call, CALLS};
 use crate::examples::{LAST, MORE};
 use crate::parser::given;
 use hedrugal::input::{InputEvent, InputParser, KeyCode, KeyEvent, Modifiers};

@@ -1,5 +1,5 @@
 // The parser on worked examples.
-use crate::calls::{check_sizes, Call, CALLS};
+use crate::calls::{check_sizes, Buffer, Call, CALLS};
 use crate::examples::{Example, Step, CARRIED, CUTS, DIFFERENCES, KEYS, MOUSE_REPORTS, PASTES};
 use crate::lines::lines;
 use hedrugal::input::{InputEvent, InputParser, KeyCode, KeyEvent, Modifiers};
@@ -108,5 +108,9 @@ fn goes_to_another_thread() {
 fn shows_a_parser() {
     let mut parser = InputParser::new();
     parser.parse(b"\x1b[", |_| (), true);
-    assert_eq!(format!("{parser:?}"), "InputParser { waiting_len: 2, .. }");
+    assert_eq!(
+        format!("{parser:?}"),
+        "InputParser { parser: Parser { reading: Reading { dialect: Termwiz, x10_mouse: false, \
+         questions: 0, erase: Delete, newline: CtrlJ }, waiting_len: 2, .. } }"
+    );
 }

@@ -1,5 +1,5 @@
 // Pastes that come in many pieces.
-use crate::calls::Call;
+use crate::calls::{Buffer, Call};
 use crate::lines::{hex, lines};
 use hedrugal::input::{InputEvent, InputParser};
 

@@ -3,9 +3,8 @@
 // comment is that of the page's sentence.
 mod rows;
 
-use hedrugal::input::{
-    InputEvent, KeyCode, KeyEvent, Modifiers, MouseButtons, MouseEvent, Waiting,
-};
+use hedrugal::input::{InputEvent, KeyCode, KeyEvent, Modifiers, MouseButtons, MouseEvent};
+use hedrugal::Waiting;
 use rows::Table;
 use std::collections::BTreeMap;
 use std::str;

@@ -1,5 +1,6 @@
 // Keys that are encoded and read back, as docs/GRAMMAR.md lists them under "Keys that read back", and
 // instances of the laws of `termwiz_laws` on keys that it doesn't list.
+use crate::calls::Buffer;
 use crate::encode::{ALT, APPLICATION, CTRL, NONE, SHIFT, SUPER, XTERM};
 use hedrugal::input::{
     InputEvent, InputParser, KeyCode, KeyCodeEncodeModes, KeyEvent, KeyboardEncoding, Modifiers,

@@ -1,5 +1,6 @@
 // The answers in tests/recorded, of the parser and of the encoder.
-use crate::feeder::{at, data, feed_file, told, Counts, Reader};
+use crate::calls::Buffer;
+use crate::feeder::{data, feed_file, told, Counts, Reader};
 use crate::lines::{bytes, key_named, line, modifiers_named};
 use hedrugal::input::{
     EncodeError, InputParser, KeyCode, KeyCodeEncodeModes, KeyboardEncoding, Modifiers,
@@ -7,26 +8,24 @@ use hedrugal::input::{
 
 impl Reader for InputParser {
     fn reset(&mut self) {
-        InputParser::reset(self);
+        Buffer::reset(self);
     }
 
-    fn call(&mut self, bytes: &[u8], more: bool) -> Vec<String> {
+    fn call(&mut self, _: u64, bytes: &[u8], more: bool) -> Vec<String> {
         self.parse_as_vec(bytes, more).iter().map(line).collect()
     }
 
     fn waiting_len(&self) -> usize {
-        InputParser::waiting_len(self)
+        Buffer::waiting_len(self)
     }
 
-    fn timeout(&mut self, now: u64) -> Option<u64> {
-        let left = InputParser::timeout(self, at(now))?;
-        Some(left.as_millis() as u64)
+    // It has no limits in time.
+    fn timeout(&mut self, _: u64) -> Option<u64> {
+        None
     }
 
-    fn expire(&mut self, now: u64) -> Vec<String> {
-        let mut events = Vec::new();
-        InputParser::expire(self, at(now), |event| events.push(line(&event))).expect("memory");
-        events
+    fn idle(&mut self, _: u64) -> Vec<String> {
+        Vec::new()
     }
 
     fn check_other(&mut self, came: &str, _: &[u8], wanted: &str) {
@@ -62,11 +61,6 @@ fn rules() {
 #[test]
 fn examples() {
     check("examples.txt");
-}
-
-#[test]
-fn times() {
-    check("times.txt");
 }
 
 // The modes of a number, as tests/recorded/README.md lists its bits.

@@ -1,13 +1,14 @@
 // The entries of the sequence table, against the rows of the plain reader, and the entries that
 // would complete what stays buffered.
-use crate::calls::Call;
+use crate::calls::{Buffer, Call};
 use crate::lines::hex;
 use crate::plain::PlainReader;
-use hedrugal::input::{InputEvent, InputParser, KeyCode, KeyEvent, Modifiers, Waiting};
+use hedrugal::input::{InputEvent, InputParser, KeyCode, KeyEvent, Modifiers};
+use hedrugal::Waiting;
 
 // All entries, by their places.
 fn entries(parser: &InputParser) -> Vec<(Vec<u8>, KeyEvent)> {
-    let entries = (0..).map_while(|place| parser.entry(place));
+    let entries = (0..).map_while(|place| parser.parser().entry(place));
     entries.map(|(bytes, key)| (bytes.to_vec(), key)).collect()
 }
 
@@ -129,9 +130,12 @@ fn has_no_other_entries() {
     let (mut parser, count) = (InputParser::new(), entry_count());
     parser.parse(b"\x1b[200~text", |_| {}, true);
     for place in [count, count + 1, usize::MAX] {
-        assert_eq!(parser.entry(place), None);
+        assert_eq!(parser.parser().entry(place), None);
     }
-    let (bytes, key) = parser.entry(count - 1).expect("there is a last entry");
+    let (bytes, key) = parser
+        .parser()
+        .entry(count - 1)
+        .expect("there is a last entry");
     assert_eq!(
         (&bytes[..], bytes.as_ref().len(), key.key),
         (&b"\x7f"[..], 1, KeyCode::Backspace)
@@ -170,7 +174,7 @@ fn tells_completions() {
     let entries = entries(&parser);
     for (text, has_alt) in BEGUN {
         parser.parse(text, |_| {}, true);
-        let completions = parser.completions();
+        let completions = parser.parser().completions();
         assert_eq!(completions.with_alt, *has_alt, "{}", hex(text));
         assert_eq!(parser.waiting_len(), text.len());
         parser.reset();
@@ -195,7 +199,8 @@ fn tells_the_first_completion() {
     let mut parser = InputParser::new();
     parser.parse(b"\x1b[1;5", |_| {}, true);
     let (bytes, key) = parser
-        .entry(parser.completions().entries.start)
+        .parser()
+        .entry(parser.parser().completions().entries.start)
         .expect("there is a first entry");
     assert_eq!(
         (&bytes[..], key.key, key.modifiers),
@@ -211,12 +216,12 @@ fn shares_the_table() {
     std::thread::scope(|scope| {
         for _ in 0..2 {
             scope.spawn(|| {
-                let completions = parser.completions();
+                let completions = parser.parser().completions();
                 assert!(completions
                     .entries
                     .clone()
-                    .all(|place| parser.entry(place).is_some()));
-                assert_eq!(parser.waiting(), Waiting::Sequence);
+                    .all(|place| parser.parser().entry(place).is_some()));
+                assert_eq!(parser.parser().waiting(), Waiting::Sequence);
             });
         }
     });

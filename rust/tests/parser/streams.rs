@@ -6,6 +6,7 @@
 // report with the number of the stream, by which a difference is told from where it is. What a
 // flush does in the middle of a sequence is tested on some of the streams, each in a process of its
 // own.
+use crate::calls::Buffer;
 use crate::draws::Draws;
 use crate::lines::{hex, line};
 use crate::plain::PlainReader;

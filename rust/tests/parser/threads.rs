@@ -1,8 +1,9 @@
 // Threads that make, use and free parsers. All of these share one sequence table.
-use hedrugal::extended::{Dialect, Event, ExtendedParser};
 use hedrugal::input::{InputEvent, InputParser, KeyCode, KeyEvent, Modifiers};
+use hedrugal::{Dialect, Event, Parser};
 use std::sync::mpsc::{channel, Sender};
 use std::thread;
+use std::time::Instant;
 
 const THREADS: usize = 4;
 const ROUNDS: usize = 200;
@@ -18,11 +19,10 @@ fn ctrl_up() -> InputEvent {
 // key.
 fn make_and_use(passed_on: &Sender<InputParser>) {
     for _ in 0..ROUNDS {
-        let (mut parser, mut extended) =
-            (InputParser::new(), ExtendedParser::new(Dialect::Extended));
+        let (mut parser, mut extended) = (InputParser::new(), Parser::new(Dialect::Extended));
         assert_eq!(parser.parse_as_vec(b"\x1b[1;5A", true), [ctrl_up()]);
-        let events = extended.parse_as_vec(b"\x1b[1;5A", true);
-        assert!(matches!(events[..], [Event::Key(_)]));
+        extended.feed(Instant::now(), b"\x1b[1;5A");
+        assert!(matches!(extended.next(), Some(Event::Key(_))));
         drop(extended);
         parser.parse(b"\x1b[1;", |_| {}, true);
         passed_on.send(parser).expect("the main thread takes it");

@@ -2,7 +2,7 @@
 use crate::draws::Draws;
 use crate::feeder::at;
 use crate::plain::PlainReader;
-use hedrugal::input::{Age, Seen, Timer};
+use hedrugal::{Age, Seen, Timer};
 use std::time::{Duration, Instant};
 
 // The letters of `what` say whether something was fed or taken, and whether nothing is pending.
@@ -50,6 +50,17 @@ fn tells_how_long_to_wait() {
     for (noted, limit, by, what, asked, wanted) in NOTES {
         timer.note(at(*noted), seen(*limit, *by, what));
         assert_eq!(left(&timer, at(*asked)), *wanted, "{noted} {asked}");
+    }
+}
+
+#[test]
+fn takes_any_instant() {
+    let (mut timer, start) = (Timer::new(), Instant::now());
+    timer.note(start, seen(Some(1000), Age::Last, "f"));
+    let long = Duration::from_secs(1 << 54); // more than 2^63 ms
+    for now in [start.checked_sub(long), start.checked_add(long)] {
+        let wanted = now.map(|now| u128::from(now < start) * 1000);
+        assert_eq!(now.and_then(|now| left(&timer, now)), wanted);
     }
 }
 

@@ -1,7 +1,7 @@
 // What is buffered as a sequence or a character isn't decided: each beginning of a row, of a mouse
 // report or of a character, alone and after one ESC, stays buffered whole, and a flush before the
 // rest of it changes the events.
-use crate::calls::{Call, MOST};
+use crate::calls::{Buffer, Call, MOST};
 use crate::lines::hex;
 use crate::plain::PlainReader;
 use hedrugal::input::{InputEvent, InputParser};

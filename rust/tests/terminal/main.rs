@@ -9,8 +9,8 @@
 #[allow(dead_code)] // the count of blocks
 mod malloc;
 
-use hedrugal::input::{KittyKeyboardFlags, MouseTracking};
-use hedrugal::terminal::{restore, Event, Modes, RawMode, Terminal};
+use hedrugal::terminal::{restore, Modes, RawMode, Terminal};
+use hedrugal::{Event, KittyKeyboardFlags, MouseTracking};
 use std::io::{self, Read, Write};
 use std::panic;
 use std::process::{self, Command};
@@ -21,8 +21,8 @@ const MODES: Modes = Modes {
     paste: true,
     mouse: Some(MouseTracking::Any),
     focus: true,
-    also_on: "\x1b[?1049h",
-    also_off: "\x1b[?1049l",
+    enter: "\x1b[?1049h",
+    leave: "\x1b[?1049l",
     ..Modes::NONE
 };
 
@@ -40,7 +40,7 @@ fn modes(word: &str) -> Modes {
     match word {
         "plain" => Modes::default(),
         "kitty" => Modes {
-            keyboard: KittyKeyboardFlags::DISAMBIGUATE_ESCAPE_CODES,
+            kitty: KittyKeyboardFlags::DISAMBIGUATE_ESCAPE_CODES,
             ..Modes::default()
         },
         _ => MODES,
@@ -60,6 +60,9 @@ fn run(command: &str) -> bool {
 fn read_by_guard(guard: &RawMode) -> io::Result<()> {
     let mut byte = [0];
     while byte != *b"q" && guard.input().read(&mut byte)? > 0 {
+        if byte == *b"o" {
+            guard.set_owed(1, None);
+        }
         print(&format!("byte {}", byte[0]))?;
     }
     Ok(())
@@ -138,6 +141,14 @@ fn ask_soon(terminal: &mut Terminal, questions: &str, time: Duration) -> io::Res
     print(&format!("{:?}", terminal.ask(questions, time)?))
 }
 
+// Asks more than a terminal may owe, and prints the last answers.
+fn ask_often(terminal: &mut Terminal) -> io::Result<()> {
+    for _ in 0..16 {
+        terminal.ask(BACKGROUND, Duration::ZERO)?;
+    }
+    ask_soon(terminal, BACKGROUND, Duration::MAX)
+}
+
 // Asks, and counts the other events that come until none does for a moment.
 fn ask_in_flood(terminal: &mut Terminal) -> io::Result<()> {
     ask_soon(terminal, BACKGROUND, Duration::MAX)?;
@@ -178,6 +189,7 @@ fn handle(terminal: &mut Terminal, key: &str, command: &str) -> io::Result<bool>
         "T" => ask_soon(terminal, "\x1b[6n", Duration::MAX)?,
         "u" => ask_soon(terminal, BACKGROUND, SHORT)?,
         "b" => ask_soon(terminal, BACKGROUND, Duration::MAX)?,
+        "n" => ask_often(terminal)?,
         "a" => ask(terminal, 0)?,
         "m" => ask(terminal, command.parse().unwrap_or(0))?,
         key => print(&format!("key {key}"))?,
@@ -196,6 +208,9 @@ fn read_by_loop(modes: Modes, command: &str) -> io::Result<()> {
                 }
             }
             (None, Event::Resumed) => print("resumed")?,
+            (None, Event::Resized(size)) => {
+                print(&format!("size {} x {}", size.columns, size.rows))?;
+            }
             (None, event) => print(&format!("{event:?}"))?,
         }
     }

@@ -4,16 +4,19 @@ use crossterm::event::{
     ModifierKeyCode, MouseButton, MouseEvent, MouseEventKind,
 };
 use hedrugal::crossterm::Converter;
-use hedrugal::extended::{self, Dialect, ExtendedParser};
-use hedrugal::terminal;
+use hedrugal::{Dialect, Parser};
+use std::time::Instant;
 
 const NONE: KeyModifiers = KeyModifiers::NONE;
 const SHIFT: KeyModifiers = KeyModifiers::SHIFT;
 const CONTROL: KeyModifiers = KeyModifiers::CONTROL;
 const ALT: KeyModifiers = KeyModifiers::ALT;
 
-fn parsed(bytes: &[u8]) -> Vec<extended::Event> {
-    ExtendedParser::new(Dialect::Extended).parse_as_vec(bytes, false)
+fn parsed(bytes: &[u8]) -> Vec<hedrugal::Event> {
+    let mut parser = Parser::new(Dialect::Extended);
+    parser.feed(Instant::now(), bytes);
+    parser.flush();
+    parser.collect()
 }
 
 fn check_keys(keys: &[(&[u8], KeyCode, KeyModifiers)]) {
@@ -149,12 +152,7 @@ fn other_events() {
         Event::Resize(100, 40),
     ];
     assert_eq!(converted, wanted.map(Ok));
-    let resized = terminal::Event::Resized {
-        columns: 100,
-        rows: 40,
-    };
-    assert_eq!(Event::try_from(resized), Ok(Event::Resize(100, 40)));
-    let part = terminal::Event::PastePart("part".to_string());
+    let part = hedrugal::Event::PastePart("part".to_string());
     assert_eq!(Event::try_from(part), Ok(Event::Paste("part".to_string())));
 }
 
@@ -166,6 +164,6 @@ fn what_crossterm_cannot_say_comes_back() {
     for event in events {
         assert_eq!(Event::try_from(event.clone()), Err(event));
     }
-    let resumed = terminal::Event::Resumed;
+    let resumed = hedrugal::Event::Resumed;
     assert_eq!(Event::try_from(resumed.clone()), Err(resumed));
 }

@@ -1,10 +1,8 @@
 // The derives behind the feature `use_serde`, which rust/with builds.
-use hedrugal::extended::{
-    Event, KeyEventKind, KeyReport, KittyModifiers, MouseKind, MouseReport, ReportedKey, StringKind,
-};
-use hedrugal::input::{
-    InputEvent, KeyCode, KeyEvent, KittyKeyboardFlags, Modifiers, MouseButtons, MouseEvent,
-    PixelMouseEvent, Policy,
+use hedrugal::input::{InputEvent, KeyEvent, MouseEvent, PixelMouseEvent};
+use hedrugal::{
+    Event, KeyCode, KeyEventKind, KeyReport, KittyKeyboardFlags, KittyModifiers, Modifiers,
+    MouseButtons, MouseKind, MouseReport, Policy, ReportedKey, Size, StringKind,
 };
 use serde::de::DeserializeOwned;
 use serde::Serialize;
@@ -125,6 +123,19 @@ fn writes_and_reads_extended_events() {
             button: Some(1),
         }),
         r#"{"Mouse":{"x":3,"y":4,"modifiers":"SHIFT | CTRL","buttons":"LEFT","kind":"Drag","button":1}}"#,
+    );
+    check(
+        Event::Resized(Size {
+            columns: 80,
+            rows: 24,
+            width: 0,
+            height: 0,
+        }),
+        r#"{"Resized":{"columns":80,"rows":24,"width":0,"height":0}}"#,
+    );
+    check(
+        Event::KeyboardFlags(KittyKeyboardFlags::REPORT_EVENT_TYPES),
+        r#"{"KeyboardFlags":"REPORT_EVENT_TYPES"}"#,
     );
     check(Event::Osc(b"1;".to_vec()), r#"{"Osc":[49,59]}"#);
     let (kind, bytes) = (StringKind::Dcs, b">|".to_vec());

@@ -1,6 +1,7 @@
 //! A program over the stream for tokio: tests/test_rust_terminal.py types its keys. `b` has the task
 //! compute until what began a sequence is overdue, and `a` asks the terminal.
-use hedrugal::terminal::{Event, EventStream, Modes, Terminal};
+use hedrugal::terminal::{EventStream, Modes, Terminal};
+use hedrugal::Event;
 use std::future::{poll_fn, Future};
 use std::io::{self, Write};
 use std::pin::pin;

@@ -6,8 +6,8 @@ mod malloc;
 
 use bytes::BytesMut;
 use futures_core::Stream;
-use hedrugal::extended::{EraseByte, NewlineByte, Reading};
-use hedrugal::terminal::{Event, EventDecoder};
+use hedrugal::terminal::EventDecoder;
+use hedrugal::{EraseByte, Event, NewlineByte, Reading};
 use std::future::{poll_fn, Future};
 use std::io::{self, Write};
 use std::pin::{pin, Pin};
@@ -52,9 +52,9 @@ fn wanted() -> Vec<String> {
     [
         "a",
         "up",
-        "Input(Paste(\"text\"))",
-        "Input(CursorPosition { row: 24, column: 80 })",
-        "Input(Osc([49, 49, 59, 114, 103, 98, 58, 49, 47, 50, 47, 51]))",
+        "Paste(\"text\")",
+        "CursorPosition { row: 24, column: 80 }",
+        "Osc([49, 49, 59, 114, 103, 98, 58, 49, 47, 50, 47, 51])",
         "é",
         "escape",
     ]
@@ -78,17 +78,17 @@ fn decodes_however_bytes_are_cut() {
 #[test]
 fn ends_an_open_paste_at_the_end() {
     let events = decode(&mut decoder(), b"\x1b[200~text\x1b[20", true);
-    assert_eq!(names(&events), ["Input(Paste(\"text\\u{1b}[20\"))"]);
+    assert_eq!(names(&events), ["Paste(\"text\\u{1b}[20\")"]);
 }
 
 #[test]
 fn gives_a_long_paste_in_parts() {
     let mut decoder = decoder();
-    decoder.set_paste_limit(3);
+    decoder.parser().set_parts(Some(3));
     let events = decode(&mut decoder, b"\x1b[200~text", false);
     assert_eq!(events, [Event::PastePart("text".to_string())]);
     let events = decode(&mut decoder, b"s\x1b[201~", false);
-    assert_eq!(names(&events), ["Input(Paste(\"s\"))"]);
+    assert_eq!(names(&events), ["Paste(\"s\")"]);
 }
 
 // What a refused request was for comes once more, and what came before it, too.
@@ -98,12 +98,12 @@ fn loses_no_event_if_memory_is_refused() {
         let mut decoder = decoder();
         let mut bytes = BytesMut::from(&b"ab\x1b[?6c"[..]);
         let first = decoder.decode(&mut bytes).expect("memory is granted");
-        let (expired, refused) = malloc::refusing(number, || decoder.expire());
-        assert_eq!(expired.is_err(), refused > 0);
+        let (told, refused) = malloc::refusing(number, || decoder.idle());
+        assert_eq!(told.is_err(), refused > 0);
         let mut events = Vec::from_iter(first);
-        events.extend(expired.into_iter().flatten());
-        events.extend(decoder.expire().expect("memory is granted"));
-        assert_eq!(names(&events), ["a", "b", "Input(Csi([63, 54, 99]))"]);
+        events.extend(told.into_iter().flatten());
+        events.extend(decoder.idle().expect("memory is granted"));
+        assert_eq!(names(&events), ["a", "b", "Csi([63, 54, 99])"]);
         if refused == 0 {
             assert!(number > 2);
             break;
@@ -115,7 +115,10 @@ fn loses_no_event_if_memory_is_refused() {
 #[test]
 fn reads_as_it_is_told() {
     let sent = b"\x08\x7f\n\x1b[1;9A\x1b[?2u";
-    let others = ["super+up", "Input(KeyboardFlags(2))"];
+    let others = [
+        "super+up",
+        "KeyboardFlags(KittyKeyboardFlags(REPORT_EVENT_TYPES))",
+    ];
     for (erase, eight, last) in [
         (EraseByte::Delete, "ctrl+h", "backspace"),
         (EraseByte::Backspace, "backspace", "ctrl+backspace"),
@@ -141,7 +144,7 @@ fn reads_as_it_is_told() {
 async fn next_events<C: AsyncRead + Unpin>(
     frames: &mut FramedRead<C, EventDecoder>,
 ) -> io::Result<Option<Vec<Event>>> {
-    let mut time = frames.decoder_mut().timeout().unwrap_or(Duration::MAX);
+    let mut time = frames.decoder().timeout().unwrap_or(Duration::MAX);
     for is_over in [false, true] {
         if is_over {
             yield_now().await; // the runtime looks at the connection
@@ -152,7 +155,7 @@ async fn next_events<C: AsyncRead + Unpin>(
             return event.transpose().map(|event| event.map(|it| vec![it]));
         }
     }
-    frames.decoder_mut().expire().map(Some)
+    frames.decoder_mut().idle().map(Some)
 }
 
 #[tokio::test]

@@ -1,6 +1,6 @@
 // A slow matcher. It follows the page of the crate termwiz_bindings sentence by sentence, over a
 // list of chords that are texts.
-use hedrugal::extended::{Chord, KeyPress, Outcome};
+use hedrugal::{Chord, KeyPress, Outcome};
 
 // Chords and their values.
 pub type Chords = Vec<(Vec<KeyPress>, usize)>;

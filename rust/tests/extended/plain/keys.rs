@@ -1,7 +1,7 @@
 // The keys of "Events", by their letters and numbers. The names of functional keys are those of
 // Kitty's table.
-use hedrugal::extended::ReportedKey;
 use hedrugal::input::KeyCode;
+use hedrugal::ReportedKey;
 
 const LETTERS: &[(u8, KeyCode)] = &[
     (b'A', KeyCode::UpArrow),

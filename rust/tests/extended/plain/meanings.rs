@@ -5,10 +5,11 @@ use super::keys::{
 };
 use super::strings::event_of_string;
 use crate::port::plain::buttons_of;
-use hedrugal::extended::{
-    Event, KeyEventKind, KeyReport, KittyModifiers, MouseKind, MouseReport, ReportedKey,
-};
 use hedrugal::input::{KeyCode, Modifiers, MouseButtons};
+use hedrugal::{
+    Event, KeyEventKind, KeyReport, KittyKeyboardFlags, KittyModifiers, MouseKind, MouseReport,
+    ReportedKey, Size,
+};
 use std::str;
 
 // A number of at most so many digits.
@@ -257,7 +258,10 @@ fn cursor_position(t: &[u8]) -> Option<Event> {
 // The line of the flags of the keyboard.
 fn keyboard_flags(t: &[u8]) -> Option<Event> {
     let flags = short_number(t.strip_prefix(b"?")?.strip_suffix(b"u")?)?;
-    Some(Event::KeyboardFlags(u8::try_from(flags).ok()?))
+    let bits = u8::try_from(flags).ok()?.into();
+    Some(Event::KeyboardFlags(KittyKeyboardFlags::from_bits_retain(
+        bits,
+    )))
 }
 
 // The line of sizes.
@@ -270,12 +274,12 @@ fn resize(t: &[u8]) -> Option<Event> {
     let width = short_number(fields.next()?)?;
     match fields.next() {
         Some(_) => None,
-        None => Some(Event::Resize {
-            rows,
+        None => Some(Event::Resized(Size {
             columns,
-            height,
+            rows,
             width,
-        }),
+            height,
+        })),
     }
 }
 

@@ -2,10 +2,10 @@
 // termwiz_bindings sentence by sentence, and shares nothing with the library but the types.
 use super::presses::{is_sign_of_shift, said_of, Press, Said};
 use crate::port::names::PLAIN_KEYS;
-use hedrugal::extended::{
+use hedrugal::input::KeyCode::{self, Char};
+use hedrugal::{
     KeyEventKind, KeyNameErrorKind as Fault, KeyReport, KittyModifiers as Held, ReportedKey,
 };
-use hedrugal::input::KeyCode::{self, Char};
 
 // What is wrong, and the byte where that part starts.
 pub type Wrong = (Fault, usize);

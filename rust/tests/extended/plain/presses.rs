@@ -1,8 +1,8 @@
 // A slow reader of presses. It follows the rules of the page of the crate termwiz_bindings sentence by
 // sentence, and shares nothing with the library but the types of reports. A number in a comment is
 // that of the rule.
-use hedrugal::extended::{KeyEventKind, KeyReport, KittyModifiers as Held, ReportedKey};
 use hedrugal::input::KeyCode::{self, Char};
+use hedrugal::{KeyEventKind, KeyReport, KittyModifiers as Held, ReportedKey};
 
 // A key, and the modifiers held with it.
 pub type Press = (ReportedKey, Held);

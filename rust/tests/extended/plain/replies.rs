@@ -1,5 +1,5 @@
 // What replies say, by the rules of docs/EXTENDED.md, read slowly and with nothing of the library.
-use hedrugal::extended::{Colour, ColourName, ColourScheme, DeviceAttributes, ModeState, Reply};
+use hedrugal::{Colour, ColourName, ColourScheme, DeviceAttributes, ModeState, Reply};
 
 // A number of at most so many digits, up to the limit.
 fn number(text: &str, most: usize, limit: u32) -> Option<u32> {

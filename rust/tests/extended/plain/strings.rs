@@ -1,6 +1,6 @@
 // 5 to 7: strings, and what comes of them.
 use super::ESC;
-use hedrugal::extended::{Event, StringKind};
+use hedrugal::{Event, StringKind};
 
 const ST: &[u8] = b"\x1b\\";
 

@@ -1,10 +1,10 @@
 // What a terminal sends that is no key: pasted texts and mouse reports.
-use super::{AllocError, Modifiers, FAULT};
-use crate::raw;
+use crate::error::FAULT;
+use crate::{raw, AllocError, Modifiers};
 use std::{error, fmt};
 
 /// Returns what a terminal sends for a pasted text, made safe: the other way from
-/// [`InputEvent::Paste`](crate::input::InputEvent::Paste). A terminal or a multiplexer calls it.
+/// [`Event::Paste`](crate::Event::Paste). A terminal or a multiplexer calls it.
 /// `bracketed` is whether the program asked for bracketed pastes (mode 2004).
 ///
 /// The text is read as UTF-8, with U+FFFD for each piece that is none. Each end of a line becomes
@@ -12,7 +12,7 @@ use std::{error, fmt};
 /// nothing. So no text can end its paste.
 ///
 /// ```
-/// use hedrugal::input::encode_paste;
+/// use hedrugal::encode_paste;
 ///
 /// assert_eq!(encode_paste(b"two\nlines\x1b[201~", true), "\x1b[200~two\rlines␛[201~\x1b[201~");
 /// assert_eq!(encode_paste(b"two\nlines", false), "two\rlines");
@@ -27,10 +27,6 @@ pub fn encode_paste(text: &[u8], bracketed: bool) -> String {
 }
 
 /// Returns what [`encode_paste`] returns.
-///
-/// ```
-/// assert_eq!(hedrugal::input::try_encode_paste(b"a\tb\x07", false).as_deref(), Ok("a\tb␇"));
-/// ```
 ///
 /// # Errors
 ///
@@ -57,13 +53,7 @@ pub fn try_encode_paste(text: &[u8], bracketed: bool) -> Result<String, AllocErr
     }
 }
 
-/// What happened to which button of the mouse, in a [`MouseReport`].
-///
-/// ```
-/// use hedrugal::input::MouseButton;
-///
-/// assert_ne!(MouseButton::Button1Press, MouseButton::Button1Release);
-/// ```
+/// What happened to which button of the mouse, in a [`SentMouse`].
 #[derive(Debug, Clone, Copy, PartialEq, Eq, Hash)]
 #[repr(u8)]
 pub enum MouseButton {
@@ -106,16 +96,6 @@ pub enum MouseButton {
 }
 
 /// Which mouse reports a program asked for, by xterm's modes.
-///
-/// ```
-/// use hedrugal::input::{Modifiers, MouseButton, MouseEncoding, MouseReport, MouseTracking};
-///
-/// let (x, y, button, modifiers) = (1, 1, MouseButton::Button1Release, Modifiers::NONE);
-/// let released = MouseReport { x, y, button, modifiers };
-/// let sent = |tracking| released.encode(tracking, MouseEncoding::Sgr).unwrap();
-/// assert_eq!(sent(MouseTracking::Normal), b"\x1b[<0;1;1m");
-/// assert_eq!(sent(MouseTracking::X10), b"");
-/// ```
 #[derive(Debug, Clone, Copy, PartialEq, Eq, Hash)]
 #[repr(u32)]
 pub enum MouseTracking {
@@ -132,10 +112,10 @@ pub enum MouseTracking {
 /// How mouse reports are written.
 ///
 /// ```
-/// use hedrugal::input::{Modifiers, MouseButton, MouseEncoding, MouseReport, MouseTracking};
+/// use hedrugal::{Modifiers, MouseButton, MouseEncoding, SentMouse, MouseTracking};
 ///
 /// let (x, y, button, modifiers) = (1, 2, MouseButton::Button1Press, Modifiers::NONE);
-/// let pressed = MouseReport { x, y, button, modifiers };
+/// let pressed = SentMouse { x, y, button, modifiers };
 /// let sent = |encoding| pressed.encode(MouseTracking::Normal, encoding).unwrap();
 /// assert_eq!(sent(MouseEncoding::Default), b"\x1b[M !\"");
 /// assert_eq!(sent(MouseEncoding::Urxvt), b"\x1b[32;1;2M");
@@ -152,13 +132,7 @@ pub enum MouseEncoding {
     Sgr = raw::MOUSE_ENCODING_SGR,
 }
 
-/// Why [`MouseReport::try_encode`] made no bytes.
-///
-/// ```
-/// use hedrugal::input::MouseError;
-///
-/// assert_eq!(MouseError::TooFar.to_string(), "the place is too far");
-/// ```
+/// Why [`SentMouse::try_encode`] made no bytes.
 #[derive(Debug, Clone, Copy, PartialEq, Eq)]
 pub enum MouseError {
     /// The column or the row is above 223, which the encoding can't tell.
@@ -187,16 +161,9 @@ impl From<AllocError> for MouseError {
     }
 }
 
-/// A mouse report that a terminal sends: see [`MouseReport::encode`].
-///
-/// ```
-/// use hedrugal::input::{Modifiers, MouseButton, MouseReport};
-///
-/// let (x, y, button, modifiers) = (1, 1, MouseButton::None, Modifiers::NONE);
-/// assert_eq!(MouseReport { x, y, button, modifiers }.x, 1);
-/// ```
+/// A mouse report that a terminal sends: see [`SentMouse::encode`].
 #[derive(Debug, Clone, Copy, PartialEq, Eq)]
-pub struct MouseReport {
+pub struct SentMouse {
     /// The column: the leftmost is 1.
     pub x: u16,
     /// The row: the topmost is 1.
@@ -207,15 +174,15 @@ pub struct MouseReport {
     pub modifiers: Modifiers,
 }
 
-impl MouseReport {
+impl SentMouse {
     /// Returns what a terminal sends for the report: the other way from
-    /// [`InputEvent::Mouse`](crate::input::InputEvent::Mouse). There are no bytes for a report that
+    /// [`Event::Mouse`](crate::Event::Mouse). There are no bytes for a report that
     /// the program doesn't get.
     ///
     /// ```
-    /// use hedrugal::input::{Modifiers, MouseButton, MouseEncoding, MouseReport, MouseTracking};
+    /// use hedrugal::{Modifiers, MouseButton, MouseEncoding, SentMouse, MouseTracking};
     ///
-    /// let report = MouseReport {
+    /// let report = SentMouse {
     ///     x: 80,
     ///     y: 24,
     ///     button: MouseButton::Button2Drag,
@@ -244,17 +211,7 @@ impl MouseReport {
         sent
     }
 
-    /// Returns what [`MouseReport::encode`] returns.
-    ///
-    /// ```
-    /// use hedrugal::input::{Modifiers, MouseButton, MouseEncoding, MouseError};
-    /// use hedrugal::input::{MouseReport, MouseTracking};
-    ///
-    /// let (x, y, button, modifiers) = (224, 1, MouseButton::Button1Press, Modifiers::NONE);
-    /// let far = MouseReport { x, y, button, modifiers };
-    /// let sent = far.try_encode(MouseTracking::Normal, MouseEncoding::Default);
-    /// assert_eq!(sent, Err(MouseError::TooFar));
-    /// ```
+    /// Returns what [`SentMouse::encode`] returns.
     ///
     /// # Errors
     ///

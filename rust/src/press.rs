@@ -1,9 +1,10 @@
 // One name for a key, however its terminal reports it.
-use super::{
-    names, KeyEventKind, KeyNameError, KeyNameErrorKind, KeyReport, KittyModifiers, ReportedKey,
+use crate::error::FAULT;
+use crate::input::KeyEvent;
+use crate::{
+    names, raw, KeyEventKind, KeyNameError, KeyNameErrorKind, KeyReport, KittyModifiers,
+    ReportedKey,
 };
-use crate::input::{KeyEvent, FAULT};
-use crate::raw;
 use std::cmp::Ordering;
 use std::fmt;
 use std::str::FromStr;
@@ -22,19 +23,19 @@ use std::str::FromStr;
 /// too. Otherwise Ctrl, Shift and `1` come without the `!`, and are `1` with CTRL and SHIFT.
 ///
 /// A press is printed by its name, as `ctrl+shift+up`, and read from one. A text has the names of a
-/// [`Chord`](super::Chord), which says how they are written.
+/// [`Chord`](crate::Chord), which says how they are written.
 ///
 /// Presses are ordered by the numbers of their keys in the C library, then by their characters, and
 /// then by their modifiers.
 ///
 /// ```
-/// use hedrugal::extended::{Dialect, ExtendedParser, KeyPress, KittyModifiers, ReportedKey};
-/// use hedrugal::input::KeyCode;
+/// use hedrugal::{Dialect, KeyCode, KittyModifiers, Parser, ReportedKey};
+/// use std::time::Instant;
 ///
 /// // Ctrl, Shift and a, as xterm reports it, and as kitty does with Caps Lock on.
-/// let events = ExtendedParser::new(Dialect::Extended).parse_as_vec(b"\x1b[65;5u\x1b[97;70u", true);
-/// for event in events {
-///     let press = KeyPress::of_report(event.key().unwrap()).unwrap();
+/// let mut parser = Parser::new(Dialect::Extended);
+/// parser.feed(Instant::now(), b"\x1b[65;5u\x1b[97;70u");
+/// for press in parser.filter_map(|event| event.press()) {
 ///     assert_eq!(press.key(), ReportedKey::Named(KeyCode::Char('a')));
 ///     assert_eq!(press.held(), KittyModifiers::CTRL.union(KittyModifiers::SHIFT));
 ///     assert_eq!(press.to_string(), "ctrl+shift+a");
@@ -54,8 +55,7 @@ impl KeyPress {
     /// Kitty's table.
     ///
     /// ```
-    /// use hedrugal::extended::{KeyPress, KittyModifiers, ReportedKey};
-    /// use hedrugal::input::KeyCode;
+    /// use hedrugal::{KeyCode, KeyPress, KittyModifiers, ReportedKey};
     ///
     /// let of = |key| KeyPress::new(ReportedKey::Named(key), KittyModifiers::SHIFT);
     /// assert_eq!(of(KeyCode::ApplicationUpArrow).unwrap().to_string(), "shift+up");
@@ -79,7 +79,7 @@ impl KeyPress {
     /// two keys is held.
     ///
     /// ```
-    /// use hedrugal::extended::{KeyPress, KittyModifiers, ReportedKey};
+    /// use hedrugal::{KeyPress, KittyModifiers, ReportedKey};
     /// use hedrugal::input::{KeyCode, KeyEvent, Modifiers};
     ///
     /// let of = |key, modifiers| KeyPress::of_event(&KeyEvent { key, modifiers });
@@ -106,19 +106,6 @@ impl KeyPress {
     /// Returns the press of a key report. `None` is for a release, for a modifier or a lock by
     /// itself, and for a report that types several characters: [`typed_text`] returns these. A
     /// repeat counts as a press.
-    ///
-    /// ```
-    /// use hedrugal::extended::{Dialect, ExtendedParser, KeyPress};
-    ///
-    /// let mut parser = ExtendedParser::new(Dialect::Extended);
-    /// let events = parser.parse_as_vec(b"\x1b[97;5u\x1b[97;5:2u\x1b[97;5:3u", true);
-    /// let presses: Vec<_> = events
-    ///     .iter()
-    ///     .map(|event| KeyPress::of_report(event.key().unwrap()))
-    ///     .collect();
-    /// assert_eq!(presses[0], presses[1]);
-    /// assert_eq!(presses[2], None);
-    /// ```
     #[must_use]
     pub fn of_report(report: &KeyReport) -> Option<KeyPress> {
         KeyPress::typing(&report.raw(), &report.text)
@@ -133,13 +120,14 @@ impl KeyPress {
     /// Look at the press first: where the report types its text, this says nothing of it.
     ///
     /// ```
-    /// use hedrugal::extended::{Dialect, ExtendedParser, KeyPress, ReportedKey};
-    /// use hedrugal::input::KeyCode;
+    /// use hedrugal::{Dialect, Parser};
+    /// use std::time::Instant;
     ///
     /// // Ctrl with the Cyrillic letter es, which is where c is on a PC-101 keyboard.
-    /// let events = ExtendedParser::new(Dialect::Extended).parse_as_vec(b"\x1b[1089::99;5u", true);
-    /// let second = KeyPress::second(events[0].key().unwrap()).unwrap();
-    /// assert_eq!(second.key(), ReportedKey::Named(KeyCode::Char('c')));
+    /// let mut parser = Parser::new(Dialect::Extended);
+    /// parser.feed(Instant::now(), b"\x1b[1089::99;5u");
+    /// let second = parser.next().and_then(|event| event.second());
+    /// assert_eq!(second, "ctrl+c".parse().ok());
     /// ```
     #[must_use]
     pub fn second(report: &KeyReport) -> Option<KeyPress> {
@@ -164,16 +152,6 @@ impl KeyPress {
 
     /// Returns the character that the press types, if it does: nothing is held, or SHIFT with the
     /// space alone. A program inserts it if the press does nothing else. Enter and Tab type none.
-    ///
-    /// ```
-    /// use hedrugal::extended::KeyPress;
-    /// use hedrugal::input::{KeyCode, KeyEvent, Modifiers};
-    ///
-    /// let of = |key, modifiers| KeyPress::of_event(&KeyEvent { key, modifiers });
-    /// assert_eq!(of(KeyCode::Char('a'), Modifiers::SHIFT).unwrap().text(), Some('A'));
-    /// assert_eq!(of(KeyCode::Char('a'), Modifiers::CTRL).unwrap().text(), None);
-    /// assert_eq!(of(KeyCode::Enter, Modifiers::NONE).unwrap().text(), None);
-    /// ```
     #[must_use]
     pub fn text(self) -> Option<char> {
         let mut text = [0; 4];
@@ -201,7 +179,7 @@ impl KeyPress {
     }
 
     // A press of the library.
-    pub(super) fn of_raw(press: raw::KeyPress) -> KeyPress {
+    pub(crate) fn of_raw(press: raw::KeyPress) -> KeyPress {
         KeyPress {
             key: ReportedKey::of(press.key, press.detail),
             held: KittyModifiers::from_bits(press.held).expect(FAULT),
@@ -209,7 +187,7 @@ impl KeyPress {
     }
 
     // The press as the library has it.
-    pub(super) fn raw(self) -> raw::KeyPress {
+    pub(crate) fn raw(self) -> raw::KeyPress {
         let (key, detail) = self.key.numbers();
         raw::KeyPress {
             key,
@@ -267,10 +245,13 @@ impl Ord for KeyPress {
 /// empty here.
 ///
 /// ```
-/// use hedrugal::extended::{typed_text, Dialect, ExtendedParser};
+/// use hedrugal::{typed_text, Dialect, Parser};
+/// use std::time::Instant;
 ///
-/// let events = ExtendedParser::new(Dialect::Extended).parse_as_vec(b"\x1b[0;;102:105u", true);
-/// assert_eq!(typed_text(events[0].key().unwrap()), "fi");
+/// let mut parser = Parser::new(Dialect::Extended);
+/// parser.feed(Instant::now(), b"\x1b[0;;102:105u");
+/// let typed = parser.next().unwrap();
+/// assert_eq!(typed.key().map(typed_text), Some("fi"));
 /// ```
 #[must_use]
 pub fn typed_text(report: &KeyReport) -> &str {

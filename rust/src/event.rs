@@ -1,17 +1,8 @@
 // What happens at a terminal, and what it replies.
-use super::KittyModifiers;
-use crate::input::{AllocError, KeyCode, Modifiers, MouseButtons, FAULT};
-use crate::library_parser::LibraryEvent;
-use crate::raw;
+use crate::error::FAULT;
+use crate::{raw, KeyCode, KeyPress, KittyKeyboardFlags, KittyModifiers, Modifiers, MouseButtons};
 
 /// What happened to a key.
-///
-/// ```
-/// use hedrugal::extended::{Dialect, ExtendedParser, KeyEventKind};
-///
-/// let events = ExtendedParser::new(Dialect::Extended).parse_as_vec(b"\x1b[1;1:3A", true);
-/// assert_eq!(events[0].key().unwrap().kind, KeyEventKind::Release);
-/// ```
 #[derive(Debug, Clone, Copy, PartialEq, Eq, Hash)]
 #[cfg_attr(feature = "use_serde", derive(serde::Serialize, serde::Deserialize))]
 pub enum KeyEventKind {
@@ -24,15 +15,6 @@ pub enum KeyEventKind {
 }
 
 /// The key of a report.
-///
-/// ```
-/// use hedrugal::extended::{Dialect, ExtendedParser, ReportedKey};
-/// use hedrugal::input::KeyCode;
-///
-/// let events = ExtendedParser::new(Dialect::Extended).parse_as_vec(b"\x1b[27u\x1b[57428u", true);
-/// assert_eq!(events[0].key().unwrap().key, ReportedKey::Named(KeyCode::Escape));
-/// assert_eq!(events[1].key().unwrap().key, ReportedKey::Functional(57428));
-/// ```
 #[derive(Debug, Clone, Copy, PartialEq, Eq, Hash)]
 #[cfg_attr(feature = "use_serde", derive(serde::Serialize, serde::Deserialize))]
 pub enum ReportedKey {
@@ -47,20 +29,15 @@ pub enum ReportedKey {
 /// and SHIFT, ALT and CTRL, mostly Kitty's keyboard protocol tells that.
 ///
 /// ```
-/// use hedrugal::extended::{Event, ExtendedParser, KeyEventKind, KeyReport};
-/// use hedrugal::extended::{Dialect, KittyModifiers, ReportedKey};
-/// use hedrugal::input::KeyCode;
+/// use hedrugal::{Dialect, KeyCode, KeyEventKind, Parser, ReportedKey};
+/// use std::time::Instant;
 ///
-/// let report = KeyReport {
-///     key: ReportedKey::Named(KeyCode::Char('a')),
-///     modifiers: KittyModifiers::SHIFT,
-///     kind: KeyEventKind::Press,
-///     shifted: Some('A'),
-///     base: None,
-///     text: "A".to_string(),
-/// };
-/// let events = ExtendedParser::new(Dialect::Extended).parse_as_vec(b"\x1b[97:65;2;65u", true);
-/// assert_eq!(events, [Event::Key(report)]);
+/// let mut parser = Parser::new(Dialect::Extended);
+/// parser.feed(Instant::now(), b"\x1b[97:65;2:3u");
+/// let event = parser.next().unwrap();
+/// let report = event.key().unwrap();
+/// assert_eq!(report.key, ReportedKey::Named(KeyCode::Char('a')));
+/// assert_eq!((report.kind, report.shifted), (KeyEventKind::Release, Some('A')));
 /// ```
 #[derive(Debug, Clone, PartialEq, Eq)]
 #[cfg_attr(feature = "use_serde", derive(serde::Serialize, serde::Deserialize))]
@@ -81,18 +58,6 @@ pub struct KeyReport {
 }
 
 /// The kind of a string, by what introduces it.
-///
-/// ```
-/// use hedrugal::extended::{Dialect, Event, ExtendedParser, StringKind};
-///
-/// let mut parser = ExtendedParser::new(Dialect::Extended);
-/// parser.parse(b"\x1bP>|xterm", |_| {}, true);
-/// let cut = Event::StringCut {
-///     kind: StringKind::Dcs,
-///     bytes: b">|xterm".to_vec(),
-/// };
-/// assert_eq!(parser.parse_as_vec(b"", false), [cut]);
-/// ```
 #[derive(Debug, Clone, Copy, PartialEq, Eq, Hash)]
 #[cfg_attr(feature = "use_serde", derive(serde::Serialize, serde::Deserialize))]
 pub enum StringKind {
@@ -105,21 +70,6 @@ pub enum StringKind {
 }
 
 /// What happened to the mouse.
-///
-/// ```
-/// use hedrugal::extended::{Dialect, Event, ExtendedParser, MouseKind};
-///
-/// let mut parser = ExtendedParser::new(Dialect::Extended);
-/// for (bytes, kind) in [
-///     (b"\x1b[<0;3;4M", MouseKind::Press),
-///     (b"\x1b[<0;3;4m", MouseKind::Release),
-/// ] {
-///     let [Event::Mouse(report)] = parser.parse_as_vec(bytes, true)[..] else {
-///         unreachable!()
-///     };
-///     assert_eq!((report.kind, report.button), (kind, Some(1)));
-/// }
-/// ```
 #[derive(Debug, Clone, Copy, PartialEq, Eq, Hash)]
 #[cfg_attr(feature = "use_serde", derive(serde::Serialize, serde::Deserialize))]
 pub enum MouseKind {
@@ -136,23 +86,6 @@ pub enum MouseKind {
 }
 
 /// A mouse report, with the position in cells, or in pixels with mode 1016.
-///
-/// ```
-/// use hedrugal::extended::{Dialect, Event, ExtendedParser, MouseKind, MouseReport};
-/// use hedrugal::input::{Modifiers, MouseButtons};
-///
-/// // Of most mice the button 8 goes back, and 9 goes forward.
-/// let report = MouseReport {
-///     x: 3,
-///     y: 4,
-///     modifiers: Modifiers::CTRL,
-///     buttons: MouseButtons::NONE,
-///     kind: MouseKind::Press,
-///     button: Some(9),
-/// };
-/// let events = ExtendedParser::new(Dialect::Extended).parse_as_vec(b"\x1b[<145;3;4M", true);
-/// assert_eq!(events, [Event::Mouse(report)]);
-/// ```
 #[derive(Debug, Clone, Copy, PartialEq, Eq)]
 #[cfg_attr(feature = "use_serde", derive(serde::Serialize, serde::Deserialize))]
 pub struct MouseReport {
@@ -174,13 +107,29 @@ pub struct MouseReport {
     pub button: Option<u8>,
 }
 
+/// The size of a terminal.
+#[derive(Debug, Clone, Copy, PartialEq, Eq, Hash, Default)]
+#[cfg_attr(feature = "use_serde", derive(serde::Serialize, serde::Deserialize))]
+pub struct Size {
+    /// The number of columns.
+    pub columns: u16,
+    /// The number of rows.
+    pub rows: u16,
+    /// The width in pixels, 0 if it isn't known.
+    pub width: u16,
+    /// The height in pixels, 0 if it isn't known.
+    pub height: u16,
+}
+
 /// Something that happened at the terminal, or that it replied.
 ///
 /// ```
-/// use hedrugal::extended::{Dialect, Event, ExtendedParser};
+/// use hedrugal::{Dialect, Event, Parser};
+/// use std::time::Instant;
 ///
-/// let events = ExtendedParser::new(Dialect::Extended).parse_as_vec(b"\x1b[I\x1b[?62;22c", true);
-/// assert_eq!(events, [Event::FocusGained, Event::Csi(b"?62;22c".to_vec())]);
+/// let mut parser = Parser::new(Dialect::Extended);
+/// parser.feed(Instant::now(), b"\x1b[I\x1b[?62;22c");
+/// assert!(parser.eq([Event::FocusGained, Event::Csi(b"?62;22c".to_vec())]));
 /// ```
 #[derive(Debug, Clone, PartialEq, Eq)]
 #[cfg_attr(feature = "use_serde", derive(serde::Serialize, serde::Deserialize))]
@@ -191,6 +140,8 @@ pub enum Event {
     Mouse(MouseReport),
     /// Text was pasted, in bracketed paste mode.
     Paste(String),
+    /// Text of a paste whose end is still to come: see [`Parser::set_parts`](crate::Parser::set_parts).
+    PastePart(String),
     /// The terminal's window gained the focus (mode 1004).
     FocusGained,
     /// The terminal's window lost the focus.
@@ -203,20 +154,11 @@ pub enum Event {
         /// The column.
         column: u16,
     },
-    /// The terminal has a new size (mode 2048).
-    Resize {
-        /// The number of rows.
-        rows: u16,
-        /// The number of columns.
-        columns: u16,
-        /// The height in pixels.
-        height: u16,
-        /// The width in pixels.
-        width: u16,
-    },
-    /// The reply to a question for the flags of Kitty's keyboard protocol, as the bits of
-    /// [`KittyKeyboardFlags`](crate::input::KittyKeyboardFlags).
-    KeyboardFlags(u8),
+    /// The terminal has a new size. A parser tells it in mode 2048, and a
+    /// [`Terminal`](crate::terminal::Terminal) always.
+    Resized(Size),
+    /// The reply to a question for the flags of Kitty's keyboard protocol.
+    KeyboardFlags(KittyKeyboardFlags),
     /// Any other control sequence: its bytes after ESC `[`.
     Csi(Vec<u8>),
     /// An operating system command: its bytes after ESC `]`, without its end.
@@ -241,21 +183,13 @@ pub enum Event {
         /// Its bytes after its introducer.
         bytes: Vec<u8>,
     },
+    /// Another program had the terminal while this one was stopped, so draw all of it. `Resized`
+    /// follows, since the size may be new. Only a [`Terminal`](crate::terminal::Terminal) tells it.
+    Resumed,
 }
 
 impl Event {
     /// Returns the report of a key, and `None` for any other event.
-    ///
-    /// ```
-    /// use hedrugal::extended::{Dialect, ExtendedParser, KittyModifiers, ReportedKey};
-    /// use hedrugal::input::KeyCode;
-    ///
-    /// let events = ExtendedParser::new(Dialect::Extended).parse_as_vec(b"\x1b[1;5A\x1b[I", true);
-    /// let report = events[0].key().unwrap();
-    /// assert_eq!(report.key, ReportedKey::Named(KeyCode::UpArrow));
-    /// assert_eq!(report.modifiers, KittyModifiers::CTRL);
-    /// assert_eq!(events[1].key(), None);
-    /// ```
     #[must_use]
     pub fn key(&self) -> Option<&KeyReport> {
         match self {
@@ -263,47 +197,128 @@ impl Event {
             _ => None,
         }
     }
-}
 
-impl LibraryEvent for Event {
-    fn of(
-        event: &raw::Event,
-        text: impl FnOnce(usize) -> Result<Vec<u8>, AllocError>,
-    ) -> Result<Event, AllocError> {
-        Ok(match event.kind {
-            raw::KIND_KEY => Event::Key(KeyReport::of(event, text(event.text_len)?)),
+    /// Returns the press of a key, by which a program looks up what the key does:
+    /// [`KeyPress::of_report`]. A release and a modifier alone have none.
+    #[must_use]
+    pub fn press(&self) -> Option<KeyPress> {
+        self.key().and_then(KeyPress::of_report)
+    }
+
+    /// Returns a second press of a key, for a program in which the first one leads nowhere:
+    /// [`KeyPress::second`].
+    #[must_use]
+    pub fn second(&self) -> Option<KeyPress> {
+        self.key().and_then(KeyPress::second)
+    }
+
+    // An event of the library, and the bytes that it brought.
+    #[inline]
+    pub(crate) fn of(event: &raw::Event, text: Vec<u8>) -> Event {
+        match event.kind {
+            raw::KIND_KEY => Event::Key(KeyReport::of(event, text)),
             raw::KIND_MOUSE => Event::Mouse(MouseReport::of(event)),
-            raw::KIND_PASTE => Event::Paste(String::from_utf8(text(event.text_len)?).expect(FAULT)),
+            raw::KIND_PASTE => Event::Paste(utf8(text)),
+            raw::KIND_PASTE_PART => Event::PastePart(utf8(text)),
             raw::KIND_FOCUS_GAINED => Event::FocusGained,
             raw::KIND_FOCUS_LOST => Event::FocusLost,
             raw::KIND_CURSOR_POSITION => Event::CursorPosition {
                 row: event.row,
                 column: event.column,
             },
-            raw::KIND_RESIZE => Event::Resize {
-                rows: event.rows,
+            raw::KIND_RESIZED => Event::Resized(Size {
                 columns: event.columns,
-                height: event.height,
+                rows: event.rows,
                 width: event.width,
-            },
-            raw::KIND_KEYBOARD_FLAGS => Event::KeyboardFlags(event.flags),
-            raw::KIND_CSI => Event::Csi(text(event.text_len)?),
-            raw::KIND_OSC => Event::Osc(text(event.text_len)?),
-            raw::KIND_DCS => Event::Dcs(text(event.text_len)?),
-            raw::KIND_APC => Event::Apc(text(event.text_len)?),
+                height: event.height,
+            }),
+            raw::KIND_KEYBOARD_FLAGS => {
+                Event::KeyboardFlags(KittyKeyboardFlags::from_bits_retain(event.flags.into()))
+            }
+            raw::KIND_CSI => Event::Csi(text),
+            raw::KIND_OSC => Event::Osc(text),
+            raw::KIND_DCS => Event::Dcs(text),
+            raw::KIND_APC => Event::Apc(text),
             raw::KIND_STRING_PART => Event::StringPart {
                 kind: StringKind::of(event.string_kind),
-                bytes: text(event.text_len)?,
+                bytes: text,
             },
             raw::KIND_STRING_CUT => Event::StringCut {
                 kind: StringKind::of(event.string_kind),
-                bytes: text(event.text_len)?,
+                bytes: text,
             },
             _ => unreachable!("{FAULT}"),
-        })
+        }
+    }
+
+    // The bytes that the event brings.
+    pub(crate) fn bytes(&self) -> &[u8] {
+        match self {
+            Event::Paste(text) | Event::PastePart(text) => text.as_bytes(),
+            Event::Key(report) => report.text.as_bytes(),
+            Event::Csi(bytes)
+            | Event::Osc(bytes)
+            | Event::Dcs(bytes)
+            | Event::Apc(bytes)
+            | Event::StringPart { bytes, .. }
+            | Event::StringCut { bytes, .. } => bytes,
+            _ => &[],
+        }
+    }
+
+    // The event as the library has it. Its bytes are passed beside it.
+    pub(crate) fn raw(&self) -> raw::Event {
+        let none = raw::Event::default();
+        match self {
+            Event::Key(report) => report.raw(),
+            Event::Mouse(report) => report.raw(),
+            Event::Paste(_) => of_kind(raw::KIND_PASTE),
+            Event::PastePart(_) => of_kind(raw::KIND_PASTE_PART),
+            Event::FocusGained => of_kind(raw::KIND_FOCUS_GAINED),
+            Event::FocusLost => of_kind(raw::KIND_FOCUS_LOST),
+            Event::CursorPosition { row, column } => raw::Event {
+                kind: raw::KIND_CURSOR_POSITION,
+                row: *row,
+                column: *column,
+                ..none
+            },
+            Event::Resized(size) => raw::Event {
+                kind: raw::KIND_RESIZED,
+                rows: size.rows,
+                columns: size.columns,
+                height: size.height,
+                width: size.width,
+                ..none
+            },
+            Event::KeyboardFlags(flags) => raw::Event {
+                kind: raw::KIND_KEYBOARD_FLAGS,
+                flags: flags.bits() as u8, // `try_encode` refuses higher ones
+                ..none
+            },
+            Event::Csi(_) => of_kind(raw::KIND_CSI),
+            Event::Osc(_) => of_kind(raw::KIND_OSC),
+            Event::Dcs(_) => of_kind(raw::KIND_DCS),
+            Event::Apc(_) => of_kind(raw::KIND_APC),
+            Event::StringPart { kind, .. } => raw::Event {
+                string_kind: kind.number(),
+                ..of_kind(raw::KIND_STRING_PART)
+            },
+            Event::StringCut { kind, .. } => raw::Event {
+                string_kind: kind.number(),
+                ..of_kind(raw::KIND_STRING_CUT)
+            },
+            Event::Resumed => of_kind(raw::KIND_OTHER),
+        }
     }
 }
 
+// An event of which only the kind is told.
+fn of_kind(kind: u8) -> raw::Event {
+    raw::Event {
+        kind,
+        ..raw::Event::default()
+    }
+}
 impl MouseKind {
     // What happened, by the number of the library.
     fn of(number: u8) -> MouseKind {
@@ -330,6 +345,26 @@ impl MouseReport {
             button: (report.button != 0).then_some(report.button),
         }
     }
+
+    // The report as the library has it. No button has the number 0.
+    fn raw(&self) -> raw::Event {
+        raw::Event {
+            kind: raw::KIND_MOUSE,
+            mouse_kind: match self.kind {
+                MouseKind::Press => raw::MOUSE_KIND_PRESS,
+                MouseKind::Release => raw::MOUSE_KIND_RELEASE,
+                MouseKind::Drag => raw::MOUSE_KIND_DRAG,
+                MouseKind::Move => raw::MOUSE_KIND_MOVE,
+                MouseKind::Wheel => raw::MOUSE_KIND_WHEEL,
+            },
+            button: self.button.unwrap_or(0),
+            buttons: self.buttons.bits(),
+            modifiers: self.modifiers.kitty().0,
+            x: self.x,
+            y: self.y,
+            ..raw::Event::default()
+        }
+    }
 }
 
 impl StringKind {
@@ -342,11 +377,20 @@ impl StringKind {
             _ => unreachable!("{FAULT}"),
         }
     }
+
+    // The number that the library has for the kind.
+    fn number(self) -> u8 {
+        match self {
+            StringKind::Osc => raw::KIND_OSC,
+            StringKind::Dcs => raw::KIND_DCS,
+            StringKind::Apc => raw::KIND_APC,
+        }
+    }
 }
 
 impl ReportedKey {
     // The key of a number of the library and what it carries.
-    pub(super) fn of(number: u16, detail: u32) -> ReportedKey {
+    pub(crate) fn of(number: u16, detail: u32) -> ReportedKey {
         match number {
             0 => ReportedKey::Functional(detail),
             key => ReportedKey::Named(KeyCode::of(key, detail).expect(FAULT)),
@@ -354,7 +398,7 @@ impl ReportedKey {
     }
 
     // The number that the library has for the key, and what it carries.
-    pub(super) fn numbers(self) -> (u16, u32) {
+    pub(crate) fn numbers(self) -> (u16, u32) {
         match self {
             ReportedKey::Named(key) => (key.number(), key.detail()),
             ReportedKey::Functional(number) => (0, number),
@@ -374,14 +418,19 @@ impl KeyReport {
                 raw::KEY_EVENT_KIND_RELEASE => KeyEventKind::Release,
                 _ => unreachable!("{FAULT}"),
             },
-            shifted: character(report.shifted),
-            base: character(report.base),
-            text: String::from_utf8(text).expect(FAULT),
+            // NO_CODE is no character.
+            shifted: char::from_u32(report.shifted),
+            base: char::from_u32(report.base),
+            text: utf8(text),
         }
     }
 }
 
-// The character of a code point, if the terminal reported one.
-fn character(code: u32) -> Option<char> {
-    (code != raw::NO_CODE).then(|| char::from_u32(code).expect(FAULT))
+// The text of an event.
+#[inline]
+fn utf8(text: Vec<u8>) -> String {
+    if text.is_empty() {
+        return String::new();
+    }
+    String::from_utf8(text).expect(FAULT)
 }

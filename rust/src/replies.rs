@@ -1,19 +1,9 @@
 // What a terminal's replies say.
-use super::Event;
-use crate::input::{AllocError, FAULT};
-use crate::raw;
+use crate::error::FAULT;
+use crate::{raw, AllocError, Event};
 use std::str;
 
 /// Which report of a terminal's attributes it is.
-///
-/// ```
-/// use hedrugal::extended::{DeviceAttributes, Event, Reply};
-///
-/// let asked = Event::Csi(b">41;379;0c".to_vec());
-/// let numbers = vec![41, 379, 0];
-/// let report = DeviceAttributes::Secondary;
-/// assert_eq!(asked.reply(), Some(Reply::DeviceAttributes { report, numbers }));
-/// ```
 #[derive(Debug, Clone, Copy, PartialEq, Eq, Hash)]
 #[cfg_attr(feature = "use_serde", derive(serde::Serialize, serde::Deserialize))]
 pub enum DeviceAttributes {
@@ -27,14 +17,6 @@ pub enum DeviceAttributes {
 }
 
 /// The state of a mode.
-///
-/// ```
-/// use hedrugal::extended::{Event, ModeState, Reply};
-///
-/// let asked = Event::Csi(b"?2026;2$y".to_vec());
-/// let Some(Reply::Mode { state, .. }) = asked.reply() else { panic!() };
-/// assert_eq!(state, ModeState::Reset);
-/// ```
 #[derive(Debug, Clone, Copy, PartialEq, Eq, Hash)]
 #[cfg_attr(feature = "use_serde", derive(serde::Serialize, serde::Deserialize))]
 pub enum ModeState {
@@ -51,14 +33,6 @@ pub enum ModeState {
 }
 
 /// Which colour a reply is about.
-///
-/// ```
-/// use hedrugal::extended::{ColourName, Event, Reply};
-///
-/// let asked = Event::Osc(b"4;1;rgb:cdcd/0000/0000".to_vec());
-/// let Some(Reply::Colour { name, .. }) = asked.reply() else { panic!() };
-/// assert_eq!(name, ColourName::Palette(1));
-/// ```
 #[derive(Debug, Clone, Copy, PartialEq, Eq, Hash)]
 #[cfg_attr(feature = "use_serde", derive(serde::Serialize, serde::Deserialize))]
 pub enum ColourName {
@@ -73,14 +47,6 @@ pub enum ColourName {
 }
 
 /// A colour. Each part is from 0 to 65535, however many digits the terminal wrote.
-///
-/// ```
-/// use hedrugal::extended::{Colour, Event, Reply};
-///
-/// let asked = Event::Osc(b"11;rgb:00/80/ff".to_vec());
-/// let Some(Reply::Colour { colour, .. }) = asked.reply() else { panic!() };
-/// assert_eq!(colour, Colour { red: 0, green: 0x8080, blue: 0xffff });
-/// ```
 #[derive(Debug, Clone, Copy, PartialEq, Eq, Hash)]
 #[cfg_attr(feature = "use_serde", derive(serde::Serialize, serde::Deserialize))]
 pub struct Colour {
@@ -93,13 +59,6 @@ pub struct Colour {
 }
 
 /// The colour scheme that the terminal's user prefers.
-///
-/// ```
-/// use hedrugal::extended::{ColourScheme, Event, Reply};
-///
-/// let asked = Event::Csi(b"?997;1n".to_vec());
-/// assert_eq!(asked.reply(), Some(Reply::ColourScheme(ColourScheme::Dark)));
-/// ```
 #[derive(Debug, Clone, Copy, PartialEq, Eq, Hash)]
 #[cfg_attr(feature = "use_serde", derive(serde::Serialize, serde::Deserialize))]
 pub enum ColourScheme {
@@ -111,13 +70,6 @@ pub enum ColourScheme {
 
 /// What a terminal replied to a question, in values. The position of the cursor, a new size and the
 /// flags of Kitty's keyboard protocol are events of their own.
-///
-/// ```
-/// use hedrugal::extended::{Dialect, ExtendedParser, Reply};
-///
-/// let events = ExtendedParser::new(Dialect::Extended).parse_as_vec(b"\x1bP>|XTerm(379)\x1b\\", true);
-/// assert_eq!(events[0].reply(), Some(Reply::Version("XTerm(379)".to_string())));
-/// ```
 #[derive(Debug, Clone, PartialEq, Eq)]
 #[cfg_attr(feature = "use_serde", derive(serde::Serialize, serde::Deserialize))]
 pub enum Reply {
@@ -172,15 +124,17 @@ impl Event {
     /// are a reply.
     ///
     /// ```
-    /// use hedrugal::extended::{Dialect, ExtendedParser, Reply};
+    /// use hedrugal::{Dialect, Parser, Reply};
+    /// use std::time::Instant;
     ///
-    /// let mut parser = ExtendedParser::new(Dialect::Extended);
-    /// let events = parser.parse_as_vec(b"\x1b[8;24;80t\x1b]52;c;Y2xpcA==\x07q", true);
-    /// assert_eq!(events[0].reply(), Some(Reply::WindowSize { rows: 24, columns: 80 }));
+    /// let mut parser = Parser::new(Dialect::Extended);
+    /// parser.feed(Instant::now(), b"\x1b[8;24;80t\x1b]52;c;Y2xpcA==\x07q");
+    /// let replies: Vec<_> = parser.map(|event| event.reply()).collect();
+    /// assert_eq!(replies[0], Some(Reply::WindowSize { rows: 24, columns: 80 }));
     /// let bytes = b"clip".to_vec();
     /// let selection = Some('c');
-    /// assert_eq!(events[1].reply(), Some(Reply::Clipboard { selection, bytes }));
-    /// assert_eq!(events[2].reply(), None);
+    /// assert_eq!(replies[1], Some(Reply::Clipboard { selection, bytes }));
+    /// assert_eq!(replies[2], None);
     /// ```
     ///
     /// # Panics
@@ -192,12 +146,6 @@ impl Event {
     }
 
     /// Returns what [`Event::reply`] returns.
-    ///
-    /// ```
-    /// use hedrugal::extended::Event;
-    ///
-    /// assert_eq!(Event::FocusLost.try_reply(), Ok(None));
-    /// ```
     ///
     /// # Errors
     ///

@@ -1,7 +1,6 @@
 // What a program does at which keys: a map from chords to values.
-use super::Chord;
-use crate::input::{granted, AllocError, FAULT};
-use crate::raw;
+use crate::error::{granted, AllocError, FAULT};
+use crate::{raw, Chord};
 use std::error;
 use std::fmt::{self, Debug};
 use std::iter::FusedIterator;
@@ -20,7 +19,7 @@ pub enum BindErrorKind {
 /// [`Bindings::try_bind`] refused. The bindings are unchanged, and `value` is what was to be bound.
 ///
 /// ```
-/// use hedrugal::extended::{BindErrorKind, Bindings, Chord};
+/// use hedrugal::{BindErrorKind, Bindings, Chord};
 ///
 /// let error = Bindings::new().try_bind(&Chord::new(), "quit").unwrap_err();
 /// assert_eq!((error.kind, error.value), (BindErrorKind::Empty, "quit"));
@@ -46,10 +45,10 @@ impl<V> fmt::Display for BindError<V> {
 impl<V: Debug> error::Error for BindError<V> {}
 
 /// A map from chords to values: what a program does at which keys. One chord may begin another one.
-/// A [`Matcher`](super::Matcher) reads keys by it.
+/// A [`Matcher`](crate::Matcher) reads keys by it.
 ///
 /// ```
-/// use hedrugal::extended::{Bindings, Chord, Matcher, Outcome};
+/// use hedrugal::{Bindings, Chord, Matcher, Outcome};
 ///
 /// let bindings: Bindings<&str> = [("C-x C-s", "save"), ("g", "go"), ("g g", "top")]
 ///     .into_iter()
@@ -86,14 +85,14 @@ impl<V> Bindings<V> {
     /// Makes bindings of no chord.
     ///
     /// ```
-    /// use hedrugal::extended::{Bindings, Chord};
+    /// use hedrugal::{Bindings, Chord};
     ///
     /// let mut bindings = Bindings::new();
     /// let quit: Chord = "ctrl+q".parse()?;
     /// bindings.bind(&quit, 1);
     /// bindings.bind(&quit, 2);
     /// assert_eq!(bindings.lookup(&quit), Some(&2));
-    /// # Ok::<(), hedrugal::extended::KeyNameError>(())
+    /// # Ok::<(), hedrugal::KeyNameError>(())
     /// ```
     ///
     /// # Panics
@@ -132,7 +131,7 @@ impl<V> Bindings<V> {
     /// Does what [`Bindings::bind`] does.
     ///
     /// ```
-    /// use hedrugal::extended::{Bindings, Chord};
+    /// use hedrugal::{Bindings, Chord};
     ///
     /// let mut bindings = Bindings::new();
     /// assert_eq!(bindings.try_bind(&"f5".parse().unwrap(), "run"), Ok(()));
@@ -173,13 +172,13 @@ impl<V> Bindings<V> {
     /// keeps its value. No memory is needed.
     ///
     /// ```
-    /// use hedrugal::extended::{Bindings, Chord};
+    /// use hedrugal::{Bindings, Chord};
     ///
     /// let chord: Chord = "ctrl+x ctrl+s".parse()?;
     /// let mut bindings = Bindings::from_iter([(chord, "save")]);
     /// assert_eq!(bindings.unbind(&chord), Some("save"));
     /// assert_eq!(bindings.unbind(&chord), None);
-    /// # Ok::<(), hedrugal::extended::KeyNameError>(())
+    /// # Ok::<(), hedrugal::KeyNameError>(())
     /// ```
     pub fn unbind(&mut self, chord: &Chord) -> Option<V> {
         let place = self.places.unbind(chord)?;
@@ -213,7 +212,7 @@ impl<V> Bindings<V> {
     /// Returns an iterator over the chords and their values, in the order of the chords.
     ///
     /// ```
-    /// use hedrugal::extended::{Bindings, Chord};
+    /// use hedrugal::{Bindings, Chord};
     ///
     /// let names = ["g g", "a", "g"];
     /// let chords = names.map(|name| name.parse::<Chord>().unwrap());
@@ -233,7 +232,7 @@ impl<V> Bindings<V> {
     /// values: what may follow, as for a menu. For the chord without presses it has all.
     ///
     /// ```
-    /// use hedrugal::extended::{Bindings, Chord};
+    /// use hedrugal::{Bindings, Chord};
     ///
     /// let mut bindings = Bindings::new();
     /// for (keys, command) in [("ctrl+x", "cut"), ("ctrl+x 1", "one"), ("ctrl+x ctrl+c", "quit")] {
@@ -242,7 +241,7 @@ impl<V> Bindings<V> {
     /// let after: Chord = "ctrl+x".parse()?;
     /// let commands: Vec<&str> = bindings.continuations(&after).map(|(_, it)| *it).collect();
     /// assert_eq!(commands, ["one", "quit"]);
-    /// # Ok::<(), hedrugal::extended::KeyNameError>(())
+    /// # Ok::<(), hedrugal::KeyNameError>(())
     /// ```
     #[must_use]
     pub fn continuations(&self, keys: &Chord) -> Iter<'_, V> {
@@ -253,7 +252,7 @@ impl<V> Bindings<V> {
     }
 
     // The value at a place of `slots`.
-    pub(super) fn at(&self, place: u64) -> &V {
+    pub(crate) fn at(&self, place: u64) -> &V {
         match &self.slots[place as usize] {
             Slot::Taken(value) => value,
             Slot::Free(_) => unreachable!("{FAULT}"),
@@ -261,7 +260,7 @@ impl<V> Bindings<V> {
     }
 
     // The library's bindings, for one call.
-    pub(super) fn lock(&self) -> MutexGuard<'_, raw::Bindings> {
+    pub(crate) fn lock(&self) -> MutexGuard<'_, raw::Bindings> {
         self.places.lock()
     }
 }

@@ -1,17 +1,10 @@
 // Events to the bytes that a parser reads as them, and what a terminal replies.
-use super::{Event, ExtendedParser, MouseKind, MouseReport, StringKind};
-use crate::input::sending::sent;
-use crate::input::{AllocError, Modifiers, FAULT};
-use crate::raw;
+use crate::error::FAULT;
+use crate::sending::sent;
+use crate::{raw, AllocError, ColourScheme, Event, Modifiers, MouseReport, Parser};
 use std::{error, fmt};
 
 /// Why [`Event::try_encode`] made no bytes.
-///
-/// ```
-/// use hedrugal::extended::EncodeEventError;
-///
-/// assert_eq!(EncodeEventError::NoText.to_string(), "no bytes are read as the event");
-/// ```
 #[derive(Debug, Clone, Copy, PartialEq, Eq)]
 pub enum EncodeEventError {
     /// No bytes are read as the event.
@@ -56,18 +49,15 @@ impl Event {
     /// [`KeyCode::encode`](crate::input::KeyCode::encode) gives with every mode off, its character,
     /// a row of the sequence table, ESC and such bytes, and the form of Kitty's protocol. A mouse
     /// report is written in SGR's form, and a release that names no button in urxvt's. What a
-    /// terminal sends by Kitty's protocol is [`KeyReport::encode`](super::KeyReport::encode).
+    /// terminal sends by Kitty's protocol is [`KeyReport::encode`](crate::KeyReport::encode).
     ///
     /// ```
-    /// use hedrugal::extended::{Dialect, Event, ExtendedParser};
+    /// use hedrugal::{Dialect, Event, Parser};
     ///
-    /// let mut parser = ExtendedParser::new(Dialect::Extended);
-    /// for bytes in [&b"\x1b[A"[..], b"\x1b[?62;22c", b"\x1b]11;#fff\x07", b"\x1b[200~a\x1b[201~"] {
-    ///     let events = parser.parse_as_vec(bytes, true);
-    ///     let written = events[0].encode(&parser).unwrap();
-    ///     assert_eq!(parser.parse_as_vec(&written, true), events);
-    /// }
+    /// let parser = Parser::new(Dialect::Extended);
     /// assert_eq!(Event::FocusGained.encode(&parser).as_deref(), Ok(&b"\x1b[I"[..]));
+    /// let pasted = Event::Paste("a".to_string());
+    /// assert_eq!(pasted.encode(&parser).as_deref(), Ok(&b"\x1b[200~a\x1b[201~"[..]));
     /// ```
     ///
     /// # Errors
@@ -75,12 +65,12 @@ impl Event {
     /// `NoText` if no bytes are read as the event: of `StringPart`, of `StringCut`, of a paste that
     /// has ESC `[201~` in it, and of an event that this reading doesn't make, such as a position with
     /// a 0. `TooLong` for a sequence of more than 256 bytes, or a string of 65535 before its end.
-    /// `UnnamedBits` for modifiers with a bit that no flag has.
+    /// `UnnamedBits` for modifiers or flags with a bit that has no name.
     ///
     /// # Panics
     ///
     /// If memory is refused.
-    pub fn encode(&self, parser: &ExtendedParser) -> Result<Vec<u8>, EncodeEventError> {
+    pub fn encode(&self, parser: &Parser) -> Result<Vec<u8>, EncodeEventError> {
         let written = self.try_encode(parser);
         assert!(written != Err(EncodeEventError::Memory), "out of memory");
         written
@@ -88,21 +78,11 @@ impl Event {
 
     /// Returns what [`Event::encode`] returns.
     ///
-    /// ```
-    /// use hedrugal::extended::{Dialect, EncodeEventError, Event, ExtendedParser};
-    ///
-    /// let focus = Event::Csi(b"I".to_vec());
-    /// let written = focus.try_encode(&ExtendedParser::new(Dialect::Extended));
-    /// assert_eq!(written, Err(EncodeEventError::NoText));
-    /// ```
-    ///
     /// # Errors
     ///
     /// The same, and `Memory` if memory is refused.
-    pub fn try_encode(&self, parser: &ExtendedParser) -> Result<Vec<u8>, EncodeEventError> {
-        if let Event::Mouse(report) = self {
-            report.check()?;
-        }
+    pub fn try_encode(&self, parser: &Parser) -> Result<Vec<u8>, EncodeEventError> {
+        self.check()?;
         let (event, text) = (self.raw(), self.bytes());
         let parser = parser.locked();
         let call = |out: &mut [u8], len: &mut usize| {
@@ -128,76 +108,20 @@ impl Event {
             _ => unreachable!("{FAULT}"),
         }
     }
-
-    // The bytes that the event brings.
-    fn bytes(&self) -> &[u8] {
-        match self {
-            Event::Paste(text) => text.as_bytes(),
-            Event::Key(report) => report.text.as_bytes(),
-            Event::Csi(bytes)
-            | Event::Osc(bytes)
-            | Event::Dcs(bytes)
-            | Event::Apc(bytes)
-            | Event::StringPart { bytes, .. }
-            | Event::StringCut { bytes, .. } => bytes,
-            _ => &[],
-        }
-    }
-
-    // The event as the library has it. Its bytes are passed beside it.
-    fn raw(&self) -> raw::Event {
-        let none = raw::Event::default();
-        match self {
-            Event::Key(report) => report.raw(),
-            Event::Mouse(report) => report.raw(),
-            Event::Paste(_) => of_kind(raw::KIND_PASTE),
-            Event::FocusGained => of_kind(raw::KIND_FOCUS_GAINED),
-            Event::FocusLost => of_kind(raw::KIND_FOCUS_LOST),
-            Event::CursorPosition { row, column } => raw::Event {
-                kind: raw::KIND_CURSOR_POSITION,
-                row: *row,
-                column: *column,
-                ..none
-            },
-            Event::Resize {
-                rows,
-                columns,
-                height,
-                width,
-            } => raw::Event {
-                kind: raw::KIND_RESIZE,
-                rows: *rows,
-                columns: *columns,
-                height: *height,
-                width: *width,
-                ..none
-            },
-            Event::KeyboardFlags(flags) => raw::Event {
-                kind: raw::KIND_KEYBOARD_FLAGS,
-                flags: *flags,
-                ..none
-            },
-            Event::Csi(_) => of_kind(raw::KIND_CSI),
-            Event::Osc(_) => of_kind(raw::KIND_OSC),
-            Event::Dcs(_) => of_kind(raw::KIND_DCS),
-            Event::Apc(_) => of_kind(raw::KIND_APC),
-            Event::StringPart { kind, .. } => raw::Event {
-                string_kind: kind.number(),
-                ..of_kind(raw::KIND_STRING_PART)
-            },
-            Event::StringCut { kind, .. } => raw::Event {
-                string_kind: kind.number(),
-                ..of_kind(raw::KIND_STRING_CUT)
-            },
-        }
-    }
 }
 
-// An event of which only the kind is told.
-fn of_kind(kind: u8) -> raw::Event {
-    raw::Event {
-        kind,
-        ..raw::Event::default()
+impl Event {
+    // Whether the library has a number for each part of the event. No terminal sends a part of a
+    // paste by itself, and none sends what its program tells.
+    fn check(&self) -> Result<(), EncodeEventError> {
+        match self {
+            Event::PastePart(_) | Event::Resumed => Err(EncodeEventError::NoText),
+            Event::Mouse(report) => report.check(),
+            Event::KeyboardFlags(flags) if flags.bits() > u8::MAX.into() => {
+                Err(EncodeEventError::UnnamedBits)
+            }
+            _ => Ok(()),
+        }
     }
 }
 
@@ -213,37 +137,6 @@ impl MouseReport {
             Ok(())
         }
     }
-
-    // The report as the library has it. No button has the number 0.
-    fn raw(&self) -> raw::Event {
-        raw::Event {
-            kind: raw::KIND_MOUSE,
-            mouse_kind: match self.kind {
-                MouseKind::Press => raw::MOUSE_KIND_PRESS,
-                MouseKind::Release => raw::MOUSE_KIND_RELEASE,
-                MouseKind::Drag => raw::MOUSE_KIND_DRAG,
-                MouseKind::Move => raw::MOUSE_KIND_MOVE,
-                MouseKind::Wheel => raw::MOUSE_KIND_WHEEL,
-            },
-            button: self.button.unwrap_or(0),
-            buttons: self.buttons.bits(),
-            modifiers: self.modifiers.kitty().0,
-            x: self.x,
-            y: self.y,
-            ..raw::Event::default()
-        }
-    }
-}
-
-impl StringKind {
-    // The number that the library has for the kind.
-    fn number(self) -> u8 {
-        match self {
-            StringKind::Osc => raw::KIND_OSC,
-            StringKind::Dcs => raw::KIND_DCS,
-            StringKind::Apc => raw::KIND_APC,
-        }
-    }
 }
 
 /// Returns what a terminal replies to a question for the position of its cursor. `private` says
@@ -253,7 +146,7 @@ impl StringKind {
 /// program reads it as the position if it expects one.
 ///
 /// ```
-/// use hedrugal::extended::encode_cursor_position;
+/// use hedrugal::encode_cursor_position;
 ///
 /// assert_eq!(encode_cursor_position(24, 80, false), b"\x1b[24;80R");
 /// assert_eq!(encode_cursor_position(1, 5, true), b"\x1b[?1;5R");
@@ -276,7 +169,7 @@ pub fn encode_cursor_position(row: u16, column: u16, private: bool) -> Vec<u8> {
 /// Returns what a terminal sends when its colours change, and replies to ESC `[?996n`.
 ///
 /// ```
-/// use hedrugal::extended::{encode_colour_scheme, ColourScheme};
+/// use hedrugal::{encode_colour_scheme, ColourScheme};
 ///
 /// assert_eq!(encode_colour_scheme(ColourScheme::Dark), b"\x1b[?997;1n");
 /// ```
@@ -285,8 +178,8 @@ pub fn encode_cursor_position(row: u16, column: u16, private: bool) -> Vec<u8> {
 ///
 /// If memory is refused.
 #[must_use]
-pub fn encode_colour_scheme(scheme: super::ColourScheme) -> Vec<u8> {
-    let dark = scheme == super::ColourScheme::Dark;
+pub fn encode_colour_scheme(scheme: ColourScheme) -> Vec<u8> {
+    let dark = scheme == ColourScheme::Dark;
     let call = |out: &mut [u8], len: &mut usize| {
         // SAFETY: `out` has as many bytes as it says, and `len` is a number.
         unsafe { raw::hed_encode_colour_scheme(dark, out.as_mut_ptr(), out.len(), len) }
@@ -298,7 +191,7 @@ pub fn encode_colour_scheme(scheme: super::ColourScheme) -> Vec<u8> {
 /// its class, such as 62.
 ///
 /// ```
-/// use hedrugal::extended::encode_device_attributes;
+/// use hedrugal::encode_device_attributes;
 ///
 /// assert_eq!(encode_device_attributes(&[62, 22]).as_deref(), Ok(&b"\x1b[?62;22c"[..]));
 /// ```

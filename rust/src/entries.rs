@@ -4,12 +4,12 @@ use std::fmt;
 use std::ops::{Deref, Range};
 
 /// The bytes of an entry of the sequence table, as
-/// [`InputParser::entry`](super::InputParser::entry) returns them. It owns no memory.
+/// [`Parser::entry`](crate::Parser::entry) returns them. It owns no memory.
 ///
 /// ```
-/// use hedrugal::input::InputParser;
+/// use hedrugal::{Dialect, Parser};
 ///
-/// let (bytes, _) = InputParser::new().entry(0).unwrap();
+/// let (bytes, _) = Parser::new(Dialect::Extended).entry(0).unwrap();
 /// assert_eq!(*bytes, [1]);
 /// assert_eq!(format!("{bytes:?}"), r#"b"\x01""#);
 /// ```
@@ -22,7 +22,7 @@ pub struct EntryBytes {
 
 impl EntryBytes {
     // The first `len` bytes, of which there are as many.
-    pub(super) fn of(bytes: [u8; raw::ENTRY_MOST], len: usize) -> EntryBytes {
+    pub(crate) fn of(bytes: [u8; raw::ENTRY_MOST], len: usize) -> EntryBytes {
         EntryBytes { bytes, len }
     }
 }
@@ -48,19 +48,10 @@ impl fmt::Debug for EntryBytes {
 }
 
 /// What would complete the bytes that stay buffered, as
-/// [`InputParser::completions`](super::InputParser::completions) returns it.
-///
-/// ```
-/// use hedrugal::input::{Completions, InputParser};
-///
-/// let mut parser = InputParser::new();
-/// parser.parse(b"\x1b\x1b[27;5;13", |_| {}, true);
-/// let Completions { entries, with_alt } = parser.completions();
-/// assert_eq!((entries.len(), with_alt), (1, true));
-/// ```
+/// [`Parser::completions`](crate::Parser::completions) returns it.
 #[derive(Debug, Clone, PartialEq, Eq, Hash)]
 pub struct Completions {
-    /// The places of the entries, as [`InputParser::entry`](super::InputParser::entry) has them.
+    /// The places of the entries, as [`Parser::entry`](crate::Parser::entry) has them.
     pub entries: Range<usize>,
     /// Whether these entries begin with what follows a first ESC, so that their keys get ALT.
     pub with_alt: bool,

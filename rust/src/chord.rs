@@ -1,6 +1,5 @@
 // Lists of presses.
-use super::{names, KeyNameError, KeyPress};
-use crate::raw;
+use crate::{names, raw, KeyNameError, KeyPress};
 use std::cmp::Ordering;
 use std::fmt;
 use std::iter::FusedIterator;
@@ -19,7 +18,7 @@ use std::str::FromStr;
 /// comes before it.
 ///
 /// ```
-/// use hedrugal::extended::{Chord, KeyNameErrorKind};
+/// use hedrugal::{Chord, KeyNameErrorKind};
 ///
 /// let save: Chord = "C-x C-s".parse()?;
 /// assert_eq!(save.to_string(), "ctrl+x ctrl+s");
@@ -27,7 +26,7 @@ use std::str::FromStr;
 ///
 /// let error = "ctrl+x foo".parse::<Chord>().unwrap_err();
 /// assert_eq!((error.kind, error.at), (KeyNameErrorKind::UnknownName, 7));
-/// # Ok::<(), hedrugal::extended::KeyNameError>(())
+/// # Ok::<(), hedrugal::KeyNameError>(())
 /// ```
 #[derive(Clone, Copy, PartialEq, Eq, Hash)]
 pub struct Chord {
@@ -43,11 +42,13 @@ impl Chord {
     /// Returns a chord without presses.
     ///
     /// ```
-    /// use hedrugal::extended::{Chord, Dialect, ExtendedParser, KeyPress};
+    /// use hedrugal::{Chord, Dialect, Parser};
+    /// use std::time::Instant;
     ///
+    /// let mut parser = Parser::new(Dialect::Extended);
+    /// parser.feed(Instant::now(), b"\x18\x13");
     /// let mut chord = Chord::new();
-    /// for event in ExtendedParser::new(Dialect::Extended).parse_as_vec(b"\x18\x13", true) {
-    ///     let press = KeyPress::of_report(event.key().unwrap()).unwrap();
+    /// for press in parser.filter_map(|event| event.press()) {
     ///     assert!(chord.push(press));
     /// }
     /// assert_eq!(chord.to_string(), "ctrl+x ctrl+s");
@@ -62,15 +63,6 @@ impl Chord {
 
     /// Puts a press behind the others. Returns false, and the chord is unchanged, if there are
     /// [`Chord::MAX_KEYS`] already.
-    ///
-    /// ```
-    /// use hedrugal::extended::{Chord, KeyPress};
-    ///
-    /// let press: KeyPress = "g".parse().unwrap();
-    /// let mut chord = Chord::new();
-    /// while chord.push(press) {}
-    /// assert_eq!(chord.len(), Chord::MAX_KEYS);
-    /// ```
     #[must_use = "a full chord is unchanged"]
     pub fn push(&mut self, press: KeyPress) -> bool {
         let Some(place) = self.keys.get_mut(self.len) else {
@@ -97,7 +89,7 @@ impl Chord {
     /// Returns the press at a place, or `None` from [`Chord::len`] on. The first place is 0.
     ///
     /// ```
-    /// use hedrugal::extended::{Chord, KittyModifiers};
+    /// use hedrugal::{Chord, KittyModifiers};
     ///
     /// let chord: Chord = "ctrl+x 5".parse().unwrap();
     /// assert_eq!(chord.get(0).unwrap().held(), KittyModifiers::CTRL);
@@ -119,14 +111,14 @@ impl Chord {
     }
 
     // The chord whose presses a call wrote; it returns how many they are.
-    pub(super) fn written(call: impl FnOnce(&mut [raw::KeyPress]) -> usize) -> Chord {
+    pub(crate) fn written(call: impl FnOnce(&mut [raw::KeyPress]) -> usize) -> Chord {
         let mut chord = Chord::new();
         chord.len = call(&mut chord.keys);
         chord
     }
 
     // The presses that it has.
-    pub(super) fn held(&self) -> &[raw::KeyPress] {
+    pub(crate) fn held(&self) -> &[raw::KeyPress] {
         &self.keys[..self.len]
     }
 }

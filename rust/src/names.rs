@@ -1,14 +1,14 @@
 // The names of keys: read and printed by the library.
-use super::{Chord, KeyPress, KittyModifiers, ReportedKey};
-use crate::input::{KeyCode, KeyEvent, Modifiers, FAULT};
-use crate::raw;
+use crate::error::FAULT;
+use crate::input::{KeyEvent, Modifiers};
+use crate::{raw, Chord, KeyCode, KeyPress, KittyModifiers, ReportedKey};
 use std::str::FromStr;
 use std::{error, fmt, str};
 
 /// What is wrong with a text that should name keys.
 ///
 /// ```
-/// use hedrugal::extended::{Chord, KeyNameErrorKind};
+/// use hedrugal::{Chord, KeyNameErrorKind};
 ///
 /// let wrong = |text: &str| text.parse::<Chord>().unwrap_err().kind;
 /// assert_eq!(wrong("ctlr+x"), KeyNameErrorKind::UnknownModifier);
@@ -63,7 +63,7 @@ impl fmt::Display for KeyNameErrorKind {
 /// Why a text names no keys, and where.
 ///
 /// ```
-/// use hedrugal::extended::{Chord, KeyNameError, KeyNameErrorKind};
+/// use hedrugal::{Chord, KeyNameError, KeyNameErrorKind};
 ///
 /// let error = "ctrl+x ctlr+s".parse::<Chord>().unwrap_err();
 /// assert_eq!(error.to_string(), "no modifier has this name, at byte 7");
@@ -106,7 +106,7 @@ impl KeyNameErrorKind {
 }
 
 // The presses of a text, and how many they are.
-pub(super) fn read(text: &str) -> Result<([raw::KeyPress; Chord::MAX_KEYS], usize), KeyNameError> {
+pub(crate) fn read(text: &str) -> Result<([raw::KeyPress; Chord::MAX_KEYS], usize), KeyNameError> {
     let mut keys = [raw::KeyPress::default(); Chord::MAX_KEYS];
     let (mut count, mut at) = (0, 0);
     // SAFETY: the pointers lead to values of their types that live through the call, with as many
@@ -134,7 +134,7 @@ pub(super) fn read(text: &str) -> Result<([raw::KeyPress; Chord::MAX_KEYS], usiz
 const PRESS_ROOM: usize = 64;
 
 // Writes the name of some presses, of which there are 1 to 32.
-pub(super) fn print(keys: &[raw::KeyPress], f: &mut fmt::Formatter<'_>) -> fmt::Result {
+pub(crate) fn print(keys: &[raw::KeyPress], f: &mut fmt::Formatter<'_>) -> fmt::Result {
     let mut room = [0; PRESS_ROOM * Chord::MAX_KEYS];
     let mut len = 0;
     // SAFETY: as above.
@@ -158,7 +158,7 @@ pub(super) fn print(keys: &[raw::KeyPress], f: &mut fmt::Formatter<'_>) -> fmt::
 }
 
 // Whether a character parts the keys of a text.
-pub(super) fn is_blank(c: char) -> bool {
+pub(crate) fn is_blank(c: char) -> bool {
     c == ' ' || c == '\t'
 }
 

@@ -1,7 +1,6 @@
 // What keys do, one after another, by bindings.
-use super::{Bindings, Chord, KeyPress};
-use crate::input::FAULT;
-use crate::raw;
+use crate::error::FAULT;
+use crate::{raw, Bindings, Chord, KeyPress};
 use std::fmt::{self, Debug};
 use std::iter::FusedIterator;
 
@@ -41,7 +40,7 @@ impl<V> Outcome<V> {
 /// whose user pauses for a second or so calls [`Matcher::give_up`].
 ///
 /// ```
-/// use hedrugal::extended::{Bindings, Matcher, Outcome};
+/// use hedrugal::{Bindings, Matcher, Outcome};
 ///
 /// let mut bindings = Bindings::new();
 /// bindings.bind(&"g".parse()?, "go");
@@ -52,7 +51,7 @@ impl<V> Outcome<V> {
 /// let x = "x".parse()?;
 /// let outcomes: Vec<_> = matcher.press_all(x, &bindings).collect();
 /// assert_eq!(outcomes, [Outcome::Bound { keys: 1, value: &"go" }, Outcome::Unbound(x)]);
-/// # Ok::<(), hedrugal::extended::KeyNameError>(())
+/// # Ok::<(), hedrugal::KeyNameError>(())
 /// ```
 #[derive(Clone)]
 pub struct Matcher(raw::Matcher);
@@ -71,7 +70,7 @@ impl Matcher {
     /// it. What the iterator hasn't returned stays pending.
     ///
     /// ```
-    /// use hedrugal::extended::{Bindings, Chord, Matcher, Outcome};
+    /// use hedrugal::{Bindings, Chord, Matcher, Outcome};
     ///
     /// let chord = |text: &str| text.parse::<Chord>().unwrap();
     /// let bindings = Bindings::from_iter([(chord("a b c"), 1), (chord("b"), 2)]);
@@ -109,7 +108,7 @@ impl Matcher {
     /// waited long enough for another key, or when there is none to come.
     ///
     /// ```
-    /// use hedrugal::extended::{Bindings, Matcher, Outcome};
+    /// use hedrugal::{Bindings, Matcher, Outcome};
     ///
     /// let mut bindings = Bindings::new();
     /// bindings.bind(&"j k".parse()?, "escape");
@@ -117,7 +116,7 @@ impl Matcher {
     /// let j = "j".parse()?;
     /// assert_eq!(matcher.press_all(j, &bindings).next(), None);
     /// assert_eq!(matcher.give_up(&bindings).next(), Some(Outcome::Unbound(j)));
-    /// # Ok::<(), hedrugal::extended::KeyNameError>(())
+    /// # Ok::<(), hedrugal::KeyNameError>(())
     /// ```
     pub fn give_up<'a, V>(&'a mut self, bindings: &'a Bindings<V>) -> Outcomes<'a, V> {
         Outcomes {
@@ -145,7 +144,7 @@ impl Matcher {
     /// Returns what [`Matcher::press`] does.
     ///
     /// ```
-    /// use hedrugal::extended::{Bindings, Matcher, Outcome};
+    /// use hedrugal::{Bindings, Matcher, Outcome};
     ///
     /// let mut bindings = Bindings::new();
     /// bindings.bind(&"ctrl+c".parse()?, "copy");
@@ -153,7 +152,7 @@ impl Matcher {
     /// assert!(matcher.press_either(&bindings, "ctrl+с".parse()?, Some("ctrl+c".parse()?)));
     /// let copied = Outcome::Bound { keys: 1, value: &"copy" };
     /// assert_eq!(matcher.next(&bindings, true), Some(copied));
-    /// # Ok::<(), hedrugal::extended::KeyNameError>(())
+    /// # Ok::<(), hedrugal::KeyNameError>(())
     /// ```
     #[must_use = "a full matcher is unchanged"]
     pub fn press_either<V>(

@@ -1,16 +1,9 @@
 // Key reports to the bytes that a terminal sends for them.
-use super::{KeyEventKind, KeyReport};
-use crate::input::{KittyKeyboardFlags, FAULT};
-use crate::raw;
+use crate::error::FAULT;
+use crate::{raw, KeyEventKind, KeyReport, KittyKeyboardFlags};
 use std::{error, fmt};
 
 /// Why [`KeyReport::try_encode`] made no text.
-///
-/// ```
-/// use hedrugal::extended::KittyEncodeError;
-///
-/// assert_eq!(KittyEncodeError::UnknownKey.to_string(), "the protocol has no number for the key");
-/// ```
 #[derive(Debug, Clone, Copy, PartialEq, Eq)]
 pub enum KittyEncodeError {
     /// The key's report would be sent, and the protocol has no number for the key.
@@ -49,11 +42,11 @@ impl KeyReport {
     /// Without `DISAMBIGUATE_ESCAPE_CODES` and `REPORT_ALL_KEYS_AS_ESCAPE_CODES` that is what
     /// terminals sent before the protocol: a control character for a letter with CTRL, the main key
     /// for one of the keypad, and the key's report for what has no such text. Under all flags an
-    /// [`ExtendedParser`](super::ExtendedParser) reads back each report that a terminal can send.
+    /// [`Parser`](crate::Parser) reads back each report that a terminal can send.
     ///
     /// ```
-    /// use hedrugal::extended::{KeyEventKind, KeyReport, KittyModifiers, ReportedKey};
-    /// use hedrugal::input::{KeyCode, KittyKeyboardFlags};
+    /// use hedrugal::{KeyCode, KeyEventKind, KeyReport};
+    /// use hedrugal::{KittyKeyboardFlags, KittyModifiers, ReportedKey};
     ///
     /// let released = KeyReport {
     ///     key: ReportedKey::Named(KeyCode::UpArrow),
@@ -85,17 +78,6 @@ impl KeyReport {
     }
 
     /// Returns what [`KeyReport::encode`] returns.
-    ///
-    /// ```
-    /// use hedrugal::extended::{Dialect, ExtendedParser, KittyEncodeError, ReportedKey};
-    /// use hedrugal::input::{KeyCode, KittyKeyboardFlags};
-    ///
-    /// let events = ExtendedParser::new(Dialect::Extended).parse_as_vec(b"\x1b[97;5u", true);
-    /// let mut report = events[0].key().unwrap().clone();
-    /// assert_eq!(report.try_encode(KittyKeyboardFlags::all()).as_deref(), Ok("\x1b[97;5u"));
-    /// report.key = ReportedKey::Named(KeyCode::Copy);
-    /// assert_eq!(report.try_encode(KittyKeyboardFlags::all()), Err(KittyEncodeError::UnknownKey));
-    /// ```
     ///
     /// # Errors
     ///
@@ -152,7 +134,7 @@ impl KeyReport {
     }
 
     // The report as the library has it. Its text is passed beside it.
-    pub(super) fn raw(&self) -> raw::Event {
+    pub(crate) fn raw(&self) -> raw::Event {
         let (key, detail) = self.key.numbers();
         raw::Event {
             kind: raw::KIND_KEY,

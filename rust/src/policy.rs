@@ -3,25 +3,10 @@ use crate::raw;
 use crate::times::limit_millis;
 use std::time::Duration;
 
-/// How long each kind of bytes may stay buffered, as [`InputParser::timeout`] and
-/// [`ExtendedParser::timeout`] count it. `None` is forever.
+/// How long each kind of bytes may stay buffered, as [`Parser::timeout`](crate::Parser::timeout)
+/// counts it. `None` is forever.
 ///
 /// Of a limit whole milliseconds count: at least one, and at most 2147418111 of them.
-///
-/// [`InputParser::timeout`]: super::InputParser::timeout
-/// [`ExtendedParser::timeout`]: crate::extended::ExtendedParser::timeout
-///
-/// ```
-/// use hedrugal::input::{InputParser, Policy};
-/// use std::time::Duration;
-///
-/// // On a slow line the parts of a sequence come late.
-/// let slow = Policy {
-///     sequence: Some(Duration::from_secs(5)),
-///     ..Policy::usual()
-/// };
-/// assert_eq!(InputParser::new().set_policy(slow), Ok(()));
-/// ```
 #[derive(Debug, Clone, Copy, PartialEq, Eq, Hash)]
 #[cfg_attr(feature = "use_serde", derive(serde::Serialize, serde::Deserialize))]
 pub struct Policy {
@@ -33,7 +18,7 @@ pub struct Policy {
     /// A longer beginning of a sequence, since its first byte came. Then its bytes are keys.
     pub sequence: Option<Duration>,
     /// A string without its end, since its first byte came, and a millisecond more for each byte
-    /// that is buffered. An [`InputParser`](super::InputParser) reads no strings.
+    /// that is buffered.
     pub string: Option<Duration>,
     /// The beginning of a character, since its first byte came.
     pub character: Option<Duration>,
@@ -44,14 +29,6 @@ pub struct Policy {
 impl Policy {
     /// Returns the limits that hold where none were set: 50 ms for an Escape, 100 ms for a key with
     /// ALT, a second for a sequence and 5 seconds for a string. A character and a paste wait forever.
-    ///
-    /// ```
-    /// use hedrugal::input::Policy;
-    /// use std::time::Duration;
-    ///
-    /// assert_eq!(Policy::usual().escape, Some(Duration::from_millis(50)));
-    /// assert_eq!(Policy::usual().paste, None);
-    /// ```
     #[must_use]
     pub const fn usual() -> Policy {
         Policy {

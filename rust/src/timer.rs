@@ -1,5 +1,5 @@
 // A timer for a limit in time of a program's own.
-use super::{granted, FAULT};
+use crate::error::{granted, FAULT};
 use crate::raw;
 use crate::times::{limit_millis, wait_of, Clock};
 use std::time::{Duration, Instant};
@@ -46,11 +46,11 @@ pub struct Seen {
 /// It is a value that knows what it was told, and reads no clock. With it a program times the pause
 /// of a chord, after which it calls [`Matcher::give_up`]:
 ///
-/// [`Matcher::give_up`]: crate::extended::Matcher::give_up
+/// [`Matcher::give_up`]: crate::Matcher::give_up
 ///
 /// ```
-/// use hedrugal::extended::{Bindings, Matcher, Outcome};
-/// use hedrugal::input::{Seen, Timer};
+/// use hedrugal::{Bindings, Matcher, Outcome};
+/// use hedrugal::{Seen, Timer};
 /// use std::time::{Duration, Instant};
 ///
 /// let mut bindings = Bindings::new();
@@ -73,7 +73,7 @@ pub struct Seen {
 /// assert_eq!(outcomes, [Outcome::Bound { keys: 1, value: &"go" }]);
 /// pause.note(later, Seen { taken: true, empty: true, ..Seen::default() });
 /// assert_eq!(pause.timeout(later), None);
-/// # Ok::<(), hedrugal::extended::KeyNameError>(())
+/// # Ok::<(), hedrugal::KeyNameError>(())
 /// ```
 #[derive(Debug, Clone, Copy, PartialEq, Eq, Default)]
 pub struct Timer {
@@ -85,7 +85,7 @@ impl Timer {
     /// Makes a timer with nothing pending.
     ///
     /// ```
-    /// use hedrugal::input::Timer;
+    /// use hedrugal::Timer;
     /// use std::time::Instant;
     ///
     /// assert_eq!(Timer::new().timeout(Instant::now()), None);
@@ -100,7 +100,7 @@ impl Timer {
     /// fed, and [`Age::Front`] if something was taken, or if nothing was pending at the last note.
     ///
     /// ```
-    /// use hedrugal::input::{Age, Seen, Timer};
+    /// use hedrugal::{Age, Seen, Timer};
     /// use std::time::{Duration, Instant};
     ///
     /// let second = Duration::from_secs(1);
@@ -130,7 +130,7 @@ impl Timer {
     /// if it may wait forever.
     ///
     /// ```
-    /// use hedrugal::input::{Seen, Timer};
+    /// use hedrugal::{Seen, Timer};
     /// use std::time::{Duration, Instant};
     ///
     /// let start = Instant::now();
@@ -150,7 +150,7 @@ impl Timer {
     /// Returns whether what is pending has waited for as long as its limit.
     ///
     /// ```
-    /// use hedrugal::input::{Seen, Timer};
+    /// use hedrugal::{Seen, Timer};
     /// use std::time::{Duration, Instant};
     ///
     /// let start = Instant::now();

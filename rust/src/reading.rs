@@ -1,0 +1,159 @@
+// How a parser reads.
+use crate::error::FAULT;
+use crate::raw;
+
+/// By which grammar a [`Parser`](crate::Parser) reads.
+#[derive(Debug, Clone, Copy, PartialEq, Eq, Hash, Default)]
+pub enum Dialect {
+    /// What terminals send, in any mode and by any keyboard protocol. For every program.
+    #[default]
+    Extended,
+    /// What [`InputParser`](crate::input::InputParser) reads, and nothing else. The other fields of
+    /// the [`Reading`] say nothing then.
+    Termwiz,
+}
+
+impl Dialect {
+    // The number of the library.
+    pub(crate) fn number(self) -> u32 {
+        match self {
+            Dialect::Extended => raw::DIALECT_EXTENDED,
+            Dialect::Termwiz => raw::DIALECT_TERMWIZ,
+        }
+    }
+
+    // What the library's number stands for.
+    fn of(number: u32) -> Dialect {
+        match number {
+            raw::DIALECT_EXTENDED => Dialect::Extended,
+            raw::DIALECT_TERMWIZ => Dialect::Termwiz,
+            _ => unreachable!("{FAULT}"),
+        }
+    }
+}
+
+/// Which byte the Backspace key sends. Of 8 and 127, the other one is typed with Ctrl. A program
+/// takes it from its terminal's settings (VERASE), as a [`Terminal`](crate::terminal::Terminal)
+/// does.
+#[derive(Debug, Clone, Copy, PartialEq, Eq, Hash, Default)]
+pub enum EraseByte {
+    /// 127, as most terminals send it. Byte 8 is Ctrl-H.
+    #[default]
+    Delete,
+    /// 8. Byte 127 is Ctrl-Backspace.
+    Backspace,
+}
+
+impl EraseByte {
+    // The number of the library.
+    fn number(self) -> u32 {
+        match self {
+            EraseByte::Delete => raw::ERASE_DELETE,
+            EraseByte::Backspace => raw::ERASE_BACKSPACE,
+        }
+    }
+
+    // What the library's number stands for.
+    fn of(number: u32) -> EraseByte {
+        match number {
+            raw::ERASE_DELETE => EraseByte::Delete,
+            raw::ERASE_BACKSPACE => EraseByte::Backspace,
+            _ => unreachable!("{FAULT}"),
+        }
+    }
+}
+
+/// What byte 10 is.
+#[derive(Debug, Clone, Copy, PartialEq, Eq, Hash, Default)]
+pub enum NewlineByte {
+    /// Ctrl-J. The Enter key sends byte 13.
+    #[default]
+    CtrlJ,
+    /// The Enter key. The terminal's settings turn CR into it (ICRNL), or the input is no terminal.
+    Enter,
+}
+
+impl NewlineByte {
+    // The number of the library.
+    fn number(self) -> u32 {
+        match self {
+            NewlineByte::CtrlJ => raw::NEWLINE_CTRL_J,
+            NewlineByte::Enter => raw::NEWLINE_ENTER,
+        }
+    }
+
+    // What the library's number stands for.
+    fn of(number: u32) -> NewlineByte {
+        match number {
+            raw::NEWLINE_CTRL_J => NewlineByte::CtrlJ,
+            raw::NEWLINE_ENTER => NewlineByte::Enter,
+            _ => unreachable!("{FAULT}"),
+        }
+    }
+}
+
+/// How a [`Parser`](crate::Parser) reads. A program may change it between any two calls.
+///
+/// ```
+/// use hedrugal::{Dialect, Event, Parser, Reading};
+/// use std::time::Instant;
+///
+/// // A program that turned mode 1000 on at a terminal without SGR reports.
+/// let mut parser = Parser::new(Dialect::Extended);
+/// parser.set_reading(Reading { x10_mouse: true, ..parser.reading() });
+/// parser.feed(Instant::now(), b"\x1b[M !\"");
+/// assert!(matches!(parser.next(), Some(Event::Mouse(report)) if report.button == Some(1)));
+/// ```
+#[derive(Debug, Clone, Copy, PartialEq, Eq, Hash, Default)]
+pub struct Reading {
+    /// By which grammar.
+    pub dialect: Dialect,
+    /// X10 mouse reports are read: ESC `[M` and three bytes. Without it ESC `[M` is a control
+    /// sequence. For programs that turn a mouse mode on, and neither SGR reports (mode 1006) nor
+    /// urxvt's (1015).
+    pub x10_mouse: bool,
+    /// How many questions for the cursor's position are open: see
+    /// [`Parser::expect_position`](crate::Parser::expect_position).
+    pub questions: u8,
+    /// Which byte the Backspace key sends.
+    pub erase: EraseByte,
+    /// What byte 10 is.
+    pub newline: NewlineByte,
+}
+
+impl Reading {
+    /// Reads by this dialect, without X10 mouse reports and open questions. Backspace sends byte
+    /// 127, and byte 10 is Ctrl-J.
+    #[must_use]
+    pub const fn new(dialect: Dialect) -> Reading {
+        Reading {
+            dialect,
+            x10_mouse: false,
+            questions: 0,
+            erase: EraseByte::Delete,
+            newline: NewlineByte::CtrlJ,
+        }
+    }
+
+    // The reading as the library has it.
+    pub(crate) fn raw(self) -> raw::Reading {
+        raw::Reading {
+            dialect: self.dialect.number(),
+            erase: self.erase.number(),
+            newline: self.newline.number(),
+            x10_mouse: self.x10_mouse,
+            questions: self.questions,
+        }
+    }
+
+    // The reading that the library has.
+    pub(crate) fn of(raw: &raw::Reading) -> Reading {
+        Reading {
+            dialect: Dialect::of(raw.dialect),
+            x10_mouse: raw.x10_mouse,
+            questions: raw.questions,
+            erase: EraseByte::of(raw.erase),
+            newline: NewlineByte::of(raw.newline),
+        }
+    }
+}
