@@ -25,31 +25,8 @@ def pytest_configure(config):
     config.addinivalue_line("filterwarnings", "error")
 
 
-@pytest.fixture(
-    params=[hedrugal.InputParser, hedrugal.ExtendedParser], ids=lambda make: make.__name__
-)
-def make(request):
-    """The type of either parser: what both read is tested with both."""
-    return request.param
-
-
-@pytest.fixture
-def key(make):
-    """What makes the event of a key as either parser has it."""
-    from helpers import events_of
-
-    return lambda *words: events_of(make, [hedrugal.KeyEvent(*words)])[0]
-
-
-@pytest.fixture
-def events_of_stream(make):
-    """The events of STREAM as either parser has them."""
-    from helpers import EVENTS, events_of
-
-    return events_of(make, EVENTS)
-
-
-@pytest.fixture
-def parser(make):
-    with make() as it:
+@pytest.fixture(params=hedrugal.Dialect, ids=lambda dialect: dialect.name)
+def parser(request):
+    """A parser of each dialect: what both read is tested with both."""
+    with hedrugal.Parser(request.param) as it:
         yield it

@@ -7,70 +7,38 @@ import sys
 
 import pytest
 
-import hedrugal
 from hedrugal import (
-    ExtendedParser,
     KeyCode,
-    KeyEvent,
     KeyReport,
     KittyModifiers,
     Modifiers,
     MouseButtons,
-    MouseEvent,
     MouseKind,
     MouseReport,
     Paste,
-    Waiting,
 )
+from hedrugal._library import library
 
 HERE = os.path.dirname(os.path.abspath(__file__))
 TOP = os.path.dirname(HERE)
 # The file of the library.
-LIBRARY = os.path.abspath(hedrugal._library._name)
+LIBRARY = os.path.abspath(library._name)
 # No test waits longer for another process, so that a machine with much to do fails none.
 SECONDS = 300
 
 STREAM = b"hello\x1b[A\x1b\x1b[200~ab\xc3\xa9cd\x1b[201~q\x1b[<0;3;4M\xff\x1b[27;5;13~\xc3\xa9\x1b"
 EVENTS = [
-    *(KeyEvent(it) for it in "hello"),
-    KeyEvent(KeyCode.UP_ARROW),
-    KeyEvent(KeyCode.ESCAPE),
+    *(KeyReport(it) for it in "hello"),
+    KeyReport(KeyCode.UP_ARROW),
+    KeyReport(KeyCode.ESCAPE),
     Paste("abécd"),
-    KeyEvent("q"),
-    MouseEvent(3, 4, MouseButtons.LEFT),
-    KeyEvent("\ufffd"),
-    KeyEvent(KeyCode.ENTER, Modifiers.CTRL),
-    KeyEvent("é"),
-    KeyEvent(KeyCode.ESCAPE),
+    KeyReport("q"),
+    MouseReport(3, 4, Modifiers.NONE, MouseButtons.LEFT, MouseKind.PRESS, 1),
+    KeyReport("\ufffd"),
+    KeyReport(KeyCode.ENTER, KittyModifiers.CTRL),
+    KeyReport("é"),
+    KeyReport(KeyCode.ESCAPE),
 ]
-
-
-# What a MouseReport tells beside the buttons that are down.
-MOUSE_KINDS = {
-    MouseButtons.LEFT: (MouseKind.PRESS, 1),
-    MouseButtons.MIDDLE: (MouseKind.PRESS, 2),
-    MouseButtons.RIGHT: (MouseKind.PRESS, 3),
-    MouseButtons.NONE: (MouseKind.MOVE, None),
-}
-
-
-def events_of(make, events):
-    """What a parser of this type says where an InputParser has these events, of which none is a
-    release or a drag of the mouse."""
-    return events if make is not ExtendedParser else [reported(event) for event in events]
-
-
-def reported(event):
-    if isinstance(event, KeyEvent):
-        names = ("SHIFT", "ALT", "CTRL", "SUPER")
-        held = KittyModifiers.NONE
-        for name in names:
-            held |= KittyModifiers[name if event.modifiers & Modifiers[name] else "NONE"]
-        return KeyReport(event.key, held)
-    if isinstance(event, MouseEvent):
-        place = event.x, event.y, event.modifiers, event.buttons
-        return MouseReport(*place, *MOUSE_KINDS[event.buttons])
-    return event
 
 
 def read(path):
@@ -86,13 +54,14 @@ def constants(prefix):
     return {name: int(number, 0) for name, number in found}
 
 
+def all_of(parser, *pieces):
+    """The events of pieces, with no more to come."""
+    return [*(event for piece in pieces for event in parser.feed(piece)), *parser.flush()]
+
+
 def assert_rest(parser, length, kind):
     """So many bytes are buffered, and they are this."""
-    assert (parser.waiting_len, parser.waiting, parser.is_paste_open) == (
-        length,
-        kind,
-        kind is Waiting.PASTE,
-    )
+    assert (parser.waiting_len, parser.waiting) == (length, kind)
 
 
 def events_in_time(parser, reads, step=None):
@@ -105,10 +74,10 @@ def events_in_time(parser, reads, step=None):
         due = None if timeout is None else now + round(1000 * (step or timeout))
         if reads and (due is None or reads[0][0] <= due):
             now, data = reads.pop(0)
-            events = parser.parse(data, now=now / 1000)
+            events = parser.feed(data, now / 1000)
         elif due is not None:
             now = due
-            events = parser.expire(now / 1000)
+            events = parser.idle(now / 1000)
         else:
             return
         if events:
@@ -140,13 +109,6 @@ def assert_prints(text, wanted, **env):
     assert run_python(text, {"HEDRUGAL_LIBRARY": LIBRARY, **env}) == (0, wanted, "")
 
 
-def listings():
-    """The listings in Python of docs/python.md, each with what it prints. The first three are on a
-    terminal: a loop, asyncio and prompt_toolkit."""
-    pattern = r"^```python\n(.*?)^```\n.*?<!-- prints -->\n```\n(.*?)^```"
-    return re.findall(pattern, read("docs/python.md"), flags=re.M | re.S)
-
-
 def heeds_limits():
     """Whether this system heeds a limit on the memory of a process. qemu drops it."""
     before = resource.getrlimit(resource.RLIMIT_AS)
@@ -170,9 +132,6 @@ def limit(more):
     most = resource.RLIM_INFINITY if more is None else pages * resource.getpagesize() + more
     resource.setrlimit(resource.RLIMIT_AS, (most, resource.RLIM_INFINITY))
 MB = 1 << 20
-# The event of a key, of either parser.
-def key(parser, *words):
-    return (KeyReport if hasattr(parser, "reading") else KeyEvent)(*words)
 def refused(call):
     try:
         return None, call()
@@ -183,7 +142,7 @@ def refused(call):
 
 def assert_documented(*modules_and_classes):
     """Each public member that is ours has a docstring, which begins with a capital letter."""
-    types = {"Event", "ExtendedEvent", "Found", "Key", "Reply", "ReportedKey", "TerminalEvent"}
+    types = {"Event", "Found", "Key", "Reply", "ReportedKey", "TerminalEvent"}
     for it in modules_and_classes:
         ours = [
             base for base in getattr(it, "__mro__", ()) if base.__module__.startswith("hedrugal")

@@ -102,9 +102,9 @@ def test_prebuilt(tree):
     assert len(said) == 1 and said[0].startswith("hedrugal: the library is the prebuilt one: ")
     with zipfile.ZipFile(wheel) as opened:
         opened.extractall(tree / "own")
-    text = "import hedrugal\nprint(hedrugal.__file__, *hedrugal.InputParser().parse(b'q'))\n"
+    text = "import hedrugal\nprint(hedrugal.__file__, *hedrugal.Parser().feed(b'q'))\n"
     _, printed, _ = run_python(text, {"PYTHONPATH": str(tree / "own")})
-    assert printed.startswith(f"{tree}/own/hedrugal/__init__.py KeyEvent(key='q'")
+    assert printed.startswith(f"{tree}/own/hedrugal/__init__.py KeyReport(key='q'")
 
 
 def test_what_comes_first(tree):

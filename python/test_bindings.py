@@ -17,8 +17,9 @@ from hedrugal import (
     KittyModifiers,
     Matcher,
     Unbound,
-    extended,
 )
+from hedrugal._library import library
+from hedrugal._numbers import STATUS_NO_MEMORY
 
 # Chords with the values 1, 2 and so on, words, the outcomes as values or `?` and a press, and what
 # is pending. A word is a key, two keys that are tried, or what its capitals say.
@@ -185,6 +186,20 @@ def test_values_are_let_go():
     assert refs[2]() is None and refs[3]() is None
 
 
+def test_an_exception_of_a_handler_mixes_no_chords(monkeypatch):
+    bindings, bind = Bindings(), library.hed_bindings_bind
+
+    def interrupted(*words):
+        bind(*words)
+        raise KeyboardInterrupt
+
+    with monkeypatch.context() as patch, pytest.raises(KeyboardInterrupt):
+        patch.setattr(library, "hed_bindings_bind", interrupted)
+        bindings["a"] = 1
+    bindings["b"] = 2
+    assert (bindings["a"], bindings["b"]) == (1, 2)
+
+
 def test_closed_bindings_say_so():
     with Bindings({"g": 1}) as bindings:
         matcher = Matcher(bindings)
@@ -224,10 +239,9 @@ def test_memory_that_is_refused_leaves_them_unchanged(monkeypatch):
             return getattr(library, name)
 
         def hed_bindings_bind(self, *_):
-            return hedrugal._STATUS_NO_MEMORY
+            return STATUS_NO_MEMORY
 
-    library = extended._library
-    monkeypatch.setattr(extended, "_library", Refusing())
+    monkeypatch.setattr(hedrugal.bindings, "library", Refusing())
     with pytest.raises(MemoryError):
         bindings["x"] = 2
     bindings["g"] = 3

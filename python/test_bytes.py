@@ -8,23 +8,17 @@ import pytest
 
 from hedrugal import (
     Exact,
-    InputParser,
     KeyCode,
     KeyMap,
     KeyReport,
     KittyKeyboardFlags,
-    Modifiers,
+    KittyModifiers,
+    Parser,
     Paste,
     encode,
 )
 
-UP = b"\x1b[1;5A"
-
-
-@pytest.fixture
-def ctrl_up(key):
-    return [key(KeyCode.UP_ARROW, Modifiers.CTRL)]
-
+UP, CTRL_UP = b"\x1b[1;5A", [KeyReport(KeyCode.UP_ARROW, KittyModifiers.CTRL)]
 
 # Lengths that a class claims: fewer bytes than there are, and more.
 CLAIMED = (0, 3, 199, 1 << 40)
@@ -43,21 +37,19 @@ def liar(kind, claimed):
 
 @pytest.mark.parametrize("claimed", CLAIMED)
 @pytest.mark.parametrize("kind", [bytes, bytearray])
-def test_classes_that_claim_a_length(parser, kind, claimed, ctrl_up):
+def test_classes_that_claim_a_length(parser, kind, claimed):
     data = liar(kind, claimed)(UP)
     assert len(data) == claimed
-    assert parser.parse(data, False) == ctrl_up
-    parser.feed(data)
-    assert (parser.waiting_len, list(parser)) == (len(UP), ctrl_up)
+    assert (parser.feed(data), parser.waiting_len) == (CTRL_UP, 0)
     with KeyMap() as keys:
         keys.insert(data, 1)
         assert keys.lookup(UP, False) == keys.lookup(data, False) == Exact(len(UP), 1)
 
 
 @pytest.mark.skipif(sys.version_info < (3, 12), reason="no class has a buffer of its own")
-def test_classes_with_a_buffer_of_their_own(parser, ctrl_up):
+def test_classes_with_a_buffer_of_their_own(parser):
     calls = {"__buffer__": lambda *_: memoryview(UP), "__len__": lambda _: 199}
-    assert parser.parse(type("Own", (bytes,), calls)(b"q"), False) == ctrl_up
+    assert parser.feed(type("Own", (bytes,), calls)(b"q")) == CTRL_UP
 
 
 @pytest.mark.parametrize(
@@ -70,20 +62,20 @@ def test_classes_with_a_buffer_of_their_own(parser, ctrl_up):
         lambda text: memoryview(bytearray(text)).cast("H", (len(text) // 4, 2)),
     ],
 )
-def test_items_of_several_bytes(parser, view, key, ctrl_up):
+def test_items_of_several_bytes(parser, view):
     """A view's bytes are counted, and not its items."""
     text = b"\x1b[1;5Aab"
-    assert parser.parse(view(text), False) == [*ctrl_up, key("a"), key("b")]
+    assert parser.feed(view(text)) == [*CTRL_UP, KeyReport("a"), KeyReport("b")]
 
 
 @pytest.mark.parametrize("kind", [ctypes.c_uint32 * 2, ctypes.c_uint32])
 def test_buffers_that_are_no_bytes(parser, kind):
     for wrong in (kind(), array.array("B", b"q")):
         with pytest.raises(TypeError, match="is required, not"):
-            parser.parse(wrong)
+            parser.feed(wrong)
 
 
-def test_resized_in_the_call(parser, ctrl_up):
+def test_resized_in_the_call():
     """By what is asked whether more may come. The bytes are those before or after that."""
 
     class Resizes:
@@ -93,7 +85,6 @@ def test_resized_in_the_call(parser, ctrl_up):
             return False
 
     data = bytearray(UP)
-    assert parser.parse(data, Resizes())[:1] == ctrl_up
     with KeyMap() as keys:
         keys.insert(UP, 1)
         assert keys.lookup(data, Resizes()) == Exact(len(UP), 1)
@@ -119,8 +110,8 @@ def test_texts_that_encode_themselves():
 
 def test_nul_and_surrogates():
     """NUL ends nothing, and a surrogate is refused."""
-    with InputParser() as parser, KeyMap() as keys:
-        assert parser.parse(b"\x1b[200~a\0b\x1b[201~") == [Paste("a\0b")]
+    with Parser() as parser, KeyMap() as keys:
+        assert parser.feed(b"\x1b[200~a\0b\x1b[201~") == [Paste("a\0b")]
         keys.insert(b"a\0b", 1)
         assert keys.lookup(b"a\0bc", False) == Exact(3, 1)
     assert encode("\0") == b"\0"

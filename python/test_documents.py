@@ -10,19 +10,39 @@ from pathlib import Path
 import pytest
 
 import hedrugal
-from hedrugal import ExtendedParser, InputParser, KeyMap
-from hedrugal import extended, replies, sending, terminal, written
-from helpers import HERE, LIBRARY, SECONDS, TOP, assert_documented, assert_prints, listings
+from hedrugal import bindings, encoders, events, keymap, names, parser, questions, replies
+from hedrugal import terminal, timer
+from helpers import HERE, LIBRARY, SECONDS, TOP, assert_documented
 
 
-@pytest.mark.parametrize("module", [hedrugal, extended, replies, sending, terminal, written])
+@pytest.mark.parametrize(
+    "module",
+    [hedrugal, bindings, encoders, events, keymap, names, parser, questions, replies]
+    + [terminal, timer],
+    ids=lambda it: it.__name__,
+)
 def test_docstrings(module):
-    failed, tried = doctest.testmod(module)
+    """Their listings import what they use but the names of the package."""
+    public = {name: getattr(hedrugal, name) for name in hedrugal.__all__}
+    failed, tried = doctest.testmod(module, extraglobs=public)
     assert (failed, tried > 0) == (0, True)
 
 
 def test_every_call_says_what_it_does():
-    assert_documented(hedrugal, terminal, InputParser, KeyMap, ExtendedParser, terminal.Terminal)
+    classes = [it for it in vars(hedrugal).values() if isinstance(it, type)]
+    classes = [it for it in classes if hasattr(it, "close") or it.__module__ == names.__name__]
+    assert hedrugal.Parser in classes and hedrugal.Chord in classes
+    assert_documented(hedrugal, terminal, terminal.Terminal, questions.Questions, *classes)
+
+
+def test_modules():
+    """None is long, and none imports a name of another that begins with an underscore."""
+    pattern = r"^from (?:hedrugal)?\.\w+ import (?:\(([^)]*)\)|(.*))$"
+    for file in Path(HERE, "hedrugal").rglob("*.py"):
+        text = file.read_text(encoding="utf-8")
+        assert len(text.splitlines()) <= 600, file
+        imported = " ".join(map("".join, re.findall(pattern, text, flags=re.M)))
+        assert not re.search(r"\b_\w", imported), file
 
 
 ANSWERS_TOLD_APART = """
@@ -38,10 +58,10 @@ with KeyMap[str]() as keys:
 LIMITS_IN_TIME = """
 from typing import List, Optional
 from hedrugal import *
-with ExtendedParser() as parser:
+with Parser() as parser:
     parser.policy = parser.policy._replace(paste=10, sequence=None)
     left: Optional[float] = parser.timeout()
-    events: List[ExtendedEvent] = parser.expire(1.5)
+    events: List[Event] = parser.feed(b"q", 1) + parser.idle(1.5)
 """
 
 
@@ -50,7 +70,7 @@ with ExtendedParser() as parser:
     "words",
     [
         ["python/hedrugal"],
-        ["python/examples/ask.py", "python/examples/edit.py", "python/examples/live.py"],
+        sorted(map(str, Path(TOP, "python/examples").glob("*.py"))),
         ["-c", ANSWERS_TOLD_APART],
         ["-c", LIMITS_IN_TIME],
     ],
@@ -67,15 +87,6 @@ def test_types(words):
         check=False,
     )
     assert (done.returncode, done.stderr) == (0, b""), done.stdout.decode()
-
-
-@pytest.mark.parametrize(
-    "text, wanted",
-    listings()[3:],
-    ids=["key map", "key releases", "replies", "key report", "presses", "names", "bindings"],
-)
-def test_listings(text, wanted):
-    assert_prints(text, wanted)
 
 
 @pytest.mark.skipif(not shutil.which("cc"), reason="no cc")

@@ -10,7 +10,7 @@ from hedrugal import (
     KeyboardEncoding,
     KeyCode,
     KeyCodeEncodeModes,
-    KeyEvent,
+    KeyReport,
     KittyKeyboardFlags,
     KittyModifiers,
     Modifiers,
@@ -20,7 +20,7 @@ from hedrugal import (
 
 
 def test_wrong_types():
-    for wrong in (None, 65, b"q", Modifiers.ALT, KeyEvent("q"), ["q"]):
+    for wrong in (None, 65, b"q", Modifiers.ALT, KeyReport("q"), ["q"]):
         with pytest.raises(TypeError, match="is required, not"):
             encode(wrong)
     for wrong in (None, 4, "ALT", MouseButtons.LEFT):
@@ -57,7 +57,7 @@ def test_texts():
 @pytest.mark.parametrize("size", range(8))
 def test_short_rooms(monkeypatch, size):
     """A text that is longer than the room is asked for again."""
-    monkeypatch.setattr(hedrugal, "_ROOM", size)
+    monkeypatch.setattr(hedrugal.keys, "_ROOM", size)
     assert encode(KeyCode.LEFT_ARROW, Modifiers.ALT) == b"\x1b[1;3D"
     assert encode(KeyCode.HYPER) == b""
 

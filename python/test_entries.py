@@ -5,21 +5,28 @@ import pytest
 
 from hedrugal import (
     Completions,
+    Dialect,
     Entry,
     Function,
-    InputParser,
     KeyCode,
-    KeyEvent,
+    KeyReport,
+    KittyModifiers,
     Modifiers,
+    Parser,
     Waiting,
 )
-from helpers import assert_rest, constants
+from helpers import all_of, assert_rest, constants
 
 
 @pytest.fixture
 def parser():
-    with InputParser() as it:
+    """A parser that reads each entry as the table has it."""
+    with Parser(Dialect.TERMWIZ) as it:
         yield it
+
+
+def report_of(key, modifiers):
+    return KeyReport(key, KittyModifiers(modifiers.value // 2))
 
 
 def test_entries(parser):
@@ -34,7 +41,7 @@ def test_entries(parser):
     for place, entry in enumerate(entries):
         assert parser.entry(place) == entry
         if entry.key is not KeyCode.INTERNAL_PASTE_START:
-            assert parser.parse(entry.bytes, False) == [KeyEvent(entry.key, entry.modifiers)]
+            assert all_of(parser, entry.bytes) == [report_of(entry.key, entry.modifiers)]
     assert Entry(b"\x1b[15;6~", Function(5), Modifiers.SHIFT | Modifiers.CTRL) in entries
     assert entries[0] == Entry(b"\x01", "a", Modifiers.CTRL)
     assert_rest(parser, 0, Waiting.NOTHING)
@@ -57,11 +64,11 @@ def test_places_outside_the_table(parser):
 
 
 def test_reading_entries_changes_nothing(parser):
-    assert parser.parse(b"\x1b[1;5") == []
+    assert parser.feed(b"\x1b[1;5") == []
     entries = [parser.entry(place) for place in parser.completions().entries]
     assert len(entries) == 12
     assert_rest(parser, 5, Waiting.SEQUENCE)
-    assert parser.parse(b"A") == [KeyEvent(KeyCode.UP_ARROW, Modifiers.CTRL)]
+    assert parser.feed(b"A") == [KeyReport(KeyCode.UP_ARROW, KittyModifiers.CTRL)]
 
 
 def completed(rest, texts):
@@ -79,7 +86,7 @@ def test_completions(parser):
     assert b"\x1b" in prefixes
     for prefix in sorted(prefixes):
         for rest in (prefix, b"\x1b" + prefix):
-            assert parser.parse(rest) == []
+            assert parser.feed(rest) == []
             assert parser.waiting in (Waiting.ESCAPE, Waiting.SEQUENCE)
             found, alone = parser.completions(), completed(rest, texts)
             assert list(found.entries) == (alone or completed(rest[1:], texts)), rest
@@ -87,9 +94,9 @@ def test_completions(parser):
             parser.reset()
 
 
-def test_completions_emit_their_keys(parser):
+def test_completions_tell_their_keys(parser):
     for rest in (b"\x1b[1", b"\x1bO", b"\x1b\x1b[1", b"\x1b\x1b[24;"):
-        assert parser.parse(rest) == []
+        assert parser.feed(rest) == []
         found = parser.completions()
         assert len(found.entries) > 0
         for place in found.entries:
@@ -97,14 +104,14 @@ def test_completions_emit_their_keys(parser):
             modifiers = entry.modifiers | (Modifiers.ALT if found.with_alt else Modifiers.NONE)
             text = (b"\x1b" if found.with_alt else b"") + entry.bytes
             assert text.startswith(rest)
-            assert parser.parse(text[len(rest) :], False) == [KeyEvent(entry.key, modifiers)]
-            assert parser.parse(rest) == []
+            assert all_of(parser, text[len(rest) :]) == [report_of(entry.key, modifiers)]
+            assert parser.feed(rest) == []
         parser.reset()
 
 
 def test_no_entry_completes_a_mouse_report(parser):
     for rest in (b"\x1b[<", b"\x1b[<0;3", b"\x1b\x1b[<0"):
-        assert parser.parse(rest) == []
+        assert parser.feed(rest) == []
         assert len(parser.completions().entries) == 0
         parser.reset()
 

@@ -9,8 +9,9 @@ from unittest import mock
 
 import pytest
 
-import hedrugal
 from hedrugal import Ambiguous, Exact, KeyMap, NeedData, Nothing
+from hedrugal._library import library
+from hedrugal._numbers import STATUS_NO_MEMORY
 from helpers import LIMITS, assert_prints, needs_limits
 
 NESTED = {b"boa": False, b"boo": False, b"boom": True, b"boom!!": False}
@@ -268,7 +269,7 @@ def test_close_lets_them_go(keys, seen):
 
 def test_end_of_life():
     keys = KeyMap()
-    raw, seen = keys._raw, [insert_token(keys, b"a"), weakref.ref(keys)]
+    raw, seen = keys.handle, [insert_token(keys, b"a"), weakref.ref(keys)]
     keys.insert(b"itself", keys)
     del keys
     assert_alive(seen, False, False)
@@ -435,10 +436,22 @@ def test_insert():
     assert_prints(REFUSED_INSERT, "good\n", MALLOC_ARENA_MAX="1")
 
 
+def test_an_exception_of_a_handler_mixes_no_keys(keys):
+    insert = library.hed_keymap_insert
+
+    def interrupted(*words):
+        insert(*words)
+        raise KeyboardInterrupt
+
+    with mock.patch.object(library, "hed_keymap_insert", interrupted):
+        with pytest.raises(KeyboardInterrupt):
+            keys.insert(b"a", 1)
+    keys.insert(b"b", 2)
+    assert (keys[b"a"], keys[b"b"]) == (1, 2)
+
+
 def test_new():
-    with mock.patch.object(hedrugal._library, "hed_keymap_init", lambda raw: 2), pytest.raises(
-        MemoryError
-    ):
+    with mock.patch.object(library, "hed_keymap_init", lambda raw: 2), pytest.raises(MemoryError):
         KeyMap()
 
 
@@ -473,23 +486,23 @@ def test_refused_delete(keys, call, at):
     """The map stays as it is, and what was made of the other is freed."""
     for key in (b"a", b"ab", b"abc"):
         keys[key] = key
-    of_library, made, freed = getattr(hedrugal._library, f"hed_keymap_{call}"), [], []
-    free = hedrugal._library.hed_keymap_free
+    of_library, made, freed = getattr(library, f"hed_keymap_{call}"), [], []
+    free = library.hed_keymap_free
 
     def refuse(raw, *words):
         made.append(raw)
-        return of_library(raw, *words) if len(made) <= at else hedrugal._STATUS_NO_MEMORY
+        return of_library(raw, *words) if len(made) <= at else STATUS_NO_MEMORY
 
     def note(raw):
         freed.append(raw)
         free(raw)
 
-    with mock.patch.object(hedrugal._library, f"hed_keymap_{call}", refuse), mock.patch.object(
-        hedrugal._library, "hed_keymap_free", note
+    with mock.patch.object(library, f"hed_keymap_{call}", refuse), mock.patch.object(
+        library, "hed_keymap_free", note
     ), pytest.raises(MemoryError):
         del keys[b"ab"]
     assert [*keys.items()] == [(key, key) for key in (b"a", b"ab", b"abc")]
     assert keys.lookup(b"ab", False) == Exact(2, b"ab")
-    assert len(freed) == (call == "insert") and keys._raw not in freed
+    assert len(freed) == (call == "insert") and keys.handle not in freed
     del keys[b"ab"]
     assert [*keys] == [b"a", b"abc"]

@@ -6,11 +6,13 @@ import os
 import pydoc
 import re
 import shutil
+from pathlib import Path
 
 import pytest
 
 import hedrugal
 from hedrugal import (
+    Age,
     ColourName,
     ColourScheme,
     DeviceAttributes,
@@ -23,15 +25,17 @@ from hedrugal import (
     KittyModifiers,
     ModeState,
     Modifiers,
+    MouseButton,
     MouseButtons,
+    MouseEncoding,
     MouseKind,
+    MouseTracking,
     NewlineByte,
     Waiting,
-    extended,
-    replies,
-    sending,
-    written,
+    _library,
+    _numbers,
 )
+from hedrugal._library import library
 from helpers import HERE, LIBRARY, constants, read, run_python
 
 
@@ -53,6 +57,9 @@ from helpers import HERE, LIBRARY, constants, read, run_python
         (ModeState, "HED_MODE_STATE_"),
         (ColourName, "HED_COLOUR_NAME_"),
         (ColourScheme, "HED_COLOUR_SCHEME_"),
+        (Age, "HED_AGE_"),
+        (MouseTracking, "HED_MOUSE_TRACKING_"),
+        (MouseEncoding, "HED_MOUSE_ENCODING_"),
     ],
 )
 def test_enums(kind, prefix):
@@ -63,10 +70,9 @@ def test_enums(kind, prefix):
 
 def test_docstrings_of_members():
     """Each member has one of its own, which help shows."""
-    modules = (hedrugal, extended, replies, sending, written)
-    enums = {it for module in modules for it in vars(module).values() if inspect.isclass(it)}
-    enums = [it for it in enums if issubclass(it, enum.Enum) and it.__members__]
-    assert len(enums) == 22
+    enums = [it for it in vars(hedrugal).values() if inspect.isclass(it)]
+    enums = [it for it in enums if issubclass(it, enum.Enum)]
+    assert len(enums) == 22 and MouseButton in enums
     for it in enums:
         said = {member.__doc__ for member in it.__members__.values()}
         assert len(said) == len(it.__members__) and it.__doc__ not in said
@@ -91,90 +97,70 @@ def test_keys():
     } == keys_of_header()
 
 
-@pytest.mark.parametrize("module, least", [(hedrugal, 43), (extended, 33), (replies, 10)])
-def test_other_numbers(module, least):
-    """So have the modules' constants for the numbers that no enum has."""
-    found = {
-        name: number
-        for name, number in vars(module).items()
-        if re.match("_((KIND|STATUS|KEY|OUTCOME|REPLY)_[A-Z]|NO_CODE)", name)
-    }
+def test_other_numbers():
+    """So have the constants for the numbers that no enum has."""
+    found = {name: it for name, it in vars(_numbers).items() if name.isupper() and type(it) is int}
     known = constants("HED_")
-    wanted = {name: known[re.sub("^_(STATUS_)?", "", name)] for name in found}
-    assert found == wanted and len(found) >= least
+    assert found == {name: known[name.replace("STATUS_", "")] for name in found}
+    assert len(found) >= 50
+    for name in ("CHORD_MOST", "QUESTIONS_MOST", "NO_CODE"):
+        assert getattr(_library, name) == known[name]
 
 
-def test_key_names():
-    names = {number: name.title().replace("_", "") for name, number in keys_of_header().items()}
-    assert names[44] == "Numpad0" and len(names) == max(names)
-    for number in [0, *names, len(names) + 1, 65535]:
-        room, name = ctypes.create_string_buffer(b"-" * 32, 32), names.get(number, "").encode()
-        written = name + b"\0" if name else b""
-        assert hedrugal._library.hed_key_name(number, room, len(room)) == len(name)
-        assert room.raw == written + b"-" * (len(room) - len(written))
+# The structs: their size, and the offsets of some fields, as the end of the header has them.
+LAYOUTS = {
+    "Handle": (16, "state 8"),
+    "Event": (48, "string_kind 7 key 8 width 24 detail 28 base 36 text_len 40"),
+    "Match": (16, "value 8"),
+    "Outcome": (32, "press 16 kind 24"),
+    "Entries": (24, "count 8 with_alt 16"),
+    "Policy": (24, "alt_key 4 paste 20"),
+    "Seen": (8, "by 4 empty 7"),
+    "Timer": (40, "millis 24 holds 35"),
+    "Press": (8, "held 2 detail 4"),
+    "Matcher": (264, "keys 8"),
+    "Reading": (16, "erase 4 newline 8 x10_mouse 12 questions 13"),
+    "SentMouse": (6, "modifiers 4 button 5"),
+    "Reply": (32, "is_private 3 selection 6 index 8 columns 18 mode 20 len 24"),
+    "Question": (32, "positions 24"),
+    "Questions": (544, "count 24 open 32"),
+    "Modes": (16, "encoding 8 has_modify_other_keys 12"),
+}
 
 
-def test_layouts():
-    parser, event, modes = hedrugal._RawParser, hedrugal._RawEvent, hedrugal._RawModes
-    assert [ctypes.sizeof(it) for it in (parser, event, modes)] == [16, 48, 16]
-    assert parser.state.offset == 8
-    offsets = [event.string_kind.offset, event.key.offset, event.width.offset, event.detail.offset]
-    assert offsets + [event.base.offset, event.text_len.offset] == [7, 8, 24, 28, 36, 40]
-    assert [modes.encoding.offset, modes.has_modify_other_keys.offset] == [8, 12]
-    policy = hedrugal._RawPolicy
-    assert [ctypes.sizeof(policy), policy.alt_key.offset, policy.paste.offset] == [24, 4, 20]
-    entries = hedrugal._RawEntries
-    assert [ctypes.sizeof(entries), entries.count.offset, entries.with_alt.offset] == [24, 8, 16]
-    keys, match = hedrugal._RawKeyMap, hedrugal._RawMatch
-    assert [ctypes.sizeof(keys), keys.state.offset, ctypes.sizeof(match), match.value.offset] == [
-        16,
-        8,
-        16,
-        8,
-    ]
-    raw = event(kind=1, modifiers=2, key_event_kind=3, key=4, detail=5, shifted=6, base=7)
-    assert hedrugal._key_fields_of(raw) == (1, 2, 4, 5)
-    assert extended._report_fields_of(raw) == (2, 3, 4, 5, 6, 7)
+@pytest.mark.parametrize("name", LAYOUTS)
+def test_layouts(name):
+    (size, words), raw = LAYOUTS[name], getattr(_library, f"Raw{name}")
+    offsets = [f"{word} {getattr(raw, word).offset}" for word in words.split()[::2]]
+    assert (ctypes.sizeof(raw), " ".join(offsets)) == (size, words)
+
+
+def test_all_layouts():
+    assert {f"Raw{name}" for name in LAYOUTS} == {it for it in vars(_library) if it[:3] == "Raw"}
 
 
 def test_calls():
-    """All calls of the header are declared, with as many arguments."""
+    """Each call that is declared is in the header, with as many arguments, and is called."""
     header = re.sub(r"/\*.*?\*/", "", read("c/hedrugal.h"), flags=re.S)
     calls = re.findall(r"^[a-z].*?[ *](hed_\w+)\(([^;]*)\);", header, flags=re.M)
     counts = {name: 0 if taken == "void" else taken.count(",") + 1 for name, taken in calls}
-    modules = (hedrugal, extended, replies, sending, written)
-    declared = {name: call for it in modules for name, call in it._CALLS.items()}
-    assert counts == {name: len(taken) for name, (_, taken) in declared.items()}
+    declared = {name: len(taken) for name, (_, taken) in _library.CALLS.items()}
+    assert declared == {name: counts[name] for name in declared}
+    files = Path(HERE, "hedrugal").rglob("*.py")
+    called = set(
+        re.findall(r"library(?:\.|\[\")(hed_\w+)", "".join(it.read_text() for it in files))
+    )
+    assert called == {*declared}
 
 
 def test_version():
     assert f'#define HED_VERSION "{hedrugal.__version__}"\n' in read("c/hedrugal.h")
 
 
-def test_layouts_of_readings_and_outcomes():
-    reading = extended._RawReading
-    offsets = [ctypes.sizeof(reading), reading.erase.offset, reading.newline.offset]
-    assert offsets + [reading.x10_mouse.offset, reading.questions.offset] == [16, 4, 8, 12, 13]
-    outcome = extended._RawOutcome
-    assert [ctypes.sizeof(outcome), outcome.press.offset, outcome.kind.offset] == [32, 16, 24]
-
-
-def test_layout_of_mouse_reports_that_are_sent():
-    raw = sending._RawSentMouse
-    assert (ctypes.sizeof(raw), raw.modifiers.offset, raw.button.offset) == (6, 4, 5)
-
-
-def test_layout_of_replies():
-    raw = replies._RawReply
-    assert ctypes.sizeof(raw) == 32
-    offsets = [raw.is_private.offset, raw.selection.offset, raw.index.offset, raw.columns.offset]
-    assert offsets + [raw.mode.offset, raw.len.offset] == [3, 6, 8, 18, 20, 24]
-
-
 IMPORT = """
 try:
     import hedrugal
-    print(hedrugal._library._name)
+    print(hedrugal._library.library._name)
 except ImportError as error:
     print(error)
 """
@@ -227,7 +213,7 @@ def test_a_folder_of_others(tmp_path):
 
 def test_it_keeps_pythons_lock():
     """So no two threads are in a call at once."""
-    assert isinstance(hedrugal._library, ctypes.PyDLL)
+    assert isinstance(library, ctypes.PyDLL)
 
 
 def test_beside_the_module(tmp_path):

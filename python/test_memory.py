@@ -1,19 +1,22 @@
 """Memory is refused or given back, and threads use parsers as they are made and closed."""
+import pickle
 import sys
 from unittest import mock
 
 import pytest
 
 import hedrugal
-from hedrugal import KeyCode, Modifiers, ParseError, Paste, Waiting
-from helpers import LIMITS, STREAM, assert_prints, assert_rest, needs_limits
+from hedrugal import Dialect, KeyReport, KittyModifiers, ParseError, Parser, Paste
+from hedrugal import PastePart, Waiting
+from hedrugal._library import RawHandle, library
+from helpers import EVENTS, LIMITS, STREAM, assert_prints, assert_rest, needs_limits
 
 REFUSED_FEED = (
     LIMITS
     + """
 body = b"x" * (16 * MB)
-parser = InputParser()
-parser.feed(b"\\x1b[200~")
+parser = Parser()
+assert parser.feed(b"\\x1b[200~") == []
 limit(100 * MB)
 fed = 0
 while True:
@@ -21,17 +24,16 @@ while True:
     if error: break
     fed += 1
 assert 0 < fed < 8 and parser.waiting_len == 6 + fed * len(body) and parser.waiting is Waiting.PASTE
-error, _ = refused(lambda: parser.parse(body))
 assert isinstance(error, ParseError) and not error.taken and "not taken" in str(error), error
-assert parser.waiting_len == 6 + fed * len(body)
+assert error.events == []
 limit(None)
-assert parser.parse(b"\\x1b[201~q") == [Paste("x" * (fed * len(body))), key(parser, "q")]
+assert parser.feed(b"\\x1b[201~q") == [Paste("x" * (fed * len(body))), KeyReport("q")]
 print("good")
 """
 )
 
 # The text of a paste is copied in the library, and by Python twice: each of these copies is refused
-# in some round. `end` is what makes the paste an event.
+# in some round. Each call goes on after it.
 REFUSED_TEXT = (
     LIMITS
     + """
@@ -39,38 +41,34 @@ body = "x" * (8 * MB)
 data = [b"\\x1b[200~" + body.encode(), b"\\x1b[201~ab"]
 refusals = grants = 0
 for more in range(0, 64, 2):
-    parser = InputParser()
-    assert parser.parse(data[0], now=0) == []
-    if how == "end":
-        ask = lambda: [parser.end_paste()]
-    elif how == "expire":
-        parser.policy = Policy(paste=10)
-        ask = lambda: parser.expire(10)
-    elif how == "take":
-        ask = lambda: [Paste(parser.take_paste())]
-    else:
-        parser.feed(data[1])
-        ask = {"next": lambda: [parser.next_event()], "parse": lambda: parser.parse(b"")}[how]
+    parser = Parser()
+    assert parser.feed(data[0], 0) == []
+    parser.policy = Policy(paste=10)
+    ask = {
+        "feed": lambda: parser.feed(data[1], 1),
+        "idle": lambda: parser.idle(10),
+        "end": parser.end,
+    }[how]
+    rest = [KeyReport("a"), KeyReport("b")] if how == "feed" else []
     limit(more * MB)
     error, events = refused(ask)
-    again, more_events = refused(ask) if error else (None, None)
     if error:
         refusals += 1
-        assert isinstance(error, ParseError) == (how == "parse"), error
-        assert how != "parse" or error.taken
-        assert parser.flush_escape() is None
-    limit(None)
-    if error and again:
-        events = ask()
-    elif error:
-        events = more_events
+        assert isinstance(error, ParseError) and error.events == []
+        assert how == "feed" or error.taken
+        again, events = refused(parser.flush)
+        limit(None)
+        if again:
+            assert again.events == []
+            events = parser.flush() if error.taken else ask()
+        elif not error.taken:
+            assert events == []
+            events = ask()
     else:
         grants += 1
-    assert events.pop(0) == Paste(body)
-    if how in ("next", "parse"):
-        assert events + parser.parse(b"c") == [key(parser, "a"), key(parser, "b"), key(parser, "c")]
-    assert parser.end_paste() == (Paste("") if how == "take" else None)
-    assert parser.waiting_len == 0
+        limit(None)
+    assert events == [Paste(body), *rest]
+    assert parser.feed(b"c") == [KeyReport("c")] and parser.waiting_len == 0
     parser.close()
 assert refusals > 2 and grants > 2, (refusals, grants)
 print("good")
@@ -82,27 +80,22 @@ print("good")
 
 
 @needs_limits
-def test_feed(make):
-    assert_prints(
-        REFUSED_FEED.replace("InputParser", make.__name__), "good\n", MALLOC_ARENA_MAX="1"
-    )
+def test_feed():
+    assert_prints(REFUSED_FEED, "good\n", MALLOC_ARENA_MAX="1")
 
 
 @needs_limits
-@pytest.mark.parametrize("how", ["next", "parse", "end", "expire", "take"])
-def test_text_of_a_paste(make, how):
-    text = f"how = {how!r}\n" + REFUSED_TEXT.replace("InputParser", make.__name__)
+@pytest.mark.parametrize("how", ["feed", "idle", "end"])
+def test_text_of_a_paste(how):
     # Memory that is freed goes back to the system at once, so a later round can be refused too.
     env = {"MALLOC_ARENA_MAX": "1", "MALLOC_MMAP_THRESHOLD_": "131072"}
-    assert_prints(text, "good\n", **env)
+    assert_prints(f"how = {how!r}\n{REFUSED_TEXT}", "good\n", **env)
 
 
 MEMORY = """
 import os, resource
 from hedrugal import *
 MB = 1 << 20
-def key(parser, *words):
-    return (KeyReport if hasattr(parser, "reading") else KeyEvent)(*words)
 def memory():
     return int(open("/proc/self/statm").read().split()[1]) * resource.getpagesize()
 """
@@ -112,20 +105,18 @@ def memory():
 MANY_PARSERS = (
     MEMORY
     + """
-before, up = memory(), "UP_ARROW CTRL"
-def told(events):
-    return " ".join(f"{it.key.name} {it.modifiers.name}" for it in events)
-parsers = [make() for _ in range(1000) for make in (InputParser, ExtendedParser)]
+before, up = memory(), [KeyReport(KeyCode.UP_ARROW, KittyModifiers.CTRL)]
+parsers = [Parser(dialect) for _ in range(1000) for dialect in Dialect]
 assert memory() - before < 16 * MB, memory() - before
-assert all(told(parser.parse(b"\\x1b[1;5A")) == up for parser in parsers)
+assert all(parser.feed(b"\\x1b[1;5A") == up for parser in parsers)
 for parser in parsers[:500] + parsers[:1500:-1]:
     parser.close()
-for parser in (parsers[1000], InputParser()):
-    assert told(parser.parse(b"\\x1b[1;5A")) == up
+for parser in (parsers[1000], Parser()):
+    assert parser.feed(b"\\x1b[1;5A") == up
 child = os.fork()
 if child == 0:
-    events = [told(it.parse(b"\\x1b[1;5A")) for it in (ExtendedParser(), parsers[1001])]
-    os._exit(0 if events == [up, up] else 1)
+    told = [it.feed(b"\\x1b[1;5A") for it in (Parser(), parsers[1001])]
+    os._exit(0 if told == [up, up] else 1)
 assert os.waitpid(child, 0)[1] == 0
 print("good")
 """
@@ -134,10 +125,10 @@ print("good")
 SHRINK = (
     MEMORY
     + """
-parser = InputParser()
+parser = Parser()
 paste = b"\\x1b[200~" + b"x" * (16 * MB) + b"\\x1b[201~\\x1b"
 before = memory()
-assert len(parser.parse(paste)) == 1
+assert len(parser.feed(paste)) == 1
 assert memory() - before > 15 * MB
 for kept in (1 << 100, 16 * MB):
     parser.shrink_to(kept)
@@ -145,7 +136,7 @@ for kept in (1 << 100, 16 * MB):
 parser.shrink_to(4096)
 assert memory() - before < 2 * MB, memory() - before
 parser.shrink_to()
-assert parser.waiting is Waiting.ESCAPE and parser.parse(b"[A") == [key(parser, KeyCode.UP_ARROW)]
+assert parser.waiting is Waiting.ESCAPE and parser.feed(b"[A") == [KeyReport(KeyCode.UP_ARROW)]
 print("good")
 """
 )
@@ -159,8 +150,8 @@ def test_one_table():
     assert_prints(MANY_PARSERS, "good\n", **THRESHOLD)
 
 
-def test_shrink_to(make):
-    assert_prints(SHRINK.replace("InputParser", make.__name__), "good\n", **THRESHOLD)
+def test_shrink_to():
+    assert_prints(SHRINK, "good\n", **THRESHOLD)
 
 
 def test_capacities(parser):
@@ -169,67 +160,80 @@ def test_capacities(parser):
             parser.shrink_to(wrong)
 
 
-def test_refused_parsers(make, key):
+def test_refused_parsers():
     """The table is refused memory, and the next parser makes it. Or a parser is refused memory,
     once the table is there."""
-    with mock.patch.object(hedrugal, "_idle", hedrugal._RawParser()):
-        with mock.patch.object(hedrugal._library, "hed_parser_init", lambda *_: 2), pytest.raises(
-            MemoryError
-        ):
-            make()
-        with make() as parser:
-            assert hedrugal._idle.live
-            hedrugal._library.hed_parser_free(hedrugal._idle)
-            assert parser.parse(b"q") == [key("q")]
-    init = "hed_parser_init_sharing"
-    with mock.patch.object(hedrugal._library, init, lambda *_: 2), pytest.raises(MemoryError):
-        make()
+    with mock.patch.object(hedrugal.parser, "_idle", RawHandle()) as idle:
+        with mock.patch.object(library, "hed_parser_init", lambda *_: 2):
+            with pytest.raises(MemoryError):
+                Parser()
+        with Parser() as parser:
+            assert idle.live
+            library.hed_parser_free(idle)
+            assert parser.feed(b"q") == [KeyReport("q")]
+    with mock.patch.object(library, "hed_parser_init_sharing", lambda *_: 2):
+        with pytest.raises(MemoryError):
+            Parser()
 
 
 # Memory for an event, or for a place in the list, is refused in the middle of a call.
 
 
-def refuse_after(parser, count):
-    """Lets the parser make so many events, and refuses the next. Returns what ends that."""
-    made, makers = [], [it for it in ("_front_event", "_plain_event") if hasattr(parser, it)]
-    real = {name: getattr(parser, name) for name in makers}
+class Refusal:
+    """In its block the next events but so many are refused memory."""
 
-    def refusing(make):
-        def made_event(*words):
-            if len(made) == count:
-                raise MemoryError
-            event = make(*words)
-            made.append(event)
-            return event
+    def __init__(self, count):
+        self.count, self.events = count, hedrugal.parser._events
+        self.event_of = hedrugal.parser.event_of
 
-        return made_event
+    def make(self, make, *words):
+        event = make(*words)
+        if not self.count:
+            raise MemoryError
+        self.count -= 1
+        return event
 
-    def grant():
-        for name in makers:
-            setattr(parser, name, real[name])
+    def __getitem__(self, record):
+        return self.make(self.events.__getitem__, record)
 
-    for name in makers:
-        setattr(parser, name, refusing(real[name]))
-    return grant
+    def __enter__(self):
+        hedrugal.parser._events = self
+        hedrugal.parser.event_of = lambda *words: self.make(self.event_of, *words)
+
+    def __exit__(self, *_):
+        hedrugal.parser._events, hedrugal.parser.event_of = self.events, self.event_of
 
 
-def test_parse_goes_on(parser, events_of_stream):
-    for count in range(len(events_of_stream)):
-        for after in (
-            lambda: parser.flush(),
-            lambda: [parser.next_event(False) for _ in events_of_stream],
-        ):
-            grant = refuse_after(parser, count)
-            with pytest.raises(ParseError) as caught:
-                parser.parse(STREAM, False)
-            assert caught.value.taken
-            assert parser.flush_escape() is None
-            grant()
-            assert after() == events_of_stream
+TEXTS = [b"a", b"b" * 500, b"c" * 512, b"d" * 5000]
+PASTES = b"x" + b"".join(b"\x1b[200~%s\x1b[201~" % it for it in TEXTS) + b"\x1b[97;;65uy\x1b[I"
+PASTED = [KeyReport("x"), *(Paste(it.decode()) for it in TEXTS)]
+PASTED += [KeyReport("a", text="A"), KeyReport("y"), hedrugal.FocusGained()]
+
+
+@pytest.mark.parametrize("data, events", [(STREAM, EVENTS), (PASTES, PASTED)])
+@pytest.mark.parametrize("again", ["feed", "idle", "flush", "end"])
+def test_each_event(data, events, again):
+    """The error has the events before that one, and the next call those from it on."""
+    with Parser() as parser:
+        for count in range(len(events)):
+            is_last = data is STREAM and count == len(events) - 1
+            with Refusal(count), pytest.raises(ParseError) as caught:
+                told = parser.feed(data)
+                parser.flush()
+            told = told if is_last else caught.value.events
+            assert (told, caught.value.taken) == (events[:count], True)
+            assert parser.timeout() == 0
+            copied = pickle.loads(pickle.dumps(caught.value))
+            assert (copied.events, copied.taken) == (caught.value.events, True)
+            with Refusal(0), pytest.raises(ParseError) as caught:
+                parser.flush()
+            assert caught.value.events == []
+            told += parser.feed(b"") if again == "feed" else getattr(parser, again)()
+            assert told + parser.flush() == events
             assert_rest(parser, 0, Waiting.NOTHING)
 
 
-def test_places_in_the_list(parser, events_of_stream):
+def test_places_in_the_list(parser):
     class Short(list):
         """A list that is refused memory once, when it has so many events."""
 
@@ -243,123 +247,94 @@ def test_places_in_the_list(parser, events_of_stream):
             for event in events:
                 self.append(event)
 
-    for count in range(len(events_of_stream)):
+    for count in range(len(EVENTS) - 1):
         refused = []
-        parser._kept = Short()
-        with pytest.raises(ParseError):
-            parser.parse(STREAM, False)
-        assert (parser.flush(), refused) == (events_of_stream, events_of_stream[count : count + 1])
+        parser._told = Short()
+        with pytest.raises(ParseError) as caught:
+            parser.feed(STREAM)
+        assert refused == EVENTS[count : count + 1]
+        assert caught.value.events + parser.flush() == EVENTS
 
 
-def test_kept_events_come_first(parser, key):
-    grant = refuse_after(parser, 2)
-    with pytest.raises(ParseError):
-        parser.parse(b"abc\x1b[200~d")
-    grant()
-    assert parser.end_paste() is None
-    assert parser.flush_escape() is None
-    assert parser.parse(b"") == [key("a"), key("b"), key("c")]
-    assert parser.end_paste() == Paste("d")
-    grant = refuse_after(parser, 1)
-    with pytest.raises(ParseError):
-        parser.parse(b"a\x1b[200~b\x1b[201~c")
-    grant()
-    assert parser.end_paste() is None
-    assert parser.parse(b"d") == [key("a"), Paste("b"), key("c"), key("d")]
+def test_bytes_come_behind_a_flush(parser):
+    """So do those that come after what is due."""
+    flushed = [KeyReport("[", KittyModifiers.ALT), *map(KeyReport, "1;5")]
+    for count in range(len(flushed)):
+        assert parser.feed(b"\x1b[1;5", 5) == []
+        with Refusal(count), pytest.raises(ParseError) as caught:
+            parser.idle(6)
+        assert (caught.value.events, parser.timeout(6)) == (flushed[:count], 0)
+        assert parser.feed(b"A", 7) == [*flushed[count:], KeyReport("A")]
+        assert parser.timeout(7) is None
 
 
-def test_end_paste_takes_pastes_alone(parser, key):
-    parser.feed(b"a\x1b[200~b")
-    grant = refuse_after(parser, 0)
-    with pytest.raises(MemoryError):
-        parser.next_event()
-    grant()
-    assert parser.end_paste() is None
-    assert parser.take_paste() is None and parser.skip_paste() is None
-    assert [*parser, parser.end_paste()] == [key("a"), Paste("b")]
+def test_bytes_that_come_too_early():
+    """While a flush is left, none are taken."""
+    with Parser() as parser:
+        assert parser.feed(b"\x1b[1" + b";1" * 100, 5) == []
+        with Refusal(0), pytest.raises(ParseError):
+            parser.idle(6)
+        with Refusal(0), pytest.raises(ParseError) as caught:
+            parser.feed(b"A", 7)
+        assert (caught.value.events, caught.value.taken) == ([], False)
+        assert len(parser.feed(b"A", 7)) == 203
 
 
-def test_a_refused_part_is_not_lost(parser, key):
-    """It is what `take_paste` would keep, if it was refused memory for the text."""
-    for left, wanted in [("ab", "ab"), (None, None)]:
-        assert parser.parse(b"\x1b[200~c") == []
-        parser._part = b"ab"
-        if left:
-            assert [parser.take_paste(100), parser.take_paste()] == ["ab", "c"]
-            assert parser.parse(b"\x1b[201~q") == [Paste(""), key("q")]
-        else:
-            assert parser.parse(b"\x1b[201~q") == [Paste("abc"), key("q")]
-    for forget in parser.reset, parser.skip_paste:
-        assert parser.parse(b"\x1b[200~c") == []
-        parser._part = b"ab"
-        assert forget() is not None and parser.take_paste() is None
-        parser.reset()
+def test_interrupted_after_a_refusal(parser):
+    """What is left is told by the next call, and is not what is forgotten."""
+    with Refusal(1), pytest.raises(ParseError) as caught:
+        parser.feed(b"a" + b"b" * 200 + b"\x1b[1", 0)
+    assert caught.value.events == [KeyReport("a")]
+    with Refusal(0), pytest.raises(MemoryError):
+        parser.interrupted(1)
+    parser.interrupted(1)
+    assert (parser.timeout(1), parser.waiting) == (0, Waiting.NOTHING)
+    assert parser.feed(b"A") == [KeyReport(it) for it in "b" * 200 + "A"]
 
 
-def test_reset_forgets_them(parser, key):
-    grant = refuse_after(parser, 1)
-    with pytest.raises(ParseError):
-        parser.parse(b"a\x1b[200~b\x1b[201~c")
-    grant()
+def test_reset_forgets_them(parser):
+    with Refusal(1), pytest.raises(ParseError):
+        parser.feed(PASTES)
     parser.reset()
-    assert parser.parse(b"q") == [key("q")]
+    assert (parser.idle(), parser.timeout(), parser.feed(b"q")) == ([], None, [KeyReport("q")])
 
 
-def test_escape_stays(parser, key):
-    assert parser.parse(b"\x1b") == []
-    grant = refuse_after(parser, 0)
-    with pytest.raises(MemoryError):
-        parser.flush_escape()
-    grant()
-    assert parser.parse(b"q") == [key(KeyCode.ESCAPE), key("q")]
+def test_skip_paste_after_a_refusal(parser):
+    parser.parts = 0
+    with Refusal(1), pytest.raises(ParseError):
+        parser.feed(b"ab\x1b[200~cd\x1b[20")
+    assert parser.skip_paste() == 0
+    assert parser.feed(b"1~") == [KeyReport("b"), PastePart("cd"), Paste("")]
 
 
-def test_what_is_due_goes_on(parser, key):
-    """What was found before a refusal comes first, whatever the time is then. Bytes that come
-    before it are read behind it."""
-    wanted = [key("[", Modifiers.ALT), *map(key, "1;5")]
-    for count in range(len(wanted)):
-        for after, more in [
-            (lambda: parser.expire(0), []),
-            (lambda: parser.parse(b"q"), [key("q")]),
-        ]:
-            assert parser.parse(b"\x1b[1;5", now=5) == []
-            assert parser.timeout(5) == 1
-            grant = refuse_after(parser, count)
-            with pytest.raises(MemoryError) as caught:
-                parser.expire(6)
-            assert not isinstance(caught.value, ParseError)
-            grant()
-            assert parser.flush_escape() is None and parser.timeout(6) == 0
-            assert after() == wanted + more
-            assert parser.timeout(7) is None
-            assert_rest(parser, 0, Waiting.NOTHING)
+def test_an_exception_of_a_handler(parser):
+    """What was told by then comes with the next call."""
 
+    class Stops(Refusal):
+        def __getitem__(self, record):
+            if not self.count:
+                raise KeyboardInterrupt
+            return super().__getitem__(record)
 
-def test_what_was_refused_is_due(parser, key):
-    """So are the events behind it."""
-    grant = refuse_after(parser, 1)
-    with pytest.raises(ParseError):
-        parser.parse(b"ab\x1b[200~c\x1b[201~d\x1b", now=0)
-    grant()
-    assert parser.timeout(0) == 0
-    assert parser.expire(0) == [key("a"), key("b"), Paste("c"), key("d")]
-    assert (parser.timeout(0), parser.expire(1)) == (0.05, [key(KeyCode.ESCAPE)])
+    with Stops(2), pytest.raises(KeyboardInterrupt):
+        parser.feed(STREAM)
+    assert parser.timeout() == 0
+    assert parser.flush() == EVENTS
 
 
 TWO_PARSERS = """
 import sys, threading
-from hedrugal import InputParser
+from hedrugal import Dialect, Parser
+def all_of(parser, pieces):
+    return [*(event for it in pieces for event in parser.feed(it)), *parser.flush()]
 stream = sys.argv[1].encode("latin-1") * 20
-with InputParser() as parser:
-    wanted, wrong = parser.parse(stream, False), []
+with Parser(DIALECT) as parser:
+    wanted, wrong = all_of(parser, [stream]), []
 def work():
-    with InputParser() as parser:
+    with Parser(DIALECT) as parser:
         for _ in range(50):
-            events = []
-            for at in range(0, len(stream), 7):
-                events += parser.parse(stream[at : at + 7])
-            if events + parser.flush() != wanted:
+            events = all_of(parser, [stream[at : at + 7] for at in range(0, len(stream), 7)])
+            if events != wanted:
                 wrong.append(events)
 sys.setswitchinterval(1e-6)
 threads = [threading.Thread(target=work) for _ in range(3)]
@@ -371,17 +346,16 @@ print("good" if wanted and not wrong else "wrong")
 # Threads that use one parser and one map, while one of them closes these and makes others.
 ONE_PARSER = """
 import sys, threading, time
-from hedrugal import InputParser, KeyMap
+from hedrugal import Dialect, KeyMap, Parser
 stream = sys.argv[1].encode("latin-1") * 20
-parser, keys, end = InputParser(), KeyMap(), time.monotonic() + 1
+parser, keys, end = Parser(DIALECT), KeyMap(), time.monotonic() + 1
 def work(remake):
     global parser, keys
     while time.monotonic() < end:
         try:
             parser.feed(bytearray(stream))
-            list(parser)
-            parser.parse(stream + b"\\x1b[200~" + stream)
-            parser.end_paste()
+            parser.feed(stream + b"\\x1b[200~" + stream)
+            parser.end()
             parser.reset()
             for length in range(50):
                 keys.insert(stream[:length], object())
@@ -389,7 +363,7 @@ def work(remake):
             if remake:
                 parser.close()
                 keys.close()
-                parser, keys = InputParser(), KeyMap()
+                parser, keys = Parser(DIALECT), KeyMap()
         except ValueError as error:
             assert str(error) in ("the parser is closed", "the map is closed"), error
 sys.setswitchinterval(1e-6)
@@ -401,20 +375,20 @@ print("good")
 """
 
 
-def assert_threads(text, make, stream):
-    text = text.replace("sys.argv[1]", repr(stream.decode("latin-1"))).replace(
-        "InputParser", make.__name__
-    )
-    assert_prints(text, "good\n")
+def assert_threads(text, dialect, stream):
+    text = text.replace("sys.argv[1]", repr(stream.decode("latin-1")))
+    assert_prints(text.replace("DIALECT", str(dialect)), "good\n")
 
 
-def test_two_parsers(make):
-    assert_threads(TWO_PARSERS, make, STREAM + b"[A")
+@pytest.mark.parametrize("dialect", Dialect)
+def test_two_parsers(dialect):
+    assert_threads(TWO_PARSERS, dialect, STREAM + b"[A")
 
 
 @pytest.mark.skipif(
     not getattr(sys, "_is_gil_enabled", lambda: True)(), reason="this Python has no lock"
 )
-def test_one_parser(make):
+@pytest.mark.parametrize("dialect", Dialect)
+def test_one_parser(dialect):
     """A call raises nothing but that they are closed."""
-    assert_threads(ONE_PARSER, make, STREAM)
+    assert_threads(ONE_PARSER, dialect, STREAM)

@@ -6,7 +6,6 @@ from unittest import mock
 
 import pytest
 
-import hedrugal
 from hedrugal import (
     Chord,
     EncodeError,
@@ -17,8 +16,9 @@ from hedrugal import (
     KeyPress,
     KeyReport,
     KittyModifiers,
-    extended,
 )
+from hedrugal._library import library
+from hedrugal._numbers import STATUS_NO_MEMORY
 
 NONE, SHIFT, CTRL = KittyModifiers.NONE, KittyModifiers.SHIFT, KittyModifiers.CTRL
 
@@ -146,9 +146,9 @@ def test_names_are_read_back():
 
 
 def test_refused_memory():
-    no_memory = mock.Mock(return_value=hedrugal._STATUS_NO_MEMORY)
+    no_memory = mock.Mock(return_value=STATUS_NO_MEMORY)
     chord = Chord.read("a b")
-    with mock.patch.object(extended._library, "hed_key_print", no_memory):
+    with mock.patch.object(library, "hed_key_print", no_memory):
         for it in (chord, KeyPress("a")):
             with pytest.raises(MemoryError):
                 str(it)

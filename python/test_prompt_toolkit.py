@@ -5,6 +5,7 @@ import re
 import termios
 import time
 import tty
+from unittest import mock
 
 import pytest
 
@@ -218,6 +219,21 @@ def test_end_of_the_input(terminal):
     typing.write(b"a\x1b[1;\x04\x04")
     assert [it.key for it in reader.read_keys()] == ["a"] and not reader.closed
     assert [it.key for it in reader.read_keys()] == [Keys.Escape, *"[1;"] and reader.closed
+
+
+def test_refused_memory_at_the_end(terminal):
+    """What came before is told by the next call."""
+    typing, reader = terminal
+    settings = termios.tcgetattr(typing)
+    settings[3] |= termios.ICANON
+    settings[6][termios.VEOF] = b"\x04"
+    termios.tcsetattr(typing, termios.TCSANOW, settings)
+    typing.write(b"\x04")
+    reader.vt100_parser.feed("ab")
+    with mock.patch.object(reader.vt100_parser, "end", side_effect=MemoryError):
+        with pytest.raises(MemoryError):
+            reader.read_keys()
+    assert [it.key for it in reader.read_keys()] == ["a", "b"]
 
 
 def test_every_call_says_what_it_does():

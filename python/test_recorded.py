@@ -7,25 +7,27 @@ import pytest
 from hedrugal import (
     Apc,
     Dcs,
+    Dialect,
     EncodeError,
-    ExtendedParser,
     Function,
-    InputParser,
     KeyboardEncoding,
     KeyCode,
     KeyCodeEncodeModes,
-    KeyEvent,
+    KeyReport,
+    KittyModifiers,
     Modifiers,
     MouseButtons,
-    MouseEvent,
+    MouseKind,
+    MouseReport,
     Osc,
+    Parser,
     Paste,
     StringCut,
     StringKind,
     StringPart,
     encode,
 )
-from helpers import events_in_time, events_of, read
+from helpers import events_in_time, read
 
 # The keys by the names that they have there: UpArrow is KeyCode.UP_ARROW.
 KEYS = {key.name.title().replace("_", ""): key for key in KeyCode}
@@ -44,15 +46,26 @@ def set_named(flags, names):
     return held
 
 
+def mouse_report(x, y, modifiers, buttons):
+    """A mouse report but for what termwiz doesn't tell."""
+    return MouseReport(x, y, modifiers, buttons, MouseKind.MOVE)
+
+
+def recorded(event):
+    """An event as it is recorded."""
+    if not isinstance(event, MouseReport):
+        return event
+    return mouse_report(event.x, event.y, event.modifiers, event.buttons)
+
+
 def event_of(line):
     kind, *words = line.split(" ")
     if kind == "key":
-        return KeyEvent(key_named(words[0]), set_named(Modifiers, words[1]))
+        return KeyReport(key_named(words[0]), set_named(KittyModifiers, words[1]))
     if kind == "mouse":
         x, y, buttons, modifiers = words
-        return MouseEvent(
-            int(x), int(y), set_named(MouseButtons, buttons), set_named(Modifiers, modifiers)
-        )
+        held, down = set_named(Modifiers, modifiers), set_named(MouseButtons, buttons)
+        return mouse_report(int(x), int(y), held, down)
     length, _, digits = words[-1].partition(":")
     text = bytes.fromhex(digits)
     assert len(text) == int(length), line
@@ -64,11 +77,11 @@ def event_of(line):
     return {"osc": Osc, "dcs": Dcs, "apc": Apc}[kind](text)
 
 
-def answer_of(text, make):
-    """The events of a parser of this type, and the bytes that stay buffered."""
+def answer_of(text):
+    """The events, and the bytes that stay buffered."""
     events, _, rest = text.partition("; ")
     lines = [] if text == "nothing" else [line for line in events.strip().split(",") if line]
-    return events_of(make, [event_of(line) for line in lines]), bytes.fromhex(rest)
+    return [event_of(line) for line in lines], bytes.fromhex(rest)
 
 
 def check_file(file, check_line, least=300):
@@ -85,20 +98,16 @@ class Feeder:
     def __init__(self, parser):
         self.parser = parser
 
-    def answer_of(self, text):
-        return answer_of(text, type(self.parser))
-
     def check(self, pieces, more, wanted):
         """Feeds pieces, the last with this flag, and compares all that they give."""
         self.parser.reset()
-        *firsts, last = pieces
-        events = []
-        for piece in firsts:
-            self.parser.feed(piece)
-            events += self.parser
-        events += self.parser.parse(last, more)
+        events = [event for piece in pieces for event in self.parser.feed(piece)]
+        events += [] if more else self.parser.flush()
         fed = b"".join(pieces)
-        assert (events, fed[len(fed) - self.parser.waiting_len :]) == wanted, pieces
+        assert (
+            [*map(recorded, events)],
+            fed[len(fed) - self.parser.waiting_len :],
+        ) == wanted, pieces
         return 1
 
     def check_text(self, text, wanted):
@@ -121,11 +130,10 @@ class Feeder:
         for step, answer in zip(steps, answers):
             data = bytes.fromhex(step[1:])
             fed += data
-            events = self.parser.parse(data[:place])
-            events += self.parser.parse(data[place:], step[0] == "+")
-            assert (events, fed[len(fed) - self.parser.waiting_len :]) == self.answer_of(
-                answer
-            ), fed
+            events = self.parser.feed(data[:place]) + self.parser.feed(data[place:])
+            events += [] if step[0] == "+" else self.parser.flush()
+            told = [*map(recorded, events)], fed[len(fed) - self.parser.waiting_len :]
+            assert told == answer_of(answer), fed
         return len(steps)
 
     def check_cuts(self, line):
@@ -142,7 +150,7 @@ class Feeder:
     def check_rows(self, line):
         """`ROW,ROW,.. = NEXT = ALONE = AFTER ESC = BEFORE NEXT`."""
         rows, after, *answers = line.split(" = ")
-        answers = [None if answer == "-" else self.answer_of(answer) for answer in answers]
+        answers = [None if answer == "-" else answer_of(answer) for answer in answers]
         assert len(answers) == 3
         count = 0
         for row in map(bytes.fromhex, rows.split(",")):
@@ -161,7 +169,7 @@ class Feeder:
             [(int(time), read(it)) for time, it in (word.split(":", 1) for word in words)]
             for words, read in (
                 (asked.split(" "), bytes.fromhex),
-                (answers.split(" | "), lambda events: self.answer_of(events)[0]),
+                (answers.split(" | "), lambda events: answer_of(events)[0]),
             )
         )
         for step in (None, 0.001):
@@ -172,7 +180,7 @@ class Feeder:
     def check_line(self, line):
         asked, answers = line.split(" = ", 1)
         if asked.startswith("*"):
-            return self.check_text(bytes.fromhex(asked[1:]), self.answer_of(answers))
+            return self.check_text(bytes.fromhex(asked[1:]), answer_of(answers))
         if asked.startswith(("+", "-")):
             return self.check_steps(asked.split(" "), answers.split(" | "))
         if ":" in asked:
@@ -185,14 +193,14 @@ def test_times(parser):
 
 
 def test_strings():
-    with ExtendedParser() as parser:
+    with Parser() as parser:
         check_file("strings.txt", Feeder(parser).check_cuts, least=20)
 
 
 @pytest.mark.parametrize("file", ["parse-rows.txt", "parse-cases.txt", "rules.txt"])
 def test_events(file):
     """The answers of rules.txt weren't recorded, but written down from docs/GRAMMAR.md."""
-    with InputParser() as parser:
+    with Parser(Dialect.TERMWIZ) as parser:
         check_file(file, Feeder(parser).check_line)
 
 

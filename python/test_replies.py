@@ -20,25 +20,25 @@ from hedrugal import (
     Dcs,
     DeviceAttributes,
     DeviceAttributesReply,
-    ExtendedParser,
     FocusGained,
     KeyboardFlags,
-    KeyEvent,
     KeyReport,
     KittyKeyboardFlags,
     ModeReply,
     ModeState,
     Osc,
+    Parser,
     Paste,
     StringCut,
     StringKind,
     StringPart,
     VersionReply,
     WindowSizeReply,
-    replies,
     reply,
 )
-from helpers import read
+from hedrugal._library import library
+from hedrugal._numbers import STATUS_NO_MEMORY
+from helpers import all_of, read
 
 WHITE = Colour(65535, 65535, 65535)
 
@@ -71,10 +71,10 @@ def test_recorded():
     recorded = read("rust/tests/recorded/replies.txt").splitlines()
     lines = [it for it in recorded if not it.startswith("#")]
     assert len(lines) > 250
-    with ExtendedParser() as parser:
+    with Parser() as parser:
         for it in lines:
             sent, wanted = it.split(" =", 1)
-            [event] = parser.parse(bytes.fromhex(sent), False)
+            [event] = all_of(parser, bytes.fromhex(sent))
             assert line(reply(event)).rstrip() == wanted.lstrip(), sent
 
 
@@ -115,7 +115,6 @@ def test_replies(event, wanted):
 @pytest.mark.parametrize(
     "event",
     [
-        KeyEvent("c"),
         KeyReport("c"),
         Paste("?62c"),
         FocusGained(),
@@ -147,15 +146,15 @@ def test_any_bytes():
 
 def test_long_clipboard():
     data = bytes(range(256)) * 200
-    with ExtendedParser() as parser:
+    with Parser() as parser:
         sent = b"\x1b]52;c;" + base64.b64encode(data[:48000]) + b"\x07"
-        [event] = parser.parse(sent)
+        [event] = parser.feed(sent)
     assert reply(event) == ClipboardReply("c", data[:48000])
 
 
 def test_refused_memory():
-    answer = mock.Mock(return_value=hedrugal._STATUS_NO_MEMORY)
-    with mock.patch.object(replies._library, "hed_read_reply", answer):
+    answer = mock.Mock(return_value=STATUS_NO_MEMORY)
+    with mock.patch.object(library, "hed_read_reply", answer):
         with pytest.raises(MemoryError):
             reply(Csi(b"?62c"))
 

@@ -3,11 +3,9 @@ from unittest import mock
 
 import pytest
 
-import hedrugal
 from hedrugal import (
+    Dialect,
     EncodeError,
-    ExtendedParser,
-    InputParser,
     Modifiers,
     MouseButton,
     MouseButtons,
@@ -15,11 +13,13 @@ from hedrugal import (
     MouseKind,
     MouseReport,
     MouseTracking,
+    Parser,
     Paste,
     Reading,
     SentMouse,
     encode_paste,
 )
+from hedrugal._library import library
 
 START, END = b"\x1b[200~", b"\x1b[201~"
 
@@ -80,17 +80,17 @@ def test_pastes_are_made_safe_and_read_back(text, safe):
     sent = encode_paste(text, True)
     assert (sent, encode_paste(text, False)) == (START + safe.encode() + END, safe.encode())
     assert encode_paste(memoryview(bytearray(text)), True) == sent
-    for parser in (InputParser(), ExtendedParser()):
-        with parser:
-            assert (parser.parse(sent), parser.waiting_len) == ([Paste(safe)], 0)
+    for dialect in Dialect:
+        with Parser(dialect) as parser:
+            assert (parser.feed(sent), parser.waiting_len) == ([Paste(safe)], 0)
 
 
 @pytest.mark.parametrize("report, tracking, encoding, sent, events", REPORTS)
 def test_mouse_reports_are_read_back(report, tracking, encoding, sent, events):
     assert report.encode(tracking, encoding) == sent
-    with ExtendedParser() as parser:
+    with Parser() as parser:
         parser.reading = Reading(x10_mouse=True)
-        assert (parser.parse(sent), parser.waiting_len) == (events, 0)
+        assert (parser.feed(sent), parser.waiting_len) == (events, 0)
 
 
 def test_what_is_no_report():
@@ -111,9 +111,9 @@ def test_what_is_no_report():
 
 
 def test_memory_is_refused():
-    with mock.patch.object(hedrugal._library, "hed_encode_paste", lambda *_: 2):
+    with mock.patch.object(library, "hed_encode_paste", lambda *_: 2):
         with pytest.raises(MemoryError):
             encode_paste(b"a", True)
-    with mock.patch.object(hedrugal._library, "hed_encode_mouse", lambda *_: 2):
+    with mock.patch.object(library, "hed_encode_mouse", lambda *_: 2):
         with pytest.raises(MemoryError):
             SentMouse(1, 1, MouseButton.NONE).encode(MouseTracking.ANY, MouseEncoding.SGR)

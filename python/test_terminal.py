@@ -1,7 +1,5 @@
-"""Programs on a pseudo-terminal, of which the tests play the terminal: the listings of
-docs/python.md that use one, and the example that asks its terminal."""
+"""The example that asks its terminal, on a pseudo-terminal of which the tests play the terminal."""
 import os
-import re
 import signal
 import sys
 import termios
@@ -9,7 +7,7 @@ import time
 
 import pytest
 
-from helpers import HERE, LIBRARY, SECONDS, listings, run_python
+from helpers import HERE, LIBRARY, SECONDS, run_python
 
 pexpect = pytest.importorskip("pexpect")
 
@@ -21,49 +19,6 @@ def start(*words):
     child = pexpect.spawn("/bin/sh", words, env=env, timeout=SECONDS)
     child.delaybeforesend = None
     return child
-
-
-def check_listing(listing, *typed):
-    """What it prints. Each of the functions is called once the line of the one before was
-    printed."""
-    text, wanted = listing
-    child = start("-c", text)
-    child.sendline()
-    child.expect_exact("\r\n")
-    printed = b""
-    for line, act in zip(wanted.splitlines(), typed):
-        child.expect_exact("\r\n")
-        printed += child.before + b"\n"
-        assert MODES.sub(b"", printed).decode().endswith(f"{line}\n")
-        act(child)
-    child.expect(pexpect.EOF)
-    child.wait()
-    child.close()
-    printed += child.before.replace(b"\r\n", b"\n")
-    assert (MODES.sub(b"", printed).decode(), child.exitstatus) == (wanted, 0)
-
-
-MODES = re.compile(rb"\x1b\[\?\d+[hl]")
-
-
-def types(data):
-    return lambda child: child.send(data)
-
-
-def types_slowly(child):
-    child.send(b"\x1b[1;")
-    time.sleep(0.5)
-    child.send(b"2A")
-
-
-def test_the_first_listing():
-    typed = [b"\x1bx", "é".encode(), b"\x1b[15;2~", b"\x1b[200~text\x1b[201~", b"q"]
-    acts = types(b"\x1b"), types(b"\x1b["), types_slowly, *map(types, typed)
-    check_listing(listings()[0], *acts)
-
-
-def test_the_listing_for_asyncio():
-    check_listing(listings()[1], lambda child: child.setwinsize(40, 100), types(b"q"))
 
 
 ASK = os.path.join(HERE, "examples", "ask.py")

@@ -9,8 +9,8 @@ import threading
 import pytest
 
 import hedrugal
-from hedrugal import Exact, InputParser, KeyMap, Waiting
-from helpers import SECONDS, STREAM, assert_prints
+from hedrugal import Exact, KeyMap, Parser, Waiting
+from helpers import EVENTS, SECONDS, STREAM, all_of, assert_prints
 
 THREADS = 4
 
@@ -42,50 +42,31 @@ def run_all(work):
     return results
 
 
-def test_parse(parser, often, events_of_stream):
+def test_feed(parser, often):
     """A call has the parser for itself: each gets the events of its own bytes."""
+    data = STREAM[:-1]
 
     def work():
-        return [parser.parse(STREAM, False) for _ in range(100)]
+        return [parser.feed(data) for _ in range(100)]
 
-    assert run_all(work) == [[events_of_stream] * 100] * THREADS
+    assert run_all(work) == [[EVENTS[:-1]] * 100] * THREADS
     assert parser.waiting is Waiting.NOTHING
 
 
-@pytest.mark.parametrize(
-    "pull",
-    [
-        lambda parser, events: next(events, None),
-        lambda parser, events: parser.next_event(),
-        lambda parser, events: next(iter(parser), None),
-    ],
-    ids=["one iterator", "next_event", "an iterator each"],
-)
-def test_pull(parser, often, pull):
-    """Each event goes to one thread, which gets its events in order."""
-    count = 2000
-    for number in range(count):
-        parser.feed(b"\x1b[200~%d\x1b[201~" % number)
-    events = iter(parser)
-    got = run_all(lambda: [int(it.text) for it in iter(lambda: pull(parser, events), None)])
-    assert all(it == sorted(it) for it in got)
-    assert sorted(sum(got, [])) == [*range(count)]
+def test_each_event_goes_to_one_thread(parser, often):
+    """An ESC that one thread feeds may become the key of another's byte."""
+    got = run_all(lambda: [it for _ in range(500) for it in parser.feed(b"\x1bq\x1b")])
+    left = parser.flush()
+    escapes = sum(it.key is hedrugal.KeyCode.ESCAPE for part in (*got, left) for it in part)
+    assert sum(map(len, got)) + len(left) - escapes == 500 * THREADS
 
 
 def test_entries(often):
-    with InputParser() as parser:
+    with Parser() as parser:
         wanted, entries = [*parser.entries()], parser.entries()
         got = run_all(lambda: [*entries])
         assert sorted(it.bytes for part in got for it in part) == [it.bytes for it in wanted]
         assert next(entries, None) is None
-
-
-def test_an_iterator_stays_at_its_end(parser, key):
-    events = iter(parser)
-    assert next(events, None) is None
-    parser.feed(b"q")
-    assert [*events] == []
-    assert [*parser] == [key("q")]
 
 
 def test_map(often):
@@ -102,16 +83,16 @@ def test_map(often):
         assert len(keys) == len(keys._entries) == 500
 
 
-def test_close_in_any_thread(make, often, events_of_stream):
+def test_close_in_any_thread(often):
     """A call ends as if it came before the close or after it."""
     for _ in range(20):
-        parser, keys, begun = make(), KeyMap(), threading.Barrier(THREADS)
+        parser, keys, begun = Parser(), KeyMap(), threading.Barrier(THREADS)
 
         def work():
             begun.wait(SECONDS)
             with contextlib.suppress(ValueError):
                 while True:
-                    assert parser.parse(STREAM, False) == events_of_stream
+                    assert parser.feed(STREAM[:-1]) == EVENTS[:-1]
                     keys.insert(STREAM, 1)
                     assert keys.lookup(STREAM) == Exact(len(STREAM), 1)
                     if threading.current_thread() is closer:
@@ -129,46 +110,53 @@ def test_close_in_any_thread(make, often, events_of_stream):
         assert parser.closed and keys.closed
 
 
-def in_the_middle(parser, does):
-    """Has it done while the parser makes its next event."""
-    real = parser._front_event
+class InTheMiddle:
+    """Has it done while a parser makes its next event."""
 
-    def front_event():
-        parser._front_event = real
+    def __init__(self, does):
+        self.does, self.events = does, hedrugal.parser._events
+
+    def __getitem__(self, record):
+        hedrugal.parser._events = self.events
+        does, self.does = self.does, lambda: None
         does()
-        return real()
+        return self.events[record]
 
-    parser._front_event = front_event
+    def __enter__(self):
+        hedrugal.parser._events = self
+
+    def __exit__(self, *_):
+        hedrugal.parser._events = self.events
 
 
-def test_close_waits(parser, events_of_stream):
+def test_close_waits(parser):
     inside, goes_on, closed = (threading.Event() for _ in range(3))
-    in_the_middle(parser, lambda: (inside.set(), goes_on.wait(SECONDS)))
     events = []
-    one = threading.Thread(target=lambda: events.extend(parser.parse(STREAM, False)))
+    one = threading.Thread(target=lambda: events.extend(parser.feed(STREAM)))
     other = threading.Thread(target=lambda: (parser.close(), closed.set()))
-    one.start()
-    assert inside.wait(SECONDS)
+    with InTheMiddle(lambda: (inside.set(), goes_on.wait(SECONDS))):
+        one.start()
+        assert inside.wait(SECONDS)
     other.start()
     assert not closed.wait(0.1) and not parser.closed
     goes_on.set()
     for it in (one, other):
         it.join(SECONDS)
-    assert (events, parser.closed) == (events_of_stream, True)
+    assert (events, parser.closed) == (EVENTS[:-1], True)
 
 
-def test_signals(parser, key, events_of_stream):
-    """A handler may ask and feed. What would wait for its own thread is refused."""
+def test_signals(parser):
+    """A handler may ask. What would wait for its own thread is refused."""
     refused = [
-        lambda: parser.parse(b""),
+        lambda: parser.feed(b"z"),
+        lambda: parser.idle(),
         lambda: parser.flush(),
-        lambda: parser.next_event(),
-        lambda: next(iter(parser)),
-        lambda: parser.flush_escape(),
-        lambda: parser.end_paste(),
-        lambda: parser.timeout(),
-        lambda: parser.expire(),
+        lambda: parser.end(),
+        lambda: parser.interrupted(),
+        lambda: parser.skip_paste(),
         lambda: setattr(parser, "policy", parser.policy),
+        lambda: setattr(parser, "reading", parser.reading),
+        lambda: setattr(parser, "parts", None),
         lambda: parser.reset(),
         lambda: parser.close(),
     ]
@@ -179,33 +167,18 @@ def test_signals(parser, key, events_of_stream):
             with pytest.raises(RuntimeError, match="^the parser is in the middle of a call of "):
                 use()
             seen["refused"] += 1
-        parser.feed(b"z")
         parser.shrink_to()
-        seen[repr(parser), parser.is_paste_open, parser.waiting_len >= 1] += 1
+        parser.expect_position()
+        assert parser.timeout() == 0
+        seen[repr(parser), parser.waiting_len] += 1
 
     before = signal.signal(signal.SIGUSR1, handle)
     try:
-        in_the_middle(parser, lambda: signal.raise_signal(signal.SIGUSR1))
-        assert parser.parse(STREAM) == [
-            *events_of_stream[:-1],
-            key("z", hedrugal.Modifiers.ALT),
-        ]
-        assert seen["refused"] == len(refused) and len(seen) == 2
-        assert parser.parse(STREAM, False) == events_of_stream
+        with InTheMiddle(lambda: signal.raise_signal(signal.SIGUSR1)):
+            assert all_of(parser, STREAM) == EVENTS
+        assert seen == {"refused": len(refused), ("<Parser, 1 bytes are buffered>", 1): 1}
     finally:
         signal.signal(signal.SIGUSR1, before)
-
-
-def test_a_handler_in_the_middle_of_a_flush(parser, events_of_stream):
-    """It can't feed either."""
-
-    def feed():
-        with pytest.raises(RuntimeError, match="^the parser is in the middle of a call of "):
-            parser.feed(b"z")
-
-    for _ in range(2):
-        in_the_middle(parser, feed)
-        assert parser.parse(STREAM, False) == events_of_stream
 
 
 def test_values_that_use_the_map_as_they_go():
@@ -230,7 +203,7 @@ def test_values_that_use_the_map_as_they_go():
 
 def test_map_in_the_middle_of_a_call():
     with KeyMap() as keys:
-        with keys._lock:
+        with keys.lock:
             for use in (lambda: keys.insert(b"q", 1), keys.close):
                 with pytest.raises(RuntimeError, match="^the map is in the middle of a call of "):
                     use()
@@ -241,18 +214,18 @@ AT_EXIT = """
 import sys, threading
 from hedrugal import *
 sys.setswitchinterval(1e-6)
-parser, begun = PARSER(), threading.Barrier(4)
+parser, begun = Parser(), threading.Barrier(4)
 def work():
     begun.wait()
     while True:
-        parser.parse(b"\\x1b[200~ab\\x1b[201~" * 100)
+        parser.feed(b"\\x1b[200~ab\\x1b[201~" * 100)
 for _ in range(3):
     threading.Thread(target=work, daemon=True).start()
 begun.wait()
 """
 
 
-def test_exit_in_the_middle_of_a_call(make):
+def test_exit_in_the_middle_of_a_call():
     """The exit frees nothing that a thread still uses."""
     for _ in range(5):
-        assert_prints(AT_EXIT.replace("PARSER", make.__name__), "")
+        assert_prints(AT_EXIT, "")

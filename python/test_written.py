@@ -14,10 +14,9 @@ from hedrugal import (
     Dialect,
     EncodeError,
     EraseByte,
-    ExtendedParser,
     FocusGained,
     FocusLost,
-    InputParser,
+    Parser,
     KeyboardFlags,
     KeyCode,
     KeyEventKind,
@@ -32,7 +31,8 @@ from hedrugal import (
     Osc,
     Paste,
     Reading,
-    Resize,
+    Resized,
+    Size,
     StringCut,
     StringKind,
     StringPart,
@@ -42,6 +42,8 @@ from hedrugal import (
     encode_device_attributes,
     encode_event,
 )
+from hedrugal._library import library
+from helpers import all_of
 
 SHIFT, ALT, CTRL = KittyModifiers.SHIFT, KittyModifiers.ALT, KittyModifiers.CTRL
 SUPER, NONE = KittyModifiers.SUPER, MouseButtons.NONE
@@ -56,7 +58,7 @@ READINGS = [
 
 
 def parser_by(reading):
-    parser = ExtendedParser()
+    parser = Parser()
     parser.reading = reading
     return parser
 
@@ -130,7 +132,7 @@ ROWS = [
     (FocusGained(), b"\x1b[I"),
     (FocusLost(), b"\x1b[O"),
     (CursorPosition(1, 5), b"\x1b[?1;5R"),
-    (Resize(24, 80, 480, 800), b"\x1b[48;24;80;480;800t"),
+    (Resized(Size(80, 24, 800, 480)), b"\x1b[48;24;80;480;800t"),
     (KeyboardFlags(KittyKeyboardFlags(5)), b"\x1b[?5u"),
     (side(8, MouseKind.PRESS, 3, 4), b"\x1b[<128;3;4M"),
     (side(9, MouseKind.DRAG, 3, 4, Modifiers.CTRL), b"\x1b[<177;3;4M"),
@@ -181,12 +183,17 @@ LONG = [
 ]
 
 
+def read_back(parser, event, sent):
+    """The events of what was written, with more to come unless they wait for it."""
+    return all_of(parser, sent) if event in WAITING else parser.feed(sent)
+
+
 @pytest.mark.parametrize("reading", READINGS)
 @pytest.mark.parametrize("event, sent", ROWS, ids=lambda it: repr(it)[:40])
 def test_rows(event, sent, reading):
     parser = parser_by(reading)
     assert encode_event(event, parser) == sent
-    assert list(parser.parse(sent, maybe_more=event not in WAITING)) == [event]
+    assert read_back(parser, event, sent) == [event]
     assert parser.waiting_len == 0
 
 
@@ -226,10 +233,10 @@ def test_rows_of_one_reading():
 
 
 def test_what_is_buffered_stays():
-    with ExtendedParser() as parser:
-        assert list(parser.parse(b"\x1b[1;")) == []
+    with Parser() as parser:
+        assert parser.feed(b"\x1b[1;") == []
         assert [encode_event(KeyReport("a"), parser) for _ in range(2)] == [b"a"] * 2
-        assert list(parser.parse(b"5A")) == [KeyReport(UP, CTRL)]
+        assert parser.feed(b"5A") == [KeyReport(UP, CTRL)]
     with pytest.raises(ValueError):
         encode_event(KeyReport("a"), parser)
 
@@ -244,12 +251,12 @@ def test_no_bytes(event, reading):
 @pytest.mark.parametrize("event", LONG)
 def test_too_long(event):
     with pytest.raises(EncodeError, match="is too long"):
-        encode_event(event, ExtendedParser())
+        encode_event(event, Parser())
 
 
 def texts():
     """Sequences of every kind, whole and broken off."""
-    table = InputParser().entries()
+    table = Parser().entries()
     yield from (entry.bytes for entry in table)
     yield from (b"\x1b" + entry.bytes for entry in itertools.islice(table, 0, None, 7))
     yield from (bytes([first, second]) for first in b"\x1ba\xc3\xff" for second in range(256))
@@ -277,18 +284,18 @@ def texts():
 @pytest.mark.parametrize("reading", [*READINGS, Reading(Dialect.TERMWIZ)])
 def test_what_is_read_is_written(reading):
     """Each event that a parser emits is written, and what is written is that event."""
-    parser, seen = ExtendedParser(), set()
+    parser, seen = Parser(), set()
     for text in texts():
         parser.reset()
         parser.reading = reading
-        seen.update(parser.parse(text, maybe_more=False))
+        seen.update(all_of(parser, text))
         parser.reset()
     whole = [event for event in seen if not isinstance(event, (StringPart, StringCut))]
     assert len(whole) > 1000
     for event in whole:
         parser.reading = reading
         sent = encode_event(event, parser)
-        assert list(parser.parse(sent, maybe_more=event not in WAITING)) == [event], sent
+        assert read_back(parser, event, sent) == [event], sent
         assert parser.waiting_len == 0
 
 
@@ -302,15 +309,15 @@ def typed_text(key, held, reads):
 @pytest.mark.parametrize("reading", [*READINGS, Reading(Dialect.TERMWIZ)])
 def test_first_rows(reading):
     """Of the rows that are read as a key the first is written, unless the key is typed."""
-    parser, first = ExtendedParser(), {}
+    parser, first = Parser(), {}
 
     def read(text):
         parser.reset()
         parser.reading = reading
-        events = list(parser.parse(text, maybe_more=False))
+        events = all_of(parser, text)
         return None if parser.waiting_len else events
 
-    for entry in InputParser().entries():
+    for entry in Parser().entries():
         events = read(entry.bytes)
         if events and isinstance(events[0], KeyReport):
             first.setdefault(events[0], entry.bytes)
@@ -325,7 +332,7 @@ def test_first_rows(reading):
 def test_replies():
     assert encode_cursor_position(1, 5) == b"\x1b[1;5R"
     assert encode_cursor_position(65535, 2, private=True) == b"\x1b[?65535;2R"
-    assert list(ExtendedParser().parse(encode_cursor_position(0, 2))) == [Csi(b"0;2R")]
+    assert Parser().feed(encode_cursor_position(0, 2)) == [Csi(b"0;2R")]
     assert encode_colour_scheme(ColourScheme.DARK) == b"\x1b[?997;1n"
     assert encode_colour_scheme(ColourScheme.LIGHT) == b"\x1b[?997;2n"
     assert encode_device_attributes([]) == b"\x1b[?c"
@@ -336,11 +343,10 @@ def test_replies():
 
 
 def test_bad_values():
-    parser = ExtendedParser()
+    parser = Parser()
     for event in (
         None,
         "a",
-        hedrugal.KeyEvent("a"),
         KeyReport("a", None),
         MouseReport(1, 1, None, NONE, MouseKind.MOVE),
         MouseReport(1, 1, Modifiers.NONE, None, MouseKind.MOVE),
@@ -368,6 +374,6 @@ def test_bad_values():
 
 @pytest.mark.parametrize("answer, error", [(2, MemoryError), (99, RuntimeError)])
 def test_answers(answer, error):
-    with mock.patch.object(hedrugal._library, "hed_encode_event", lambda *_: answer):
+    with mock.patch.object(library, "hed_encode_event", lambda *_: answer):
         with pytest.raises(error):
-            encode_event(FocusGained(), ExtendedParser())
+            encode_event(FocusGained(), Parser())

@@ -16,24 +16,25 @@ from typing import Iterator, Optional
 from hedrugal import (
     Csi,
     CursorPosition,
-    ExtendedEvent,
+    Event,
     KeyboardFlags,
     KeyReport,
     MouseReport,
     Osc,
     Paste,
+    PastePart,
 )
 from hedrugal.terminal import Terminal, TerminalEvent
 
 CURSOR, BACKGROUND, KEYBOARD = b"\x1b[6n", b"\x1b]11;?\x1b\\", b"\x1b[?u"
 
 
-def is_attributes(event: ExtendedEvent) -> bool:
+def is_attributes(event: Event) -> bool:
     """Whether an event is the answer to the last question."""
     return isinstance(event, Csi) and event.data.startswith(b"?") and event.data.endswith(b"c")
 
 
-def described(event: ExtendedEvent) -> Optional[str]:
+def described(event: Event) -> Optional[str]:
     """Returns the line of an answer, None for any other event."""
     if isinstance(event, CursorPosition):
         return f"cursor: row {event.row}, column {event.column}"
@@ -51,7 +52,7 @@ def described(event: ExtendedEvent) -> Optional[str]:
 def typed(terminal: Terminal) -> Iterator[TerminalEvent]:
     """Returns what was typed or pasted meanwhile."""
     while event := terminal.read(0):
-        if isinstance(event, (KeyReport, MouseReport, Paste)):
+        if isinstance(event, (KeyReport, MouseReport, Paste, PastePart)):
             yield event
 
 

@@ -27,6 +27,7 @@ from hedrugal import (
     KittyKeyboardFlags,
     Matcher,
     Paste,
+    PastePart,
     Timer,
     Unbound,
     typed_text,
@@ -121,7 +122,7 @@ class Edit:
             self.run(self.matcher.give_up())
 
     def handle(self, event: TerminalEvent) -> None:
-        if isinstance(event, Paste):
+        if isinstance(event, (Paste, PastePart)):
             self.insert_text(event.text)
         elif isinstance(event, KeyReport):
             self.handle_key(event)

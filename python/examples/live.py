@@ -21,9 +21,10 @@ from hedrugal import (
     MouseReport,
     MouseTracking,
     Paste,
-    Resize,
+    PastePart,
+    Resized,
 )
-from hedrugal.terminal import PastePart, Terminal, TerminalEvent
+from hedrugal.terminal import Terminal, TerminalEvent
 
 
 def described(event: TerminalEvent) -> Optional[str]:
@@ -34,10 +35,11 @@ def described(event: TerminalEvent) -> Optional[str]:
         place = f"mouse at {event.x}, {event.y}, buttons {event.buttons.value}"
         return f"{place}{held(event.modifiers)}"
     if isinstance(event, Paste):
-        what = "part of a paste," if isinstance(event, PastePart) else "paste of"
-        return f"{what} {len(event.text.encode())} bytes"
-    if isinstance(event, Resize):
-        return f"size {event.columns} x {event.rows}"
+        return f"paste of {len(event.text.encode())} bytes"
+    if isinstance(event, PastePart):
+        return f"part of a paste, {len(event.text.encode())} bytes"
+    if isinstance(event, Resized):
+        return f"size {event.size.columns} x {event.size.rows}"
     return None
 
 

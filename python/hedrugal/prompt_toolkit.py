@@ -14,23 +14,13 @@ byte that begin a sequence wait 100 ms for its end, and a longer beginning waits
 from __future__ import annotations
 
 import contextlib
+import ctypes
 import dataclasses
 import functools
 import re
 import sys
 from asyncio import TimerHandle, get_running_loop
-from typing import (
-    Any,
-    Callable,
-    Iterable,
-    Iterator,
-    List,
-    Optional,
-    TextIO,
-    Tuple,
-    Union,
-    cast,
-)
+from typing import Any, Callable, Iterator, List, Optional, TextIO, Tuple, Union, cast
 
 from prompt_toolkit.input.ansi_escape_sequences import ANSI_SEQUENCES
 from prompt_toolkit.input.vt100 import Vt100Input
@@ -38,21 +28,14 @@ from prompt_toolkit.input.vt100_parser import Vt100Parser
 from prompt_toolkit.key_binding import KeyPress
 from prompt_toolkit.keys import KEY_ALIASES, Keys
 
-from . import (
-    Csi,
-    CursorPosition,
-    ExtendedEvent,
-    ExtendedParser,
-    Function,
-    KeyCode,
-    KeyPress as Press,
-    KeyReport,
-    KittyModifiers,
-    MouseReport,
-    Paste,
-    Reading,
-    typed_text,
-)
+from ._library import RawEvent, is_ok, library
+from ._records import Events
+from .events import Csi, CursorPosition, Event, KeyReport, MouseReport, Paste, PastePart
+from .keys import Function, KeyCode, KittyModifiers
+from .names import KeyPress as Press, typed_text
+from .parser import Parser as Reader
+from .reading import Reading
+from .timer import millis_of_now
 
 __all__ = ["Input", "Parser"]
 
@@ -85,6 +68,8 @@ _RUNS = re.compile(r"[^\x00-\x1f\x7f-\x9f]+|[\x00-\x1f\x7f-\x9f]+")
 # prompt_toolkit asks for the cursor's position at any time, so each report of one is a reply. Its
 # programs bind c-j apart, and c-h is Backspace to them, whichever byte that key sends.
 _READING = Reading(x10_mouse=True, questions=255)
+# Events that are found again.
+_events = Events()
 
 
 @functools.lru_cache(maxsize=4096)
@@ -130,7 +115,7 @@ def _data(key: AnyKey, sent: str) -> str:
     return sent if isinstance(key, Keys) else key
 
 
-def _is_other_key(event: ExtendedEvent) -> bool:
+def _is_other_key(event: Event) -> bool:
     """Whether an event may be another key to prompt_toolkit: a control sequence that is no key to
     the library, as those that mintty sends for Ctrl with digits. Of these ESC [1;5u is a control
     character to the library."""
@@ -144,24 +129,30 @@ class Parser(Vt100Parser):
     The library reads the text."""
 
     def __init__(self, feed_key_callback: Callable[[KeyPress], None]) -> None:
-        self.parser = ExtendedParser()
+        self.parser = Reader()
+        # The text of an open paste is taken at each read.
+        self.parser.parts = 0
+        self._raw = RawEvent()
         super().__init__(feed_key_callback)
 
     def reset(self, request: bool = False) -> None:
         """Forgets what is buffered."""
         self.parser.reset()
-        # The bytes that are buffered, and the text of an open paste in parts.
+        self.parser.reading = _READING
+        # The reading may bring events, but none of no bytes.
+        self.parser.feed(b"")
+        # As many bytes as are buffered, and the text of an open paste in parts.
         self._rest = b""
         self._pasted: List[str] = []
 
     def feed(self, data: str) -> None:
         """Reads text, of which bytes that aren't UTF-8 are surrogates. No text means that none came
-        in time: see `expire`."""
+        in time: see `idle`."""
         if not data:
-            self.expire()
+            self.idle()
         # However it is cut, the keys are the same. Runs are quicker, but not of short sequences or
         # of a paste.
-        is_whole = "\x1b" in data or self.parser.is_paste_open
+        is_whole = self._rest or "\x1b" in data
         for run in [data] if is_whole else _RUNS.findall(data):
             self._feed_run(run)
 
@@ -169,54 +160,63 @@ class Parser(Vt100Parser):
         came = data.encode("utf-8", "surrogateescape")
         if data.isprintable() and not self._rest:
             # Each event is the key of a character, and nothing stays buffered.
-            for event in cast(List[Any], self.parser.parse(came)):
+            for event in cast(List[Any], self.parser.feed(came)):
                 self.feed_key_callback(KeyPress(event.key))
             return
-        self.parser.feed(came)
+        # What memory was refused for comes first.
+        self._give()
+        now, size = millis_of_now(None), len(came)
+        is_ok(library.hed_parser_feed(self.parser.handle, now, came, size), "parser")
         self._rest += came
-        self._give(self._pulled())
-        if part := self.parser.take_paste():
-            self._pasted.append(part)
-        self._keep()
+        self._give()
 
     def timeout(self) -> Optional[float]:
-        """Returns how many seconds to wait for more text, None for ever. If none came, `expire` is
+        """Returns how many seconds to wait for more text, None for ever. If none came, `idle` is
         called."""
         return self.parser.timeout()
 
-    def expire(self) -> None:
+    def idle(self) -> None:
         """Reads as keys what has waited for as long as `timeout` said."""
-        self._give_all(self.parser.expire())
+        library.hed_parser_idle(self.parser.handle, millis_of_now(None))
+        self._give()
 
     def flush(self) -> None:
         """Reads all that is buffered as keys, but for an open paste."""
-        self._give_all(self.parser.flush())
+        library.hed_parser_flush(self.parser.handle)
+        self._give()
 
-    def _pulled(self) -> Iterator[Tuple[ExtendedEvent, str]]:
-        """The events that are next, each with its text."""
-        self.parser.reading = _READING
-        for event in self.parser:
-            left = len(self._rest) - self.parser.waiting_len
-            yield event, self._rest[:left].decode("utf-8", "surrogateescape")
-            self._rest = self._rest[left:]
+    def end(self) -> None:
+        """Reads all that is buffered. An open paste ends where it is."""
+        library.hed_parser_end(self.parser.handle)
+        self._give()
 
-    def _give_all(self, events: List[ExtendedEvent]) -> None:
-        """Gives events of what stayed buffered."""
-        sent = self._rest.decode("utf-8", "surrogateescape")
-        self._give((event, sent) for event in events)
-        self._keep()
-
-    def _keep(self) -> None:
-        """Keeps the bytes that are buffered."""
-        self._rest = self._rest[max(0, len(self._rest) - self.parser.waiting_len) :]
-
-    def _give(self, events: Iterable[Tuple[ExtendedEvent, str]]) -> None:
-        for event, sent in events:
-            for key_press in self._key_presses(event, sent):
+    def _give(self) -> None:
+        """Gives the keys of all events, one by one: what each was sent as isn't buffered behind
+        it."""
+        handle, raw = self.parser.handle, self._raw
+        while is_ok(library.hed_parser_next(handle, raw), "parser"):
+            taken = len(self._rest) - library.hed_parser_waiting_len(handle)
+            sent = self._rest[:taken].decode("utf-8", "surrogateescape")
+            self._rest = self._rest[taken:]
+            for key_press in self._key_presses(self._event(), sent):
                 self.feed_key_callback(key_press)
 
-    def _key_presses(self, event: ExtendedEvent, sent: str) -> List[KeyPress]:
+    def _event(self) -> Event:
+        """The event that the library told."""
+        record, length = bytes(self._raw), self._raw.text_len
+        if not length:
+            return _events[record]
+        text = ctypes.create_string_buffer(length)
+        library.hed_parser_text(self.parser.handle, text, length)
+        return _events[record + text.raw]
+
+    def _key_presses(self, event: Event, sent: str) -> List[KeyPress]:
         """What prompt_toolkit gets for an event. The text that was sent goes with its first key."""
+        if isinstance(event, KeyReport) and typed_text(event):
+            return [KeyPress(it, it) for it in event.text]
+        if isinstance(event, PastePart):
+            self._pasted.append(event.text)
+            return []
         if isinstance(event, Paste):
             text = "".join([*self._pasted, event.text])
             self._pasted.clear()
@@ -224,15 +224,14 @@ class Parser(Vt100Parser):
         if isinstance(event, MouseReport):
             return [KeyPress(Keys.Vt100MouseEvent, sent)]
         if isinstance(event, CursorPosition):
+            self.parser.expect_position()
             return [KeyPress(Keys.CPRResponse, f"\x1b[{event.row};{event.column}R")]
-        if isinstance(event, KeyReport) and typed_text(event):
-            return [KeyPress(it, it) for it in event.text]
         keys = self._keys(event, sent)
         if len(keys) == 2 and sent not in ANSI_SEQUENCES:
             return [KeyPress(keys[0], "\x1b"), KeyPress(keys[1], _data(keys[1], sent[1:]))]
         return [KeyPress(key, "" if at else _data(key, sent)) for at, key in enumerate(keys)]
 
-    def _keys(self, event: ExtendedEvent, sent: str) -> Tuple[AnyKey, ...]:
+    def _keys(self, event: Event, sent: str) -> Tuple[AnyKey, ...]:
         keys = _keys_of_report(event) if isinstance(event, KeyReport) else ()
         if sent in ANSI_SEQUENCES and (keys == _IGNORED or _is_other_key(event)):
             found = ANSI_SEQUENCES[sent]
@@ -257,8 +256,10 @@ class Input(Vt100Input):
         """Returns the keys of what can be read, and those that are due."""
         keys = super().read_keys()
         if self.closed:
-            self._parser.flush()
-            return keys + super().read_keys()
+            # If memory is refused for the rest, these keys aren't lost.
+            self._buffer = keys
+            self._parser.end()
+            return super().read_keys()
         self._call_in_time()
         return keys
 

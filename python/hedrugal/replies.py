@@ -1,93 +1,79 @@
 r"""What a terminal's replies say, in values: its attributes, the state of a mode, a colour, its
 name and version, its size, its colour scheme, and what is in the clipboard.
 
-    >>> from hedrugal import ExtendedParser
-    >>> with ExtendedParser() as parser:
-    ...     for event in parser.parse(b"\x1b[?62;4c\x1b[8;24;80t\x1bP>|foot(1.13.1)\x1b\\"):
+    >>> from hedrugal import Parser
+    >>> with Parser() as parser:
+    ...     for event in parser.feed(b"\x1b[?62;4c\x1b[8;24;80t\x1bP>|foot(1.13.1)\x1b\\"):
     ...         print(reply(event))
     DeviceAttributesReply(report=DeviceAttributes.PRIMARY, numbers=(62, 4))
     WindowSizeReply(rows=24, columns=80)
     VersionReply(text='foot(1.13.1)')
 
-A program imports these names from the package hedrugal. "Replies" of docs/EXTENDED.md says which
-bytes are a reply."""
+"Replies" of docs/EXTENDED.md says which bytes are a reply."""
 from __future__ import annotations
 
 import ctypes
 from dataclasses import dataclass
-from typing import Any, Dict, List, Optional, Tuple, Union
+from typing import Any, Optional, Tuple, Union
 
-from . import (
-    _BYTES,
-    _KIND_CSI,
-    _KIND_DCS,
-    _KIND_OSC,
-    _STATUS,
-    _borrowed,
-    _declare,
-    _fault,
-    _is_ok,
-    _library,
-    _Named,
-    _number,
+from ._library import RawReply, borrowed, fault, is_ok, library
+from ._numbers import (
+    REPLY_CLIPBOARD,
+    REPLY_COLOUR,
+    REPLY_COLOUR_SCHEME,
+    REPLY_DEVICE_ATTRIBUTES,
+    REPLY_MODE,
+    REPLY_VERSION,
+    REPLY_WINDOW_SIZE,
+    Named,
+    numbered,
 )
-from .extended import Csi, Dcs, ExtendedEvent, Osc
-
-# The kinds of replies.
-# numbers.txt: reply private
-_REPLY_DEVICE_ATTRIBUTES = 1
-_REPLY_MODE = 2
-_REPLY_COLOUR = 3
-_REPLY_VERSION = 4
-_REPLY_WINDOW_SIZE = 5
-_REPLY_COLOUR_SCHEME = 6
-_REPLY_CLIPBOARD = 7
-# numbers.txt: end
+from .events import KINDS, Csi, Dcs, Event, Osc
 
 
-class DeviceAttributes(_Named):
+class DeviceAttributes(Named):
     """Which report of a terminal's attributes it is."""
 
     # numbers.txt: device_attributes member
-    PRIMARY = _number(
+    PRIMARY = numbered(
         1,
         "DA1: the class of the terminal, such as 62 for a VT220, and what it can do, such as 4 "
         "for sixels.",
     )
-    SECONDARY = _number(2, "DA2: the type of the terminal, its version, and 0.")
-    TERTIARY = _number(3, "DA3: the bytes of the unit's number, mostly four.")
+    SECONDARY = numbered(2, "DA2: the type of the terminal, its version, and 0.")
+    TERTIARY = numbered(3, "DA3: the bytes of the unit's number, mostly four.")
     # numbers.txt: end
 
 
-class ModeState(_Named):
+class ModeState(Named):
     """The state of a mode."""
 
     # numbers.txt: mode_state member
-    NOT_RECOGNIZED = _number(0, "The terminal doesn't know the mode.")
-    SET = _number(1, "The mode is on.")
-    RESET = _number(2, "The mode is off.")
-    PERMANENTLY_SET = _number(3, "The mode is on and can't be switched off.")
-    PERMANENTLY_RESET = _number(4, "The mode is off and can't be switched on.")
+    NOT_RECOGNIZED = numbered(0, "The terminal doesn't know the mode.")
+    SET = numbered(1, "The mode is on.")
+    RESET = numbered(2, "The mode is off.")
+    PERMANENTLY_SET = numbered(3, "The mode is on and can't be switched off.")
+    PERMANENTLY_RESET = numbered(4, "The mode is off and can't be switched on.")
     # numbers.txt: end
 
 
-class ColourName(_Named):
+class ColourName(Named):
     """Which colour a reply is about."""
 
     # numbers.txt: colour_name member
-    PALETTE = _number(4, "A colour of the palette, by its index.")
-    FOREGROUND = _number(10, "The colour of text.")
-    BACKGROUND = _number(11, "The colour behind text.")
-    CURSOR = _number(12, "The colour of the cursor.")
+    PALETTE = numbered(4, "A colour of the palette, by its index.")
+    FOREGROUND = numbered(10, "The colour of text.")
+    BACKGROUND = numbered(11, "The colour behind text.")
+    CURSOR = numbered(12, "The colour of the cursor.")
     # numbers.txt: end
 
 
-class ColourScheme(_Named):
+class ColourScheme(Named):
     """The colour scheme that the terminal's user prefers."""
 
     # numbers.txt: colour_scheme member
-    DARK = _number(1, "Bright text on a dark background.")
-    LIGHT = _number(2, "Dark text on a bright background.")
+    DARK = numbered(1, "Bright text on a dark background.")
+    LIGHT = numbered(2, "Dark text on a bright background.")
     # numbers.txt: end
 
 
@@ -170,77 +156,34 @@ Reply = Union[
 ]
 
 
-# The struct of hedrugal.h.
-class _RawReply(ctypes.Structure):
-    _fields_ = [
-        ("kind", ctypes.c_uint8),
-        ("report", ctypes.c_uint8),
-        ("state", ctypes.c_uint8),
-        ("is_private", ctypes.c_bool),
-        ("name", ctypes.c_uint8),
-        ("scheme", ctypes.c_uint8),
-        ("selection", ctypes.c_uint8),
-        ("index", ctypes.c_uint16),
-        ("red", ctypes.c_uint16),
-        ("green", ctypes.c_uint16),
-        ("blue", ctypes.c_uint16),
-        ("rows", ctypes.c_uint16),
-        ("columns", ctypes.c_uint16),
-        ("mode", ctypes.c_uint32),
-        ("len", ctypes.c_size_t),
-    ]
-
-
-# The call of hedrugal.h: the type of the result, and those of the arguments.
-_CALLS: Dict[str, Tuple[Any, List[Any]]] = {
-    "hed_read_reply": (
-        _STATUS,
-        [
-            ctypes.c_uint8,
-            _BYTES,
-            ctypes.c_size_t,
-            ctypes.POINTER(_RawReply),
-            ctypes.POINTER(ctypes.c_uint32),
-            ctypes.c_size_t,
-            _BYTES,
-            ctypes.c_size_t,
-        ],
-    ),
-}
-_declare(_library, _CALLS)
-
-# The events that may be replies.
-_kinds = {Csi: _KIND_CSI, Osc: _KIND_OSC, Dcs: _KIND_DCS}
-
-
-def _reply(raw: _RawReply, numbers: Any, out: bytearray) -> Reply:
-    if raw.kind == _REPLY_DEVICE_ATTRIBUTES:
+def _reply(raw: RawReply, numbers: Any, out: bytearray) -> Reply:
+    if raw.kind == REPLY_DEVICE_ATTRIBUTES:
         return DeviceAttributesReply(DeviceAttributes(raw.report), tuple(numbers[: raw.len]))
-    if raw.kind == _REPLY_MODE:
+    if raw.kind == REPLY_MODE:
         return ModeReply(raw.mode, raw.is_private, ModeState(raw.state))
-    if raw.kind == _REPLY_COLOUR:
+    if raw.kind == REPLY_COLOUR:
         name = ColourName(raw.name)
         index = raw.index if name is ColourName.PALETTE else None
         return ColourReply(name, Colour(raw.red, raw.green, raw.blue), index)
-    if raw.kind == _REPLY_VERSION:
+    if raw.kind == REPLY_VERSION:
         return VersionReply(out[: raw.len].decode("utf-8", "replace"))
-    if raw.kind == _REPLY_WINDOW_SIZE:
+    if raw.kind == REPLY_WINDOW_SIZE:
         return WindowSizeReply(raw.rows, raw.columns)
-    if raw.kind == _REPLY_COLOUR_SCHEME:
+    if raw.kind == REPLY_COLOUR_SCHEME:
         return ColourSchemeReply(ColourScheme(raw.scheme))
-    if raw.kind == _REPLY_CLIPBOARD:
+    if raw.kind == REPLY_CLIPBOARD:
         selection = chr(raw.selection) if raw.selection else None
         return ClipboardReply(selection, bytes(out[: raw.len]))
-    _fault()
+    fault()
 
 
-def reply(event: ExtendedEvent) -> Optional[Reply]:
+def reply(event: Event) -> Optional[Reply]:
     r"""Returns what a terminal's reply says, if the event is one: a Csi, an Osc or a Dcs. Returns
     None for any other event.
 
-        >>> from hedrugal import ExtendedParser
-        >>> with ExtendedParser() as parser:
-        ...     events = parser.parse(b"\x1b[?2004;1$y\x1b]52;c;Y2xpcA==\x07q")
+        >>> from hedrugal import Parser
+        >>> with Parser() as parser:
+        ...     events = parser.feed(b"\x1b[?2004;1$y\x1b]52;c;Y2xpcA==\x07q")
         >>> for event in events:
         ...     print(reply(event))
         ModeReply(mode=2004, is_private=True, state=ModeState.SET)
@@ -251,13 +194,13 @@ def reply(event: ExtendedEvent) -> Optional[Reply]:
     their own. Raises MemoryError if memory is refused."""
     if not isinstance(event, (Csi, Osc, Dcs)):
         return None
-    data, length = _borrowed(event.data)
+    data, length = borrowed(event.data)
     # There are never more numbers or bytes than bytes of the event.
     out = bytearray(length)
     numbers = (ctypes.c_uint32 * length)()
-    raw = _RawReply()
-    place, size = _borrowed(out)
-    answer = _library.hed_read_reply(
-        _kinds[type(event)], data, length, raw, numbers, length, place, size
+    raw = RawReply()
+    place, size = borrowed(out)
+    answer = library.hed_read_reply(
+        KINDS[type(event)], data, length, raw, numbers, length, place, size
     )
-    return _reply(raw, numbers, out) if _is_ok(answer, "reply") else None
+    return _reply(raw, numbers, out) if is_ok(answer, "reply") else None

@@ -1,90 +1,57 @@
 """What the page shows, as values for JSON. The library alone decides what bytes mean: this module
-asks it, and names its answers as the program keyshow does."""
+asks it, and names its answers as the program hedrugal-keys does."""
 from __future__ import annotations
 
 import itertools
 import re
-from typing import Any, Callable, Dict, Iterable, Iterator, List, Optional, Tuple, Union
+from typing import Any, Dict, Iterable, List, Optional, Tuple
 
 from hedrugal import (
     Apc,
     Chord,
     Completions,
     Csi,
-    CursorPosition,
     Dcs,
-    Dialect,
     EncodeError,
     Entry,
     Event,
-    ExtendedEvent,
-    ExtendedParser,
-    FocusGained,
-    FocusLost,
     Function,
-    InputParser,
     Key,
     KeyboardEncoding,
-    KeyboardFlags,
     KeyCode,
     KeyCodeEncodeModes,
-    KeyEvent,
-    KeyEventKind,
     KeyNameError,
     KeyPress,
     KeyReport,
     KittyKeyboardFlags,
     KittyModifiers,
     Modifiers,
-    MouseEvent,
-    MouseButtons,
-    MouseKind,
     MouseReport,
     Osc,
-    Paste,
+    Parser,
     ReportedKey,
-    Resize,
     StringCut,
-    StringKind,
-    StringPart,
     Waiting,
     __version__,
-    _KIND_STRING_PART,
     encode,
     encode_event,
 )
+
+from .lines import KEY_NAMES, SHOWN, glyphs, key_line, key_name, line, press_name, set_name
+from .lines import waiting_name
+from .reader import READINGS, Reader, acts, finish
 
 # The items that one answer lists, the reads of one byte that it lists, and the events that it lists
 # of a read.
 ITEMS, STEPS, LINES = 300, 300, 40
 # How many bytes are read in pieces too, to compare the events.
 COMPARED = 1 << 14
-# The bytes and the characters of a text that are shown.
-SHOWN = 24
+
 # How many keys are named that bytes may become.
 NAMED = 6
 
 # A mouse report, whose ends are tried on what stays buffered.
 REPORT = b"\x1b[<0;3;4M"
-
-# What may come after the bytes: more bytes, nothing (a flush), or nothing and the end of an open
-# paste.
-ENDS = ("more", "flush", "paste")
-
-AnyParser = Union[InputParser, ExtendedParser]
-
-# An event of either parser.
-AnyEvent = Union[Event, ExtendedEvent]
-
-# How the bytes are read, and what makes the parser: by the sequence table alone, as termwiz reads
-# them, or all that terminals send.
-READINGS: Dict[str, Callable[[], AnyParser]] = {
-    "table": InputParser,
-    "extended": ExtendedParser,
-}
-
-# How an event is written in each reading.
-DIALECTS = {"table": Dialect.TERMWIZ, "extended": Dialect.EXTENDED}
 
 # What bytes may begin that begin no entry of the sequence table, by the event that they become; and
 # what may end them. The end of a string may come after the rest of its opening.
@@ -94,247 +61,46 @@ ENDINGS = [b"\\", b"\x1b\\", b"\a", b"A", b"P", b"2P", b";2P"] + [
     it[at:] for it in STRINGS for at in range(len(it) - 1)
 ]
 
-# What introduces a string. An event has the bytes after it.
-INTRODUCERS = {StringKind.OSC: b"\x1b]", StringKind.DCS: b"\x1bP", StringKind.APC: b"\x1b_"}
-
 Json = Dict[str, Any]
-
-
-# What keyshow calls the keys: UpArrow is KeyCode.UP_ARROW.
-KEY_NAMES = {code: code.name.title().replace("_", "") for code in KeyCode}
 
 
 class Wrong(ValueError):
     """A request names something that isn't there."""
 
 
-def key_name(key: ReportedKey) -> str:
-    """The name of a key: `U+0041` for a character, `F5`, `UpArrow`, `functional 57414` for one
-    without a name."""
-    if isinstance(key, Function):
-        return f"F{key.number}"
-    if isinstance(key, KeyCode):
-        return KEY_NAMES[key]
-    return f"U+{ord(key):04X}" if isinstance(key, str) else f"functional {key}"
-
-
-def set_name(flags: Any) -> str:
-    """The names of the flags of a set."""
-    return (
-        "+".join(str(flag.name) for flag in type(flags) if flag.value and flag.value & flags.value)
-        or "NONE"
-    )
-
-
-def waiting_name(kind: Waiting) -> str:
-    return kind.name.title()
-
-
-def key_line(key: ReportedKey, modifiers: Union[Modifiers, KittyModifiers]) -> str:
-    return f"key {key_name(key)} {set_name(modifiers)}"
-
-
-def text_line(name: str, text: bytes) -> str:
-    """The number of the bytes of a text, and the first of them."""
-    return f"{name} {len(text)}:{text[:SHOWN].hex()}{'…' if len(text) > SHOWN else ''}"
-
-
-def report_line(report: KeyReport) -> str:
-    """The line of a key. What a press of the key alone doesn't tell is named behind it."""
-    kind = report.kind.name.lower()
-    parts = [key_line(report.key, report.modifiers)]
-    parts += [kind] if report.kind is not KeyEventKind.PRESS else []
-    parts += [f"shifted {key_name(report.shifted)}"] if report.shifted is not None else []
-    parts += [f"base {key_name(report.base)}"] if report.base is not None else []
-    parts += [text_line("text", report.text.encode())] if report.text else []
-    return " ".join(parts)
-
-
-def mouse_line(report: MouseReport) -> str:
-    """The line of a mouse report: that of the mouse event, and what else it tells."""
-    place = f"mouse {report.x} {report.y} {set_name(report.buttons)} {set_name(report.modifiers)}"
-    button = "" if report.button is None else f" {report.button}"
-    return f"{place} {report.kind.name.lower()}{button}"
-
-
-# The lines of the events that the sequence table doesn't know.
-EXTENDED_LINES: Dict[type, Callable[[Any], str]] = {
-    KeyReport: report_line,
-    FocusGained: lambda _: "focus gained",
-    FocusLost: lambda _: "focus lost",
-    CursorPosition: lambda it: f"cursor {it.row} {it.column}",
-    Resize: lambda it: f"resize {it.rows} {it.columns} {it.height} {it.width}",
-    KeyboardFlags: lambda it: f"keyboard flags {it.flags.value | it.unnamed}",
-    Csi: lambda it: text_line("csi", it.data),
-    Osc: lambda it: text_line("osc", it.data),
-    Dcs: lambda it: text_line("dcs", it.data),
-    Apc: lambda it: text_line("apc", it.data),
-    StringPart: lambda it: text_line(f"{it.kind.name.lower()} part", it.data),
-    StringCut: lambda it: text_line(f"{it.kind.name.lower()} cut", it.data),
-    MouseReport: mouse_line,
-}
-
-
-def line(event: AnyEvent) -> str:
-    """The line that keyshow prints for an event, or else the one that hedrugal-keys shows. A long
-    text is cut."""
-    if isinstance(event, KeyEvent):
-        return key_line(event.key, event.modifiers)
-    if isinstance(event, MouseEvent):
-        return f"mouse {event.x} {event.y} {set_name(event.buttons)} {set_name(event.modifiers)}"
-    if isinstance(event, Paste):
-        return text_line("paste", event.text.encode())
-    return EXTENDED_LINES[type(event)](event)
-
-
-def glyphs(event: AnyEvent) -> str:
-    """The character of a key, or the beginning of the text that an event brings, as far as they can
-    be printed."""
-    if isinstance(event, KeyReport) and event.text:
-        return printed(event.text)
-    if isinstance(event, (KeyEvent, KeyReport)):
-        return event.key if isinstance(event.key, str) and event.key.isprintable() else ""
-    if isinstance(event, Paste):
-        return printed(event.text)
-    return (
-        printed(event.data.decode(errors="replace"))
-        if isinstance(event, (Csi, Osc, Dcs, Apc, StringPart, StringCut))
-        else ""
-    )
-
-
-def press_name(event: AnyEvent) -> str:
-    """The name of an event's press, and that of its second press. Empty if it has none."""
-    press = KeyPress.of_event(event)
-    second = KeyPress.second(event) if isinstance(event, KeyReport) else None
-    return " or ".join(str(it) for it in (press, second) if it)
-
-
-def printed(text: str) -> str:
-    shown = "".join(it if it.isprintable() else " " for it in text[:SHOWN])
-    return shown + ("…" if len(text) > SHOWN else "")
-
-
-def written(event: AnyEvent, reading: str) -> Json:
+def written(event: Event, reading: str) -> Json:
     """What an event is written as, to be read as it in this reading: the first of its bytes and
     their number, or why there are none."""
     try:
-        with ExtendedParser(DIALECTS[reading]) as parser:
-            data = encode_event(as_extended(event), parser)
+        with READINGS[reading]() as parser:
+            data = encode_event(event, parser)
     except EncodeError as error:
         return {"why": str(error)}
     return {"bytes": data[:SHOWN].hex(), "length": len(data)}
 
 
-# The modifiers of a key event, and what they are in a report.
-REPORTED = {Modifiers[it]: KittyModifiers[it] for it in ("SHIFT", "ALT", "CTRL", "SUPER")}
-# What a mouse report tells besides where some buttons are down.
-PRESSED = {MouseButtons.LEFT: 1, MouseButtons.MIDDLE: 2, MouseButtons.RIGHT: 3}
-WHEELS = (
-    MouseButtons.VERT_WHEEL | MouseButtons.WHEEL_POSITIVE,
-    MouseButtons.VERT_WHEEL,
-    MouseButtons.HORZ_WHEEL | MouseButtons.WHEEL_POSITIVE,
-    MouseButtons.HORZ_WHEEL,
-)
-
-
-def as_extended(event: AnyEvent) -> ExtendedEvent:
-    """An event of the table as an ExtendedParser has it. What an event of the mouse doesn't tell is
-    taken from a report that has this event."""
-    if isinstance(event, KeyEvent):
-        held = KittyModifiers.NONE
-        for modifier, reported in REPORTED.items():
-            held |= reported if modifier & event.modifiers else KittyModifiers.NONE
-        return KeyReport(event.key, held)
-    if not isinstance(event, MouseEvent):
-        return event
-    place = event.x, event.y, event.modifiers, event.buttons
-    if event.buttons in PRESSED:
-        return MouseReport(*place, MouseKind.PRESS, PRESSED[event.buttons])
-    if event.buttons in WHEELS:
-        return MouseReport(*place, MouseKind.WHEEL, 4 + WHEELS.index(event.buttons))
-    return MouseReport(*place, MouseKind.MOVE)
-
-
-def item(length: int, event: AnyEvent, reading: str) -> List[Any]:
+def item(length: int, event: Event, reading: str) -> List[Any]:
     """How many bytes an event consumed, and what is shown of it."""
     return [length, line(event), glyphs(event), press_name(event), written(event, reading)]
-
-
-def opening(part: StringPart) -> int:
-    """How many bytes opened the string of a part: they are buffered once more before the rest."""
-    string = iter(INTRODUCERS[part.kind] + part.data)
-    with ExtendedParser() as parser:
-        while parser.waiting is not Waiting.STRING:
-            parser.parse(bytes([next(string)]))
-        return parser.waiting_len
-
-
-class Reader:
-    """A parser that takes events one by one, and knows how many bytes each of them consumed."""
-
-    def __init__(self, reading: str) -> None:
-        self.parser = READINGS[reading]()
-        # The last event, if it was the part of a string. It leaves the opening in the buffer.
-        self.part: Optional[StringPart] = None
-
-    def left(self) -> int:
-        """How many of the buffered bytes belong to no event."""
-        return self.parser.waiting_len - (opening(self.part) if self.part else 0)
-
-    def items(self, more: bool) -> Iterator[Tuple[int, AnyEvent]]:
-        """The events that are next, each with the number of bytes that it consumed."""
-        before = self.left()
-        while True:
-            event = self.parser.next_event(more)
-            if event is None:
-                return
-            self.part = event if isinstance(event, StringPart) else None
-            after = self.left()
-            yield before - after, event
-            before = after
-
-    def skip(self, more: bool, most: int) -> int:
-        """Consumes at most so many events, without making them, and returns how many there were."""
-        parser = self.parser
-        if isinstance(parser, InputParser):
-            return parser._skip(more, most)
-        count = 0
-        while count < most and parser._find_front(more):
-            is_part = parser._front.kind == _KIND_STRING_PART
-            event = parser._front_event() if is_part else None
-            self.part = event if isinstance(event, StringPart) else None
-            parser._leave_front()
-            count += 1
-        return count
-
-
-def finish(parser: AnyParser, end: str) -> List[AnyEvent]:
-    """The events that come of the end of the input."""
-    if end == "more":
-        return []
-    events = [*parser.flush()]
-    paste = parser.end_paste() if end == "paste" else None
-    return events + ([paste] if paste else [])
 
 
 def lines(data: bytes, reading: str) -> List[str]:
     """The lines of the events of these bytes, if no more come."""
     with READINGS[reading]() as parser:
-        return [line(event) for event in parser.parse(data, False)]
+        return [line(event) for event in (*parser.feed(data), *parser.flush())]
 
 
 def became(
     rest: bytes, ends: Iterable[bytes], kind: Tuple[type, ...], reading: str
-) -> Optional[Tuple[bytes, AnyEvent]]:
+) -> Optional[Tuple[bytes, Event]]:
     """The rest and one of these ends, if the library reads an event of this kind from the rest on,
     and the event. None if it does so with none of the ends. Before the event there may be an Escape
     key, and nothing else."""
     reader = Reader(reading)
     with reader.parser as parser:
         for end in ends:
-            parser.feed(rest + end)
-            for length, event in itertools.islice(reader.items(True), 2):
+            reader.feed(rest + end)
+            for length, event in itertools.islice(reader.items(), 2):
                 if isinstance(event, kind) and length > len(end) and not parser.waiting_len:
                     return rest + end, event
             parser.reset()
@@ -343,8 +109,9 @@ def became(
 
 def completions(rest: bytes) -> Completions:
     """The entries of the sequence table that would complete these bytes."""
-    with InputParser() as parser:
-        parser.feed(rest)
+    reader = Reader("table")
+    with reader.parser as parser:
+        reader.feed(rest)
         return parser.completions()
 
 
@@ -435,13 +202,13 @@ def encoded_kitty(report: KeyReport, flags: KittyKeyboardFlags) -> Optional[byte
 
 
 def read_back(
-    data: Optional[bytes], parser: AnyParser, wanted: Optional[KeyPress]
+    data: Optional[bytes], parser: Parser, wanted: Optional[KeyPress]
 ) -> Optional[List[Any]]:
     """The bytes of a key, the lines of what the library reads in them, its name, and whether it is
     the wanted press."""
     if data is None:
         return None
-    events = parser.parse(data, False)
+    events = [*parser.feed(data), *parser.flush()]
     names = [press_name(event) or "no press" for event in events]
     is_same = [KeyPress.of_event(event) for event in events] == [wanted]
     parser.reset()
@@ -453,7 +220,7 @@ def key_texts(key: ReportedKey, held: KittyModifiers) -> Json:
     the library reads in them."""
     report = report_of(key, held)
     wanted = KeyPress.of_report(report)
-    with ExtendedParser() as parser:
+    with Parser() as parser:
         return {
             "line": key_line(key, held),
             "press": str(wanted) if wanted else "",
@@ -507,7 +274,7 @@ class Meanings:
     """Answers what bytes mean. The sequence table is read once."""
 
     def __init__(self) -> None:
-        with InputParser() as parser:
+        with Parser() as parser:
             self.entries: List[Entry] = list(parser.entries())
         self.start = next(
             entry.bytes for entry in self.entries if entry.key is KeyCode.INTERNAL_PASTE_START
@@ -533,26 +300,22 @@ class Meanings:
         """The items of the bytes from the first one on, how many there are, and what stays
         buffered."""
         reader = Reader(reading)
-        with reader.parser as parser:
-            parser.feed(data)
+        with reader.parser:
+            reader.feed(data)
             count = at = 0
             listed: List[Any] = []
             flushed = None
-            for more in (True,) if end == "more" else (True, False):
-                if not more:
-                    flushed = count
-                count += reader.skip(more, max(0, first - count))
+            for act in (None, *acts(end)):
+                if act:
+                    flushed = count if flushed is None else flushed
+                    act(reader)
+                count += reader.skip(max(0, first - count))
                 if not listed:
                     at = len(data) - reader.left()
-                for length, event in itertools.islice(reader.items(more), ITEMS - len(listed)):
+                for length, event in itertools.islice(reader.items(), ITEMS - len(listed)):
                     listed.append(item(length, event, reading))
                     count += 1
-                count += reader.skip(more, len(data))
-            if end == "paste" and parser.is_paste_open:
-                length, paste = parser.waiting_len, parser.end_paste()
-                if paste and count >= first and len(listed) < ITEMS:
-                    listed.append(item(length, paste, reading))
-                count += 1
+                count += reader.skip(len(data))
             waits = self.waits(reader, data, reading)
         return {
             "bytes": len(data),
@@ -567,13 +330,13 @@ class Meanings:
     def waits(self, reader: Reader, data: bytes, reading: str) -> Optional[Json]:
         """What stays buffered, what it may become, and what a flush makes of it. The flush is made
         here."""
-        parser, kind, length = reader.parser, reader.parser.waiting, reader.left()
+        kind, length = reader.parser.waiting, reader.left()
         if kind is Waiting.NOTHING:
             return None
         told: Json = {"kind": waiting_name(kind), "length": length}
         if kind is Waiting.PASTE:
-            paste = parser.end_paste()
-            ended = [line(paste)] if paste else []
+            reader.end()
+            ended = [line(event) for _, event in reader.items()]
             told.update(
                 text=length - len(self.start),
                 start=self.start.hex(),
@@ -587,21 +350,22 @@ class Meanings:
             told.update(self.may_become(rest, reading))
         if kind is Waiting.ESCAPE:
             told["alt"] = [(rest + b"q").hex(), *lines(rest + b"q", reading)]
-        events = [event for _, event in itertools.islice(reader.items(False), LINES)]
+        reader.flush()
+        events = [event for _, event in itertools.islice(reader.items(), LINES)]
         if isinstance(events[0], StringCut):
             told["begins"] = events[0].kind.name.lower()
         flushed = [line(event) for event in events]
-        told.update(flushed=flushed, emits=len(flushed) + reader.skip(False, length))
+        told.update(flushed=flushed, emits=len(flushed) + reader.skip(length))
         return told
 
     def may_become(self, rest: bytes, reading: str) -> Json:
         """What the beginning of a sequence may become: entries of the table, of which some are
         named, what else it begins, a mouse report."""
         found = completions(rest)
-        begun = became(rest, ENDINGS, tuple(BEGUN), reading)
-        mouse = became(
-            rest, (REPORT[at:] for at in range(len(REPORT))), (MouseEvent, MouseReport), reading
-        )
+        # What isn't in the table, the table's reading can't read.
+        is_all = reading == "extended"
+        begun = became(rest, ENDINGS, tuple(BEGUN), reading) if is_all else None
+        mouse = became(rest, (REPORT[at:] for at in range(len(REPORT))), (MouseReport,), reading)
         return {
             "count": len(found.entries),
             "with_alt": found.with_alt,
@@ -635,12 +399,12 @@ class Meanings:
         """The same bytes in reads of one byte, and whether the events are those of one read."""
         head, end = self.head(data, end)
         with READINGS[reading]() as parser:
-            wanted = [*parser.parse(head), *finish(parser, end)]
+            wanted = [*parser.feed(head), *finish(parser, end)]
             parser.reset()
             steps: List[List[Any]] = []
-            events: List[AnyEvent] = []
+            events: List[Event] = []
             for at in range(len(head)):
-                came = parser.parse(head[at : at + 1])
+                came = parser.feed(head[at : at + 1])
                 events += came
                 if at < STEPS:
                     steps.append([parser.waiting_len, *map(line, came)])
@@ -661,11 +425,11 @@ class Meanings:
         head, end = self.head(data, end)
         at = min(at, len(head))
         with READINGS[reading]() as parser:
-            wanted = [*parser.parse(head), *finish(parser, end)]
+            wanted = [*parser.feed(head), *finish(parser, end)]
             parser.reset()
-            first = [*parser.parse(head[:at])]
+            first = [*parser.feed(head[:at])]
             kind, length = waiting_name(parser.waiting), parser.waiting_len
-            second = [*parser.parse(head[at:]), *finish(parser, end)]
+            second = [*parser.feed(head[at:]), *finish(parser, end)]
         reads = [
             {"events": len(it), "lines": [line(event) for event in it[:LINES]]}
             for it in (first, second)

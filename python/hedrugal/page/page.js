@@ -440,8 +440,8 @@ function flush(end, focus) {
 
 // What each reading is for, and the parser of a report.
 const READINGS = {
-  table: { means: 'An InputParser reads so, as termwiz does. Replies and reports are typed text to it.' },
-  extended: { means: 'An ExtendedParser reads so: keys in any mode, replies and reports.', parser: 'ExtendedParser, Dialect::Extended' },
+  table: { means: 'A Parser of Dialect.TERMWIZ reads so, as termwiz does. Replies and reports are typed text to it.' },
+  extended: { means: 'A Parser reads so: keys in any mode, replies and reports.', parser: 'Parser, Dialect::Extended' },
 };
 
 // Says what the reading is for. The links of the page keep it.

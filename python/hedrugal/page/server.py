@@ -18,7 +18,8 @@ from http.server import BaseHTTPRequestHandler, ThreadingHTTPServer
 from typing import Any, Dict, Iterable, List, Optional, Tuple
 from urllib.parse import SplitResult, parse_qs, urlsplit
 
-from .meanings import ENDS, READINGS, Meanings, Wrong, texts
+from .meanings import Meanings, Wrong, texts
+from .reader import ENDS, READINGS
 
 ADDRESS = "127.0.0.1"
 # The bytes that a request may have, and the bytes and the seconds for which one that was refused is

@@ -1,4 +1,4 @@
-"""What an ExtendedParser reads beyond an InputParser, and key reports to bytes."""
+"""What a parser reads, and key reports to bytes."""
 import contextlib
 import dataclasses
 import itertools
@@ -8,7 +8,6 @@ from unittest import mock
 
 import pytest
 
-import hedrugal
 from hedrugal import (
     Apc,
     Csi,
@@ -17,14 +16,11 @@ from hedrugal import (
     Dialect,
     EncodeError,
     EraseByte,
-    ExtendedParser,
     FocusGained,
     FocusLost,
     Function,
-    InputParser,
     KeyboardFlags,
     KeyCode,
-    KeyEvent,
     KeyEventKind,
     KeyPress,
     KeyReport,
@@ -32,22 +28,25 @@ from hedrugal import (
     KittyModifiers,
     Modifiers,
     MouseButtons,
-    MouseEvent,
     MouseKind,
     MouseReport,
     NewlineByte,
     Osc,
+    Parser,
     Paste,
     Reading,
-    Resize,
+    Resized,
+    Size,
     StringCut,
     StringKind,
     StringPart,
     Waiting,
-    extended,
     typed_text,
 )
-from helpers import assert_rest, constants, events_in_time, events_of, reported
+from hedrugal._library import RawEvent, RawHandle, RawReading, library
+from hedrugal._numbers import STATUS_BAD_NUMBER
+from hedrugal._records import event_of
+from helpers import all_of, assert_rest, constants, events_in_time
 
 CTRL, SHIFT, ALT = KittyModifiers.CTRL, KittyModifiers.SHIFT, KittyModifiers.ALT
 SUPER = KittyModifiers.SUPER
@@ -105,7 +104,7 @@ CASES = {
         (b"\x1b[?256u", [Csi(b"?256u")]),
     ],
     "size": [
-        (b"\x1b[48;24;80;480;800t", [Resize(rows=24, columns=80, height=480, width=800)]),
+        (b"\x1b[48;24;80;480;800t", [Resized(Size(columns=80, rows=24, width=800, height=480))]),
         (b"\x1b[8;24;80t", [Csi(b"8;24;80t")]),
     ],
     "mouse": [
@@ -515,8 +514,7 @@ ROWS = [
     ),
 ]
 
-# What stays buffered beside what an InputParser buffers, its kind, and the text that it is at a
-# flush.
+# What stays buffered, which termwiz reads as text, and this text.
 RESTS = [
     (b"\x1b[24;8", "[24;8"),
     (b"\x1b[?62;", "[?62;"),
@@ -551,38 +549,34 @@ def cases():
 
 @pytest.fixture
 def parser():
-    with ExtendedParser() as it:
+    with Parser() as it:
         yield it
 
 
 @pytest.fixture
 def termwiz():
-    with ExtendedParser(Dialect.TERMWIZ) as it:
+    with Parser(Dialect.TERMWIZ) as it:
         yield it
 
 
 def read(parser, pieces):
-    """The events of pieces and a flush, after which nothing is buffered and the library keeps no
-    bytes."""
-    events = [event for piece in pieces for event in parser.parse(piece)]
-    events += parser.flush()
+    """The events of pieces and a flush, after which nothing is buffered."""
+    events = all_of(parser, *pieces)
     assert_rest(parser, 0, Waiting.NOTHING)
-    assert hedrugal._library.hed_parser_text(parser._raw, b"", 0) == 0
     return events
 
 
 def test_cases(parser):
     """Each text has its events, whole, byte by byte, and cut in two at each place."""
     for data, events in cases():
-        assert parser.parse(data) + parser.flush() == events, data
+        assert parser.feed(data) + parser.flush() == events, data
         assert read(parser, [data[at : at + 1] for at in range(len(data))]) == events, data
         for place in range(len(data) + 1):
             assert read(parser, [data[:place], data[place:]]) == events, (data, place)
 
 
 def test_cases_in_a_row(parser):
-    """All texts one after another, in pieces of random lengths, have the events of all, also if
-    they are pulled one by one."""
+    """All texts one after another, in pieces of random lengths, have the events of all."""
     data = b"".join(data for data, _ in cases())
     wanted = [event for _, events in cases() for event in events]
     for seed in range(50):
@@ -592,8 +586,6 @@ def test_cases_in_a_row(parser):
             pieces.append(data[at : at + length])
             at += length
         assert read(parser, pieces) == wanted, seed
-    parser.feed(data)
-    assert [*parser, *parser.flush()] == wanted
 
 
 def names(presses):
@@ -606,23 +598,16 @@ def test_rows(parser, reading, data, events, presses, seconds):
     """More may come, and the bytes are cut at each place."""
     for place in range(len(data)):
         parser.reading = reading
-        assert parser.parse(data[:place]) + parser.parse(data[place:]) == events
+        assert parser.feed(data[:place]) + parser.feed(data[place:]) == events
         assert_rest(parser, 0, Waiting.NOTHING)
     assert names([KeyPress.of_event(event) for event in events]) == presses
     reports = [event if isinstance(event, KeyReport) else None for event in events]
     assert names([report and KeyPress.second(report) for report in reports]) == seconds
 
 
-def test_dialect(parser, termwiz):
-    """EXTENDED is the default, and a parser says its dialect."""
-    assert (parser.dialect, termwiz.dialect) == (Dialect.EXTENDED, Dialect.TERMWIZ)
-    with pytest.raises(AttributeError):
-        parser.dialect = Dialect.TERMWIZ
-
-
 def key_entries():
     """The entries of the sequence table that are a key."""
-    with InputParser() as parser:
+    with Parser() as parser:
         entries = [
             entry for entry in parser.entries() if entry.key is not KeyCode.INTERNAL_PASTE_START
         ]
@@ -630,36 +615,13 @@ def key_entries():
     return entries
 
 
-def as_usual(event):
-    """A mouse report without what an InputParser doesn't tell; any other event as it is."""
-    if not isinstance(event, MouseReport):
-        return event
-    return MouseEvent(event.x, event.y, event.buttons, event.modifiers)
-
-
 def test_each_entry_of_the_table(parser, termwiz):
     """With TERMWIZ it is the key of the table. With EXTENDED it is a report, too."""
     for entry in key_entries():
-        wanted = events_of(ExtendedParser, [KeyEvent(entry.key, entry.modifiers)])
-        assert termwiz.parse(entry.bytes, False) == wanted
-        (event,) = parser.parse(entry.bytes, False)
+        held = KittyModifiers(entry.modifiers.value // 2)
+        assert all_of(termwiz, entry.bytes) == [KeyReport(entry.key, held)]
+        (event,) = all_of(parser, entry.bytes)
         assert isinstance(event, KeyReport)
-
-
-def test_termwiz(termwiz):
-    """It reads what an InputParser reads, whatever the other fields of its reading are."""
-    with InputParser() as usual:
-        for reading in (
-            Reading(Dialect.TERMWIZ),
-            Reading(Dialect.TERMWIZ, True, 1, EraseByte.BACKSPACE, NewlineByte.ENTER),
-        ):
-            termwiz.reading = reading
-            for data in (*(data for data, _ in cases()), *(row[1] for row in ROWS)):
-                wanted = [
-                    event if isinstance(event, MouseEvent) else reported(event)
-                    for event in usual.parse(data, False)
-                ]
-                assert [*map(as_usual, termwiz.parse(data, False))] == wanted, data
 
 
 def test_events_are_values():
@@ -673,17 +635,8 @@ def test_events_are_values():
             event.key = event.data = event.row = 1
 
 
-def test_kept_reports(parser):
-    """Of the reports that were made, a bounded number is kept."""
-    assert (
-        len(parser.parse(b"".join(b"\x1b[%d;5:3u" % code for code in range(0x4E00, 0x9000))))
-        == 0x4200
-    )
-    assert extended._key_report.cache_info().currsize < 5000
-
-
 def test_reprs(parser):
-    (event,) = parser.parse(b"\x1b[97:65;6:2;65u")
+    (event,) = parser.feed(b"\x1b[97:65;6:2;65u")
     assert repr(event) == (
         "KeyReport(key='a', modifiers=KittyModifiers.SHIFT|CTRL, kind=KeyEventKind.REPEAT, "
         "shifted='A', text='A')"
@@ -691,7 +644,10 @@ def test_reprs(parser):
     for event, wanted in [
         (FocusGained(), "FocusGained()"),
         (CursorPosition(1, 2), "CursorPosition(row=1, column=2)"),
-        (Resize(1, 2, 3, 4), "Resize(rows=1, columns=2, height=3, width=4)"),
+        (
+            Resized(Size(80, 24, 0, 0)),
+            "Resized(size=Size(columns=80, rows=24, width=0, height=0))",
+        ),
         (
             KeyboardFlags(KittyKeyboardFlags(3)),
             "KeyboardFlags(flags=KittyKeyboardFlags."
@@ -730,7 +686,7 @@ def test_reading(parser, termwiz):
         Reading(newline=NewlineByte.ENTER),
     ):
         parser.reading = reading
-        assert (parser.reading, parser.dialect) == (reading, reading.dialect)
+        assert parser.reading == reading
         parser.reset()
         assert parser.reading == dataclasses.replace(reading, questions=0)
 
@@ -745,7 +701,7 @@ def test_erase_and_newline(parser):
         parser.reading = reading
         for before, held in ((b"", KittyModifiers.NONE), (b"\x1b", ALT)):
             data = b"".join(before + byte for byte in (b"\b", b"\n", b"\x7f"))
-            assert parser.parse(data) == [KeyReport(key, held) for key in (eight, ten, last)]
+            assert parser.feed(data) == [KeyReport(key, held) for key in (eight, ten, last)]
     assert str(KeyPress.of_report(KeyReport("\x7f"))) == "ctrl+backspace"
 
 
@@ -766,38 +722,24 @@ def test_wrong_readings(parser):
             parser.reading = wrong
         assert parser.reading == before
     for wrong in ((2, 0, 0), (0, 2, 0), (0, 0, 2)):
-        raw = extended._RawReading(*wrong, False, 0)
-        answer = hedrugal._library.hed_parser_set_reading(parser._raw, raw)
-        assert answer == hedrugal._STATUS_BAD_NUMBER
+        raw = RawReading(*wrong, False, 0)
+        answer = library.hed_parser_set_reading(parser.handle, raw)
+        assert answer == STATUS_BAD_NUMBER
         assert parser.reading == before
 
 
-def test_readings_of_a_closed_parser():
-    parser = ExtendedParser()
-    parser.close()
-    for call in (
-        lambda: parser.reading,
-        lambda: parser.dialect,
-        lambda: setattr(parser, "reading", Reading()),
-        parser.expect_position,
-        parser.forget_positions,
-    ):
-        with pytest.raises(ValueError, match="closed"):
-            call()
-
-
 def test_what_is_buffered_is_read_anew(parser):
-    """It was fed before the reading changed."""
-    parser.feed(b"\x1b[1;9A\x1b[1;9A\x1b[1;5R\x1b[M !!")
-    assert parser.next_event() == KeyReport(UP, SUPER)
-    parser.reading = Reading(Dialect.TERMWIZ)
-    assert parser.next_event() == KeyReport(UP, ALT)
+    """It was fed before the reading changed, and the next call tells it."""
     parser.reading = Reading(x10_mouse=True)
-    assert [*parser] == [KeyReport(Function(3), CTRL), pressed(1, 1)]
-    assert parser.parse(b"\x1b[M") == []
+    assert parser.feed(b"\x1b[M") == []
     assert_rest(parser, 3, Waiting.SEQUENCE)
     parser.reading = Reading()
-    assert parser.parse(b"") == [Csi(b"M")]
+    assert parser.timeout() == 0
+    assert parser.feed(b"") == [Csi(b"M")]
+    assert parser.feed(b"\x1b]11;") == []
+    parser.reading = Reading(Dialect.TERMWIZ)
+    assert parser.idle() == [KeyReport("]", ALT), *typed("11;")]
+    assert parser.feed(b"\x1b[1;9A") == [KeyReport(UP, ALT)]
 
 
 X10 = [
@@ -852,13 +794,13 @@ MOUSE = {
 @pytest.mark.parametrize(("data", "told"), MOUSE.items())
 def test_what_a_mouse_report_tells(parser, data, told):
     parser.reading = Reading(x10_mouse=True)
-    assert parser.parse(data) == [MouseReport(1, 2, Modifiers.NONE, *told)]
+    assert parser.feed(data) == [MouseReport(1, 2, Modifiers.NONE, *told)]
 
 
 @pytest.mark.parametrize(("data", "events"), X10)
 def test_x10_mouse(parser, data, events):
     parser.reading = Reading(x10_mouse=True)
-    assert parser.parse(data) + parser.flush() == events
+    assert parser.feed(data) + parser.flush() == events
     for at in range(len(data) + 1):
         assert read(parser, [data[:at], data[at:]]) == events
 
@@ -867,7 +809,7 @@ def test_x10_beginnings(parser):
     """They stay buffered, and a flush types them."""
     parser.reading = Reading(x10_mouse=True)
     for rest, text in ((b"\x1b[M", "[M"), (b"\x1b[M0", "[M0"), (b"\x1b[M0!", "[M0!")):
-        assert parser.parse(rest) == []
+        assert parser.feed(rest) == []
         assert_rest(parser, len(rest), Waiting.SEQUENCE)
         assert parser.flush() == [KeyReport(text[0], ALT), *typed(text[1:])]
 
@@ -875,19 +817,19 @@ def test_x10_beginnings(parser):
 def test_expected_positions(parser):
     """Each position answers one question, also one that needs none. The next is F3 again."""
     asked, position = b"\x1b[1;5R", CursorPosition(1, 5)
-    (third,) = parser.parse(asked)
+    (third,) = parser.feed(asked)
     assert third == KeyReport(Function(3), CTRL)
     parser.expect_position()
     parser.expect_position()
     assert parser.reading.questions == 2
-    assert parser.parse(asked[:3]) == []
-    assert parser.parse(asked[3:] + asked * 2) == [position, position, third]
+    assert parser.feed(asked[:3]) == []
+    assert parser.feed(asked[3:] + asked * 2) == [position, position, third]
     assert parser.reading.questions == 0
     parser.expect_position()
-    assert parser.parse(b"\x1b[24;80R" + asked) == [CursorPosition(24, 80), third]
+    assert parser.feed(b"\x1b[24;80R" + asked) == [CursorPosition(24, 80), third]
     parser.expect_position()
     wanted = [KeyReport(Function(3)), KeyReport(KeyCode.ESCAPE), position, third]
-    assert parser.parse(b"\x1b[R\x1b" + asked * 2) == wanted
+    assert parser.feed(b"\x1b[R\x1b" + asked * 2) == wanted
 
 
 def test_forgotten_positions(parser):
@@ -895,7 +837,7 @@ def test_forgotten_positions(parser):
         parser.expect_position()
         forget()
         assert parser.reading.questions == 0
-        assert parser.parse(b"\x1b[1;5R") == [KeyReport(Function(3), CTRL)]
+        assert parser.feed(b"\x1b[1;5R") == [KeyReport(Function(3), CTRL)]
 
 
 def test_most_positions(parser):
@@ -907,26 +849,23 @@ def test_most_positions(parser):
 def test_wrong_dialects():
     for wrong in (None, 0, "EXTENDED", KeyEventKind.PRESS):
         with pytest.raises(TypeError, match="^a member of Dialect is required, not"):
-            ExtendedParser(wrong)
-    raw = hedrugal._RawParser()
-    assert hedrugal._library.hed_parser_init(raw, 2) == hedrugal._STATUS_BAD_NUMBER
+            Parser(wrong)
+    raw = RawHandle()
+    assert library.hed_parser_init(raw, 2) == STATUS_BAD_NUMBER
     assert not raw.live
 
 
-def test_unknown_numbers(parser):
+def test_unknown_numbers():
     for fields in (
         {"kind": 0},
-        {"kind": 14},
         {"kind": 15, "string_kind": 3},
         {"kind": 4},
         {"kind": 17},
         {"kind": 1, "key_event_kind": 4, "key": 1, "detail": 97},
         {"kind": 2, "mouse_kind": 6},
-        {"kind": 10, "text_len": 5},
     ):
-        parser._front = hedrugal._RawEvent(**fields)
         with pytest.raises(RuntimeError):
-            parser._front_event()
+            event_of(bytes(RawEvent(**fields)))
 
 
 # Input far past any small bound: by one call, and in pieces.
@@ -962,7 +901,7 @@ def test_a_clipboard_of_100_kb(parser, end):
     ended = Osc(last) if end.strip(b"\x1b") else StringCut(StringKind.OSC, last)
     wanted = [*(StringPart(StringKind.OSC, part) for part in parts), ended]
     check_long(parser, b"\x1b]52;" + body + end, wanted)
-    assert parser.parse(b"q") == [KeyReport("q")]
+    assert parser.feed(b"q") == [KeyReport("q")]
 
 
 def test_limits(parser):
@@ -987,14 +926,6 @@ def test_limits(parser):
     check_long(parser, b"\x1b[97;;" + b"65:" * 82 + b"229u", [KeyReport("a", text="A" * 82 + "å")])
 
 
-def test_a_long_paste(parser):
-    body = ("0123456789\x1b]0;t\x07" * 6400)[:102400]
-    assert len(body) == 102400
-    check_long(
-        parser, b"\x1b[200~" + body.encode() + b"\x1b[201~\x1b[I", [Paste(body), FocusGained()]
-    )
-
-
 def test_many_events(parser):
     data = b"a\x1b[I\x1b[97;5:3u\x1b]0;t\x07\x1b[200~p\x1b[201~\x1b[24;80R"
     events = [
@@ -1011,59 +942,34 @@ def test_many_events(parser):
 def test_many_different_reports(parser):
     for code in range(0xA0, 0xD7FF, 5):
         event = KeyReport(chr(code), SHIFT, RELEASE, shifted=chr(code + 1), text=chr(code))
-        assert parser.parse(b"\x1b[%d:%d;2:3;%du" % (code, code + 1, code)) == [event]
+        assert parser.feed(b"\x1b[%d:%d;2:3;%du" % (code, code + 1, code)) == [event]
 
 
 # What stays buffered, and what becomes of it.
 
 
-def each_rest(parser):
-    """Each text as a rest, alone and after an ESC, with what is typed by a flush."""
+def test_beginnings(parser, termwiz):
+    """A beginning that is flushed is typed text, as termwiz reads it: its ESC is ALT for the next
+    character."""
     for begun, text in RESTS:
         for rest in (begun, b"\x1b" + begun):
-            assert_rest(parser, 0, Waiting.NOTHING)
-            assert parser.parse(rest) == [], rest
+            assert parser.feed(rest) == [], rest
             assert_rest(parser, len(rest), Waiting.SEQUENCE)
-            yield rest, text
-
-
-def test_reset(parser):
-    for rest, _ in each_rest(parser):
-        assert [parser.reset(), parser.reset()] == [len(rest), 0]
-        assert parser.parse(b"q") == [KeyReport("q")]
-
-
-def test_flush(parser):
-    """A beginning that is flushed is typed text, as an InputParser reads it: its ESC is ALT for the
-    next character."""
-    with InputParser() as usual:
-        for rest, text in each_rest(parser):
-            wanted = events_of(ExtendedParser, usual.parse(rest, False))
-            if not rest.startswith(b"\x1b\x1b"):
-                assert wanted == [KeyReport(text[0], ALT), *typed(text[1:])]
-            assert parser.flush() == wanted, rest
-
-
-def test_other_calls(parser):
-    """Neither a short pause nor the end of a paste takes it."""
-    for rest, _ in each_rest(parser):
-        assert parser.flush_escape() is None
-        assert parser.end_paste() is None
-        assert_rest(parser, len(rest), Waiting.SEQUENCE)
-        parser.reset()
+            flushed = parser.flush()
+            assert flushed == all_of(termwiz, rest)
+            assert rest is not begun or flushed == [KeyReport(text[0], ALT), *typed(text[1:])]
 
 
 def test_open_strings(parser):
     for rest, cut in OPEN_STRINGS:
-        assert parser.parse(rest, now=7) == []
+        assert parser.feed(rest, now=7) == []
         assert_rest(parser, len(rest), Waiting.STRING)
-        assert parser.flush_escape() is None and parser.end_paste() is None
         assert (parser.timeout(7), parser.flush()) == (5 + len(rest) / 1000, [cut])
         escape = [KeyReport(KeyCode.ESCAPE)]
-        assert parser.parse(b"\x1b" + rest, now=8) == escape
+        assert parser.feed(b"\x1b" + rest, now=8) == escape
         assert parser.timeout(8) == 5 + len(rest) / 1000
-        assert parser.expire(12.999 + len(rest) / 1000) == []
-        assert parser.expire(13 + len(rest) / 1000) == [cut]
+        assert parser.idle(12.999 + len(rest) / 1000) == []
+        assert parser.idle(13 + len(rest) / 1000) == [cut]
         assert_rest(parser, 0, Waiting.NOTHING)
 
 
@@ -1088,54 +994,6 @@ def test_held_after_alt_bracket(parser):
     first, *others = events_in_time(parser, reads)
     assert first == (1000, [KeyReport("]", ALT), *typed("l" * 33)])
     assert others == [(30 * count, typed("l")) for count in range(34, 61)]
-
-
-def test_escape(parser):
-    assert parser.parse(b"\x1b]11;?\x07\x1b") == [Osc(b"11;?")]
-    assert_rest(parser, 1, Waiting.ESCAPE)
-    assert parser.flush_escape() == KeyReport(KeyCode.ESCAPE)
-    assert parser.parse(b"\x1b\x1b") == []
-    assert_rest(parser, 2, Waiting.ESCAPE)
-    assert parser.flush_escape() == KeyReport(KeyCode.ESCAPE, ALT)
-    assert_rest(parser, 0, Waiting.NOTHING)
-
-
-def test_end_paste(parser):
-    assert parser.parse(b"\x1b[I\x1b[200~ab\x1b]0;\x1b[20") == [FocusGained()]
-    assert_rest(parser, 16, Waiting.PASTE)
-    assert parser.end_paste() == Paste("ab\x1b]0;\x1b[20")
-    assert_rest(parser, 0, Waiting.NOTHING)
-    assert parser.parse(b"\x1b[O") == [FocusLost()]
-
-
-def test_a_character(parser):
-    assert parser.parse(b"\xe2\x82") == []
-    assert_rest(parser, 2, Waiting.CHARACTER)
-    assert parser.parse(b"\xac") == [KeyReport("€")]
-
-
-# Every key is a report of the library.
-
-
-def check_report(parser, data):
-    parser.feed(data)
-    event = parser.next_event(False)
-    wanted = extended._key_report(*extended._report_fields_of(parser._front), "")
-    assert event == wanted and parser.next_event(False) is None
-    return event
-
-
-def test_report_of_each_entry(parser):
-    for entry in key_entries():
-        check_report(parser, entry.bytes)
-
-
-def test_characters(parser):
-    for text in ("q", "é", "\U0010ffff"):
-        assert check_report(parser, text.encode()) == KeyReport(text)
-    assert check_report(parser, b"\x1bq") == KeyReport("q", ALT)
-    assert check_report(parser, b"\x03") == KeyReport("c", CTRL)
-    assert check_report(parser, b"\x1b") == KeyReport(KeyCode.ESCAPE)
 
 
 # Key reports to bytes, and back.
@@ -1214,7 +1072,7 @@ def test_read_back(parser):
         for kind in KeyEventKind
     ]
     for report in [SHIFT_A, KeyReport("é", CTRL, REPEAT, base="2"), *reports]:
-        assert parser.parse(report.encode(ALL)) == [report]
+        assert parser.feed(report.encode(ALL)) == [report]
 
 
 def test_nothing_else_is_refused(parser):
@@ -1222,7 +1080,7 @@ def test_nothing_else_is_refused(parser):
     some keys have no bytes, but the refusal is of the key and not of memory. A text of any length
     is sent as it is, and in a sequence of any length up to 256."""
     numbers = [
-        parser.parse(b"\x1b[%du" % number)[0].key
+        parser.feed(b"\x1b[%du" % number)[0].key
         for number in (27, 9, 13, 127, *range(57344, 57455))
     ]
     keys = ["a", "é", UP, KeyCode.DELETE, Function(1), Function(35), 63743, *numbers]
@@ -1240,7 +1098,7 @@ def test_nothing_else_is_refused(parser):
         assert KeyReport("x", text="x" * length).encode(KittyKeyboardFlags.NONE) == b"x" * length
     for threes, twos in itertools.product(range(61), range(4)):
         report = KeyReport("a", text="x" * threes + "A" * twos)
-        assert parser.parse(report.encode(ALL)) == [report]
+        assert parser.feed(report.encode(ALL)) == [report]
 
 
 def test_keys_without_bytes():
@@ -1287,38 +1145,24 @@ def test_wrong_types():
 
 
 def test_refused_memory():
-    with mock.patch.object(hedrugal._library, "hed_encode_kitty", lambda *_: 2), pytest.raises(
-        MemoryError
-    ):
+    with mock.patch.object(library, "hed_encode_kitty", lambda *_: 2), pytest.raises(MemoryError):
         KeyReport("a").encode(ALL)
-    with mock.patch.object(hedrugal._library, "hed_encode_kitty", lambda *_: 99), pytest.raises(
-        RuntimeError
-    ):
+    with mock.patch.object(library, "hed_encode_kitty", lambda *_: 99), pytest.raises(RuntimeError):
         KeyReport("a").encode(ALL)
 
 
 # Events of the port and their presses.
-EVENT_PRESSES = [
-    (KeyEvent(KeyCode.APPLICATION_UP_ARROW, Modifiers.CTRL), KeyPress(UP, CTRL)),
-    (KeyEvent("\0"), KeyPress(" ", CTRL)),
-    (KeyEvent("\x1f", Modifiers.ALT), KeyPress("_", CTRL | KittyModifiers.ALT)),
-    (KeyEvent("\t", Modifiers.CTRL), KeyPress(KeyCode.TAB, CTRL)),
-    (KeyEvent("A", Modifiers.CTRL), KeyPress("a", CTRL | SHIFT)),
-    (KeyEvent("!", Modifiers.SHIFT), KeyPress("!")),
-    (KeyEvent(" ", Modifiers.SHIFT), KeyPress(" ", SHIFT)),
-    (
-        KeyEvent("a", Modifiers.CTRL | Modifiers.LEFT_CTRL | Modifiers.LEADER),
-        KeyPress("a", CTRL),
-    ),
-    (KeyEvent(Function(3), Modifiers.SUPER), KeyPress(Function(3), KittyModifiers.SUPER)),
-    (KeyEvent(KeyCode.LEFT_CONTROL, Modifiers.CTRL), None),
-    (KeyEvent(KeyCode.INTERNAL_PASTE_END), None),
-    (Paste("a"), None),
-    (FocusGained(), None),
-]
-
 # Key reports, their presses, and the texts to insert.
 REPORT_PRESSES = [
+    (KeyReport(KeyCode.APPLICATION_UP_ARROW, CTRL), KeyPress(UP, CTRL), ""),
+    (KeyReport("\0"), KeyPress(" ", CTRL), ""),
+    (KeyReport("\x1f", ALT), KeyPress("_", CTRL | ALT), ""),
+    (KeyReport("\t", CTRL), KeyPress(KeyCode.TAB, CTRL), ""),
+    (KeyReport("A", CTRL), KeyPress("a", CTRL | SHIFT), ""),
+    (KeyReport("!", SHIFT), KeyPress("!"), ""),
+    (KeyReport(" ", SHIFT), KeyPress(" ", SHIFT), ""),
+    (KeyReport(Function(3), SUPER), KeyPress(Function(3), SUPER), ""),
+    (KeyReport(KeyCode.INTERNAL_PASTE_END), None, ""),
     (
         KeyReport("a", ALT | SHIFT, REPEAT),
         KeyPress("A", ALT),
@@ -1367,11 +1211,6 @@ SECOND_PRESSES = [
 ]
 
 
-@pytest.mark.parametrize(("event", "press"), EVENT_PRESSES)
-def test_presses_of_events(event, press):
-    assert KeyPress.of_event(event) == press
-
-
 @pytest.mark.parametrize(("report", "press", "text"), REPORT_PRESSES)
 def test_presses_of_reports(report, press, text):
     assert KeyPress.of_report(report) == KeyPress.of_event(report) == press
@@ -1399,33 +1238,12 @@ def test_texts_of_presses():
 
 
 def test_what_has_no_press():
-    assert KeyPress.of_event(KeyEvent("\ud800")) is None
+    for event in (Paste("a"), FocusGained(), None, KeyReport("\ud800")):
+        assert KeyPress.of_event(event) is None
     assert KeyPress.of_report(KeyReport("a", text="a\ud800")) is None
     assert KeyPress.of_report(KeyReport(57343)) is None
-    for wrong in (KeyEvent("a", CTRL), KeyReport("a", Modifiers.CTRL), KeyReport("a", kind=1)):
+    for wrong in (KeyReport("a", Modifiers.CTRL), KeyReport("a", kind=1)):
         with pytest.raises(TypeError):
             KeyPress.of_event(wrong)
     with pytest.raises(EncodeError):
-        KeyPress.of_event(KeyEvent("ab"))
-
-
-# Memory for the bytes of an event is refused in Python: the event stays at the front.
-
-
-def test_each_kind(parser):
-    for data, event in [
-        (b"\x1b]0;t\x07", Osc(b"0;t")),
-        (b"\x1bP>|t\x1b\\", Dcs(b">|t")),
-        (b"\x1b_Gi=\x1b\\", Apc(b"Gi=")),
-        (b"\x1b]0;t\x1b", StringCut(StringKind.OSC, b"0;t")),
-        (b"\x1b[?1c", Csi(b"?1c")),
-        (b"\x1b[97;;65u", KeyReport("a", text="A")),
-        (b"\x1b[200~t\x1b[201~", Paste("t")),
-    ]:
-        with mock.patch.object(parser, "_text", side_effect=MemoryError):
-            with pytest.raises(hedrugal.ParseError) as caught:
-                parser.parse(b"q" + data + b"\x1b")
-            assert caught.value.taken
-            with pytest.raises(MemoryError):
-                [parser.next_event(), parser.next_event()]
-        assert read(parser, []) == [event, KeyReport(KeyCode.ESCAPE)]
+        KeyPress.of_event(KeyReport("ab"))
