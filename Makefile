@@ -277,7 +277,7 @@ check-install := tools/install_test.sh
 check-packages := tools/package_test.sh
 check-clone := tools/clone_test.sh
 check-tests-arm64 := tools/clone_test.sh arm64 tests
-check-docs := tools/docs.sh --library $(lib) --only links,c,rust,rattle,lines
+check-docs := tools/docs.sh --library $(lib) --only links,c,rust,python,rattle,lines
 check-fuzz := tools/fuzz.sh 30
 check-axioms := tools/axioms.sh keyshow $(processors:%=out/build/keyshow-%.log)
 check-growth := tools/growth.sh out/build/libfeed.a

@@ -48,7 +48,7 @@ dist-tree: dist-source
 	$(processor)-linux-gnu-strip --strip-unneeded --remove-section=.comment --remove-section=.note $(tree)/lib/libhedrugal.so.$(VERSION) $(tree)/bin/*
 	mkdir $(tree)/c $(tree)/docs $(tree)/python
 	cd $(source) && cp $$(cat debian/libhedrugal-dev.examples) $(tree)/c/ && cp $$(cat debian/libhedrugal-dev.docs) $(tree)/docs/ && \
-		cp -r python/hedrugal $(tree)/python/ && cp -r rust LICENSE THIRD-PARTY python/hedrugal.spdx.json $(tree)/
+		cp -r python/hedrugal python/examples $(tree)/python/ && cp -r rust LICENSE THIRD-PARTY python/hedrugal.spdx.json $(tree)/
 	ln -s ../../lib/libhedrugal.so $(tree)/python/hedrugal/
 	sed 's/@VERSION@/$(VERSION)/; s/@PROCESSOR@/$(if $(filter aarch64,$(processor)),64-bit ARM,x86-64)/' tools/package/README > $(tree)/README
 

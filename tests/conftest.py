@@ -40,9 +40,9 @@ def header_constant(name):
 
 def entries_after(start):
     """How many entries of the sequence table begin with these bytes, and have more."""
-    from hedrugal import InputParser
+    from hedrugal import Parser
 
-    with InputParser() as parser:
+    with Parser() as parser:
         return sum(it.bytes.startswith(start) and it.bytes != start for it in parser.entries())
 
 

@@ -93,7 +93,7 @@ def of_control(t):
     if (m := re.fullmatch(rf"\?{number}u", t)) and int(m[1]) <= 255:
         return ("flags", int(m[1]))
     if (m := re.fullmatch(rf"48;{number};{number};{number};{number}t", t)) and place(*m.groups()):
-        return ("resize", *(int(it) for it in m.groups()))
+        return ("resized", *(int(it) for it in m.groups()))
     return ("csi", t)
 
 

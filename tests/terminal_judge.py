@@ -1,12 +1,14 @@
 """What the library reads of recorded bytes, and whether that is what was pressed.
 
-Each press is read whole and byte by byte, with more to come; then what waits is flushed, if it is a
-lone ESC or ESC and one byte, as after a pause. It is read exactly if one key comes of it, and its
-press or its second press is one of those that are right."""
+Each press is read whole and byte by byte. Then nothing comes for a pause, after which a lone ESC
+and ESC with one byte are due. It is read exactly if one key comes of it, and its press or its
+second press is one of those that are right."""
 import dataclasses
 import functools
 
 
+# In seconds: longer than the limits of these two, and shorter than those of all else.
+PAUSE = 0.2
 # The terminals whose Backspace sends byte 8.
 SEND_8 = ("qterminal",)
 
@@ -21,23 +23,22 @@ def parsers():
     """The readers by name: `port` reads by termwiz's dialect, and the others by the extended one.
     `asked` is that of a program that asked for the cursor's position, and `erase` that of one whose
     terminal sends byte 8 for Backspace."""
-    from hedrugal import EraseByte, ExtendedParser, InputParser, Reading
+    from hedrugal import Dialect, EraseByte, Parser, Reading
 
     readings = {
+        "port": Reading(dialect=Dialect.TERMWIZ),
         "extended": Reading(),
         "x10": Reading(x10_mouse=True),
         "asked": Reading(questions=1),
         "erase": Reading(erase=EraseByte.BACKSPACE),
     }
-    extended = {name: (ExtendedParser(), reading) for name, reading in readings.items()}
-    return {"port": (InputParser(), None), **extended}
+    return {name: (Parser(reading.dialect), reading) for name, reading in readings.items()}
 
 
 def read_pieces(reader, pieces):
     """The events of pieces, and how many bytes stay buffered after a pause."""
     parser, reading = parsers()[reader]
-    if reading:
-        parser.reading = reading
+    parser.reading = reading
     return events_of(parser, pieces)
 
 
@@ -49,13 +50,8 @@ def read_by(reading, pieces):
 
 
 def events_of(parser, pieces):
-    from hedrugal import Waiting
-
-    events = [event for piece in pieces for event in parser.parse(piece)]
-    flushed = parser.flush_escape()
-    events += [flushed] if flushed is not None else []
-    if parser.waiting_len == 2 and parser.waiting is Waiting.SEQUENCE:
-        events += parser.flush()
+    events = [event for piece in pieces for event in parser.feed(piece, 0)]
+    events += parser.idle(PAUSE)
     rest = parser.waiting_len
     parser.reset()
     return events, rest
@@ -73,12 +69,10 @@ def read(reader, data):
 def told(reader, data):
     """What is told by bytes if they are one key: `press` or `release`, and the names of its press
     and of its second one. A key that is no press by itself is `none`."""
-    from hedrugal import KeyEvent, KeyEventKind, KeyPress, KeyReport
+    from hedrugal import KeyEventKind, KeyPress, KeyReport
 
     events, rest = read(reader, data)
     event = events[0] if len(events) == 1 and not rest else None
-    if isinstance(event, KeyEvent):
-        return "press", [str(it) for it in [KeyPress.of_event(event)] if it] or ["none"]
     if not isinstance(event, KeyReport):
         return "", []
     report = event

@@ -112,7 +112,7 @@ def exact(judged):
         cells = ["" if it is None else percent(it, counts["presses"]) for it in goods]
         found.setdefault((name, str(counts["presses"]), *cells), []).append(mode)
     rows = ([title(name), ", ".join(modes), *cells] for (name, *cells), modes in found.items())
-    head = ("Terminal", "Modes", "Presses", "InputParser", "ExtendedParser", "Reason", *names)
+    head = ("Terminal", "Modes", "Presses", "Termwiz", "Extended", "Reason", *names)
     return table(head, rows)
 
 

@@ -5,7 +5,7 @@ import subprocess
 import sys
 
 import pytest
-from helpers import listings
+from conftest import TOP
 from terminal import END, START, Terminal
 
 PROGRAM = """
@@ -156,7 +156,8 @@ def test_paste_over_a_stop(prompt, number):
 
 def test_listing(prompt):
     """That of docs/python.md."""
-    text, printed = listings()[2]
+    page = (TOP / "docs/python.md").read_text().split("\n### prompt_toolkit\n")[1]
+    _, text, _, printed, *_ = re.split(r"^```(?:python)?\n", page, flags=re.M)
     program = prompt(text)
     program.play([b"abc\033[D\177\r", printed.strip()])
     program.check_end(0)

@@ -594,7 +594,7 @@ def test_switching_by_examples(page):
     page.check(REPLIES)
     page.click("[data-try^='\\\\e[97']")
     page.check(["key U+0061 CTRL release", "key UpArrow SUPER"])
-    wanted = "\nread: at once\nby: ExtendedParser, Dialect::Extended\nkey U+0061"
+    wanted = "\nread: at once\nby: Parser, Dialect::Extended\nkey U+0061"
     assert wanted in page.report()
 
 

@@ -21,8 +21,11 @@ from concurrent.futures import ThreadPoolExecutor
 import hedrugal
 import pytest
 from conftest import TOP, entries_after, header_constant, run_without_terminal
-from hedrugal import ExtendedParser, Function, KeyCode, KeyPress, Modifiers, encode
+from hedrugal import Function, KeyCode, KeyPress, Modifiers, Parser, encode
 from hedrugal.page import meanings
+from hedrugal.page.lines import key_line, key_name, press_name, set_name, waiting_name
+from hedrugal.page.lines import line as line_of
+from hedrugal.page.reader import ENDS, READINGS, finish
 from hedrugal.page.server import AT_ONCE, FILES, MOST, Handler, Server
 
 STREAM = b"hello\x1b[A\x1b\x1b[200~ab\xc3\xa9cd\x1b[201~q\x1b[<0;3;4M\xff\x1b[27;5;13~\xc3\xa9"
@@ -130,18 +133,18 @@ class Client:
         return items, told
 
     def check(self, data, end, reading="table"):
-        with meanings.READINGS[reading]() as parser:
-            wanted = parser.parse(data)
+        with READINGS[reading]() as parser:
+            wanted = parser.feed(data)
             flushed = len(wanted)
-            wanted += meanings.finish(parser, end)
+            wanted += finish(parser, end)
             waiting, kind = parser.waiting_len, parser.waiting
         items, told = self.all_items(data, end, reading)
-        assert [it[1] for it in items] == [meanings.line(event) for event in wanted], data
+        assert [it[1] for it in items] == [line_of(event) for event in wanted], data
         presses = [KeyPress.of_event(event) for event in wanted]
         assert [it[3].split(" ")[0] for it in items] == [str(it or "") for it in presses], data
         assert told["flushed"] == (None if end == "more" else flushed)
         waits = told["waits"] or {"length": 0, "kind": "Nothing"}
-        assert (waits["length"], waits["kind"]) == (waiting, meanings.waiting_name(kind))
+        assert (waits["length"], waits["kind"]) == (waiting, waiting_name(kind))
         assert sum(it[0] for it in items) + waiting == len(data)
         # Each item's bytes, read alone, emit its event, and no other.
         at = 0
@@ -357,17 +360,17 @@ def test_at_one_time(client):
         assert len([*threads.map(work, string.ascii_letters[: 2 * AT_ONCE])]) == 2 * AT_ONCE
 
 
-@pytest.mark.parametrize("end", meanings.ENDS)
+@pytest.mark.parametrize("end", ENDS)
 def test_streams(client, end):
     for rest in RESTS:
         client.check(STREAM + rest, end)
         client.check(rest, end)
-    for reading, rest in itertools.product(meanings.READINGS, RESTS + BEGINNINGS):
+    for reading, rest in itertools.product(READINGS, RESTS + BEGINNINGS):
         client.check(EXTENDED_STREAM + rest, end, reading)
         client.check(rest, end, reading)
 
 
-@pytest.mark.parametrize("end", meanings.ENDS)
+@pytest.mark.parametrize("end", ENDS)
 def test_portions(client, end):
     for count in (299, 300, 301, 600, 601, 1000):
         items, _ = client.check(b"q" * count + b"\x1b[1;", end)
@@ -375,7 +378,7 @@ def test_portions(client, end):
         client.check(b"q" * count + b"\x1b[200~a", end)
 
 
-@pytest.mark.parametrize("reading", meanings.READINGS)
+@pytest.mark.parametrize("reading", READINGS)
 def test_random_bytes(client, reading):
     seed = random.randrange(1 << 32)
     print(f"the seed is {seed}")
@@ -385,7 +388,7 @@ def test_random_bytes(client, reading):
     for _ in range(60):
         count = chance.randrange(30)
         chosen = [chance.choice(pieces if chance.random() < 0.6 else others) for _ in range(count)]
-        client.check(b"".join(chosen), chance.choice(meanings.ENDS), reading)
+        client.check(b"".join(chosen), chance.choice(ENDS), reading)
 
 
 # Bytes, and their lines in each reading.
@@ -430,7 +433,7 @@ REPORTS = [
     (b"\x1b[I", "focus gained", ""),
     (b"\x1b[O", "focus lost", ""),
     (b"\x1b[?24;80;1R", "cursor 24 80", ""),
-    (b"\x1b[48;24;80;480;800t", "resize 24 80 480 800", ""),
+    (b"\x1b[48;24;80;480;800t", "resized 24 80 480 800", ""),
     (b"\x1b[?31u", "keyboard flags 31", ""),
     (b"\x1b[32;3;4M", "mouse 3 4 LEFT NONE press 1", ""),
     (b"\x1b[<136;3;4M", "mouse 3 4 NONE ALT press 8", ""),
@@ -479,7 +482,7 @@ def test_beginnings(client):
 
 def test_beginnings_of_the_table_too(client):
     line = "key UpArrow NONE"
-    for reading, begins in zip(meanings.READINGS, (None, "csi")):
+    for reading, begins in zip(READINGS, (None, "csi")):
         waits = client.waits(b"\x1b[1;", reading)
         found = waits["begins"], waits["count"], waits["named"][0]
         assert found == (begins, 169, ["1b5b313b3141", line])
@@ -519,7 +522,9 @@ def test_waits(client):
     assert client.waits(b"q") is None
     wanted = {"kind": "Escape", "length": 1, "flushed": ["key Escape NONE"], "with_alt": False}
     wanted |= {"alt": ["1b71", "key U+0071 ALT"], "count": entries_after(b"\x1b")}
-    waits = client.waits(b"q\x1b", mouse=["1b5b3c303b333b344d", "mouse 3 4 LEFT NONE"], **wanted)
+    waits = client.waits(
+        b"q\x1b", mouse=["1b5b3c303b333b344d", "mouse 3 4 LEFT NONE press 1"], **wanted
+    )
     assert waits["named"][0] == ["1b5b41", "key UpArrow NONE"]
     waits = client.waits(b"\x1b\x1b", flushed=["key Escape ALT"], with_alt=True)
     assert waits["named"][0] == ["1b1b5b41", "key UpArrow ALT"]
@@ -533,7 +538,7 @@ def test_waits(client):
     client.waits(b"\x1b[200~abc", flushed=["paste 3:616263"], **wanted)
 
 
-@pytest.mark.parametrize("reading", meanings.READINGS)
+@pytest.mark.parametrize("reading", READINGS)
 def test_what_is_named_is_so(client, reading):
     """Each key that bytes are said to begin is read from the named bytes."""
     for rest in RESTS + BEGINNINGS:
@@ -552,7 +557,7 @@ def test_table(client):
     assert [b"\x1b[15;5~".hex(), "F5", "CTRL"] in told["rows"]
     assert told["rows"] == sorted(told["rows"], key=lambda row: bytes.fromhex(row[0]))
     for name in told["keys"]:
-        assert meanings.key_name(meanings.key_of(name)) == name
+        assert key_name(meanings.key_of(name)) == name
 
 
 # Names with further modifiers, and of each key what it is, what is held, its line and its press.
@@ -596,10 +601,10 @@ def test_encodings(client, name, modifiers, keys):
         assert [text for text, *_ in it["sent"]] == sent
         assert (len(it["sent"]), len(it["kitty"])) == (24, 4)
         for text, *said in it["sent"] + it["kitty"]:
-            with ExtendedParser() as parser:
-                events = parser.parse(bytes.fromhex(text), False)
-            names = ", ".join(meanings.press_name(event) for event in events)
-            lines = ", ".join(map(meanings.line, events))
+            with Parser() as parser:
+                events = parser.feed(bytes.fromhex(text)) + parser.flush()
+            names = ", ".join(press_name(event) for event in events)
+            lines = ", ".join(map(line_of, events))
             assert said == [lines, names, names == press]
 
 
@@ -648,14 +653,14 @@ def test_encodings_that_are_read_as_another(client):
 
 def test_names_are_those_of_keyshow():
     """The lines are those of the recorded answers."""
-    names = [meanings.key_name(it) for it in (KeyCode.UP_ARROW, "q", "\U0001f600")]
+    names = [key_name(it) for it in (KeyCode.UP_ARROW, "q", "\U0001f600")]
     assert names == ["UpArrow", "U+0071", "U+1F600"]
-    assert meanings.set_name(Modifiers.CTRL | Modifiers.SHIFT | Modifiers.ALT) == "SHIFT+ALT+CTRL"
+    assert set_name(Modifiers.CTRL | Modifiers.SHIFT | Modifiers.ALT) == "SHIFT+ALT+CTRL"
     recorded = (TOP / "rust/tests/recorded/rules.txt").read_text(encoding="utf-8")
     keys = {*re.findall(r"\bkey (\S+) ([A-Z+]+)(?=[,;|\s])", recorded)}
     assert len(keys) > 20
     for key, held in keys:
-        line = meanings.key_line(meanings.key_of(key), modifiers_of(held))
+        line = key_line(meanings.key_of(key), modifiers_of(held))
         assert line == f"key {key} {held}"
 
 

@@ -20,7 +20,7 @@ from terminal import END, ENDING_SIGNALS, LONG_PAUSE, SLOW_LINE, START, Terminal
 PROGRAM = """
 import asyncio, errno, fcntl, os, signal, subprocess, sys, threading, time
 from hedrugal import *
-from hedrugal.terminal import PastePart, Resumed, Terminal
+from hedrugal.terminal import Resumed, Terminal
 Q, CTRL_C = KeyReport("q"), KeyReport("c", KittyModifiers.CTRL)
 def show(*events):
     for event in events:
@@ -285,6 +285,9 @@ with terminal:
     program.ends_with(f"{up}.ALT)", f"{up}.SUPER)", "KeyReport(key='q')")
 
 
+WIDER = "Resized(size=Size(columns=100, rows=40, width=0, height=0))"
+
+
 def test_sizes(run):
     program = run(
         """
@@ -294,21 +297,17 @@ with Terminal() as terminal:
     show_until_q(terminal)
 """
     )
-    program.play(["columns=80, height=0, width=0)\r\n"])
+    program.play(["rows=24, width=0, height=0)\r\n"])
     program.resize(100, 40)
-    program.play(["columns=100, height=0, width=0)\r\n", b"q"])
-    sizes = [
-        f"Resize(rows={rows}, columns={columns}, height=0, width=0)"
-        for rows, columns in ((24, 80), (40, 100))
-    ]
-    program.ends_with(*sizes, "q")
+    program.play(["rows=40, width=0, height=0))\r\n", b"q"])
+    program.ends_with("Size(columns=80, rows=24, width=0, height=0)", WIDER, "q")
 
 
 def test_size_in_pixels(run):
     program = run("with Terminal() as terminal: ready(); terminal.read(); show(terminal.size())")
     size = struct.pack("HHHH", 40, 100, 640, 480)
     fcntl.ioctl(program.child_fd, termios.TIOCSWINSZ, size)
-    program.ends_with("Resize(rows=40, columns=100, height=480, width=640)")
+    program.ends_with("Size(columns=100, rows=40, width=640, height=480)")
 
 
 def test_settings_that_change_bytes(run):
@@ -334,24 +333,26 @@ termios.tcsetattr(0, termios.TCSANOW, before)
 
 
 def test_long_paste(run):
-    """It comes in parts, each of which is a Paste too."""
+    """It comes in parts, and so does the second one."""
     program = run(
         """
-with Terminal(paste_limit=10000) as terminal:
+with Terminal() as terminal:
+    show(terminal.parser.parts)
+    terminal.parser.parts = 10000
     ready()
-    parts = []
-    for event in terminal:
-        assert isinstance(event, Paste) == (event != Q), event
-        if event == Q:
-            break
-        parts.append(event)
-assert [type(it) for it in parts[-2:]] == [PastePart, Paste]
-assert "".join(it.text for it in parts) == "q\\033" * 50000
-print(max(len(it.text) for it in parts) < 20000, flush=True)
-"""
+    for text in ["q\\033" * 50000, "a" * 15000]:
+        parts = []
+        while not parts or isinstance(parts[-1], PastePart):
+            parts.append(terminal.read())
+        assert len(parts) > 1 and isinstance(parts[-1], Paste)
+        assert "".join(it.text for it in parts) == text
+        show(max(len(it.text) for it in parts) < 20000)
+    show_until_q(terminal)
+""",
     )
-    program.send(START + b"q\033" * 50000 + END + b"q")
-    program.ends_with("True")
+    program.send(START + b"q\033" * 50000 + END + START + b"a" * 15000 + END + b"q")
+    program.check_end(0)
+    assert program.lines() == [str(1 << 20), "ready", "True", "True", "q"]
 
 
 WAYS = {
@@ -426,7 +427,7 @@ def test_sigtstp_and_sigterm(run):
 with Terminal() as terminal:
     ready()
     terminal.read()
-    with terminal.paused():
+    with terminal.lend():
         show_until_q(terminal)
 """
     )
@@ -437,6 +438,60 @@ with Terminal() as terminal:
     assert os.waitstatus_to_exitcode(program.next_status()) == -signal.SIGTERM
     program.is_running = False
     assert program.settings() == program.settings_before
+
+
+@pytest.mark.timed
+@pytest.mark.parametrize("number", [signal.SIGCONT, signal.SIGINT], ids=lambda it: it.name)
+def test_signal_while_it_is_left(run, number):
+    """The settings are restored, and it may be entered again."""
+    program = run(
+        """
+signal.signal(signal.SIGINT, signal.default_int_handler)
+terminal = Terminal()
+try:
+    with terminal:
+        ready()
+        terminal.read()
+except KeyboardInterrupt:
+    pass
+show("left")
+sys.stdin.readline()
+with terminal:
+    show_until_q(terminal)
+"""
+    )
+    program.stop_output()
+    program.play([b"a", 0.2])
+    program.kill(number)
+    time.sleep(0.2)
+    program.stop_output(termios.TCOON)
+    program.play(["left\r\n"])
+    assert program.settings() == program.settings_before
+    program.play([b"\n", "\033[?2004h", b"q"])
+    program.check_end(0)
+
+
+def test_signal_while_a_thread_leaves_it(run):
+    """The main thread handles it then."""
+    program = run(
+        """
+with Terminal() as terminal:
+    def lend():
+        terminal.read()
+        with terminal.lend():
+            time.sleep(60)
+    ready()
+    thread = threading.Thread(target=lend)
+    thread.start()
+    thread.join()
+"""
+    )
+    program.stop_output()
+    program.play([b"a", 0.2])
+    program.kill(signal.SIGTERM)
+    time.sleep(0.2)
+    program.stop_output(termios.TCOON)
+    program.check_end(-signal.SIGTERM)
 
 
 def test_ignored_signal(run):
@@ -479,7 +534,7 @@ with Terminal() as terminal:
     for event in terminal:
         if event == Q:
             break
-        if isinstance(event, Resize):
+        if isinstance(event, Resized):
             sizes += 1
         else:
             keys.append(event)
@@ -539,7 +594,8 @@ with Terminal() as terminal:
 
 
 def test_terminal_that_is_gone(run, tmp_path):
-    """With SIGHUP ignored the events end, after those of what was buffered."""
+    """With SIGHUP ignored the events end, after those of what was buffered. No question stays
+    open."""
     file = tmp_path / "events"
     program = run(
         f"""
@@ -550,10 +606,11 @@ with Terminal() as terminal:
     show(terminal.read())
     events += [*terminal]
     assert terminal.ended and terminal.read() is None
-    try:
-        terminal.write("more")
-    except OSError as error:
-        events.append(error.errno == errno.EIO)
+    for write, text in ((terminal.write, "more"), (terminal.ask, b"")):
+        try:
+            write(text)
+        except OSError as error:
+            events += [error.errno == errno.EIO, terminal.timeout()]
 with open({str(file)!r}, "w") as opened:
     print(events, file=opened)
 """
@@ -562,7 +619,7 @@ with open({str(file)!r}, "w") as opened:
     program.hang_up()
     assert os.waitstatus_to_exitcode(program.next_status()) == 0
     program.is_running = False
-    assert file.read_text() == "[Paste(text='pasted'), True]\n"
+    assert file.read_text() == "[Paste(text='pasted'), True, None, True, None]\n"
 
 
 def test_end_of_the_input(run):
@@ -813,7 +870,7 @@ with Terminal() as terminal:
     for _ in range(2):
         show(*terminal.ask(b"", 60))
         terminal.ask(b"", 0.01)
-        with terminal.paused():
+        with terminal.lend():
             print("child", ascii(input()))
     show_until_q(terminal)
 """
@@ -837,7 +894,7 @@ with Terminal(mouse=MouseTracking.ANY) as terminal:
 
 def test_child_in_a_pause(run):
     """It gets the terminal as it was, and may leave it as it likes."""
-    program = run(CHILD.format(with_or_not="with terminal.paused()"))
+    program = run(CHILD.format(with_or_not="with terminal.lend()"))
     program.play([b"a", "child\r\n"])
     assert not program.modes() and not program.is_raw()
     program.play([b"typed\n", "typed\r\n"])
@@ -847,10 +904,8 @@ def test_child_in_a_pause(run):
     program.ends_with("a", "child", "typed", "b", "q")
 
 
-PAUSED = """
+LENDS = """
 with Terminal() as terminal:
-    if {limit}:
-        terminal.parser.policy = Policy(paste=0.3)
     ready()
     for event in terminal:
         show(event)
@@ -859,7 +914,7 @@ with Terminal() as terminal:
                 break
             while terminal.parser.waiting is Waiting.NOTHING:
                 terminal.read(0)
-            with terminal.paused():
+            with terminal.lend():
                 subprocess.run(["sh", "-c", "stty -echo; echo child; read line"])
             show("again")
 """
@@ -867,59 +922,76 @@ with Terminal() as terminal:
 
 def test_beginning_before_a_pause(run):
     """It counts no more."""
-    program = run(PAUSED.format(limit=False))
+    program = run(LENDS)
     for begun in (b"\033[", b"\xc3"):
         program.play([b"p" + begun, "child\r\n", b"\n", "again\r\n", b"A", "A\r\n"])
     program.send(b"q")
     program.ends_with(*["p", "child", "again", "A"] * 2, "q")
 
 
-def test_refused_memory_before_a_pause(run):
-    """What it was refused for counts no more."""
+@pytest.mark.parametrize("taken", [False, True])
+def test_refused_memory_before_a_lend(run, taken):
+    """What it was refused for is told first, and a beginning of a sequence counts no more."""
     program = run(
-        """
+        f"""
 from unittest import mock
 with Terminal() as terminal:
     ready()
-    for name in ("feed", "take_paste"):
-        with mock.patch.object(terminal.parser, name, side_effect=MemoryError):
-            try:
-                terminal.read()
-            except MemoryError:
-                show("refused")
-        with terminal.paused():
+    parser = terminal.parser
+    for _ in range(2):
+        def refuse(data, *_):
+            events = parser.__class__.feed(parser, data[:1] if {taken} else b"")
+            patch.stop()
+            raise ParseError(events, {taken})
+        patch = mock.patch.object(parser, "feed", refuse)
+        patch.start()
+        try:
+            terminal.read()
+        except ParseError:
+            show("refused")
+        with terminal.lend():
             pass
-        show("again")
+        show("again", *iter(lambda: terminal.read(0), None))
         show(terminal.read())
     show_until_q(terminal)
 """
     )
     for _ in range(2):
-        program.play([b"\033[", "refused\r\n", "again\r\n", b"A", "A\r\n"])
+        program.play([b"a\033[", "refused\r\n", "again\r\n", b"A", "A\r\n"])
     program.send(b"q")
-    program.ends_with(*["refused", "again", "A"] * 2, "q")
+    program.ends_with(*["refused", "again", "a", "A"] * 2, "q")
+
+
+def test_refused_memory_after_a_lend(run):
+    """A beginning of a sequence counts no more once the call is made again."""
+    program = run(
+        """
+from unittest import mock
+with Terminal() as terminal:
+    ready()
+    show(terminal.read())
+    with terminal.lend():
+        pass
+    with mock.patch.object(terminal.parser, "interrupted", side_effect=MemoryError):
+        try:
+            terminal.read(0)
+        except MemoryError:
+            show("refused")
+    show_until_q(terminal)
+"""
+    )
+    program.play([b"a\033[", "refused\r\n", b"Aq"])
+    program.ends_with("a", "refused", "A", "q")
 
 
 def test_paste_over_a_pause(run):
     """None of it is typed."""
-    program = run(PAUSED.format(limit=False))
+    program = run(LENDS)
     for _ in range(2):
         program.play([b"p" + START + b"b\r", "child\r\n", b"\n", "again\r\n"])
         program.play([b"c\r" + END, "Paste("])
     program.send(b"q")
     program.ends_with(*["p", "child", "again", r"Paste(text='b\rc\r')"] * 2, "q")
-
-
-@pytest.mark.timed
-@pytest.mark.parametrize("limit", [False, True], ids=["a second", "the program's limit"])
-def test_paste_that_ends_with_a_pause(run, limit):
-    """The earlier limit holds."""
-    program = run(PAUSED.format(limit=limit))
-    program.play([b"p" + START + b"b\r", "child\r\n", b"\n", "again\r\n"])
-    begin = time.monotonic()
-    program.play(["Paste(", b"q"])
-    program.ends_with("p", "child", "again", r"Paste(text='b\r')", "q")
-    assert (time.monotonic() - begin < 0.9) == limit
 
 
 def test_child_that_changes_the_modes(run):
@@ -1054,6 +1126,23 @@ def test_late_replies(asking_again):
     program.ends_with("asked", "n", *again, *LATE, "Function(number=3)", "n", *again, "q")
 
 
+def test_same_question_twice(run):
+    """Each call returns its own reply, however late that of the first one is."""
+    program = run(
+        """
+with Terminal() as terminal:
+    ready()
+    for seconds in (0.1, 60):
+        show("replies", *terminal.ask(b"\\033[6n", seconds))
+    show_until_q(terminal)
+"""
+    )
+    program.play(["\033[6n\033[c", "replies\r\n", "\033[6n\033[c"])
+    program.play([b"a\033[1;5R\033[?62;1c\033[1;7R\033[?62;2cq"])
+    second = ["CursorPosition(row=1, column=7)", "Csi(data=b'?62;2c')"]
+    program.ends_with("replies", "replies", *second, "a", *LATE, "q")
+
+
 def test_late_replies_before_another_question(asking_again):
     program = asking_again
     program.play(["\033[c", "asked\r\n", 0.4, CURSOR + b"\033[1;5Rn", "\033[c", BACKGROUND])
@@ -1115,6 +1204,23 @@ with Terminal() as terminal:
     program.ends_with(*["0", "100000"] * 2, "q")
 
 
+def test_too_many_questions(run):
+    """No further one is written."""
+    program = run(
+        """
+with Terminal() as terminal:
+    ready()
+    for _ in range(17):
+        show(*terminal.ask(b"", 0), "asked")
+    show_until_q(terminal)
+"""
+    )
+    program.send(b"q")
+    program.ends_with(*["asked"] * 17, "q")
+    assert program.output.count(b"\033[c") == 16
+
+
+@pytest.mark.timed
 def test_ask_in_vain(asking):
     """What came in time is returned."""
     program = asking(1.0)
@@ -1144,15 +1250,14 @@ with Terminal() as terminal:
     program.ends_with("interrupted", "Csi(data=b'?1;2$y')", "a", "Paste(text='')", "q")
 
 
-@pytest.mark.parametrize("name", ["collections.deque", "Terminal._add"])
-def test_replies_and_refused_memory(run, name):
+def test_replies_and_refused_memory(run):
     """What the list can't hold are events, in their order."""
     program = run(
-        f"""
+        """
 from unittest import mock
 with Terminal() as terminal:
     ready()
-    with mock.patch("hedrugal.terminal.{name}", side_effect=MemoryError):
+    with mock.patch("collections.deque", side_effect=MemoryError):
         try:
             show(*terminal.ask(b"", 60))
         except MemoryError:
@@ -1174,13 +1279,13 @@ with Terminal() as terminal:
     def refuse(data):
         if b"c" in data:
             patch.stop()
-            raise MemoryError
-        ExtendedParser.feed(terminal.parser, data)
+            raise ParseError([], False)
+        return Parser.feed(terminal.parser, data)
     patch = mock.patch.object(terminal.parser, "feed", refuse)
     patch.start()
     try:
         show(*terminal.ask(b"", 60))
-    except MemoryError:
+    except ParseError:
         show("refused")
     show_until_q(terminal)
 """
@@ -1215,9 +1320,8 @@ def test_asyncio(run):
     program = run(ASYNC)
     program.play([b"a\033", "KeyCode.ESCAPE\r\n", b"\033[1;", 0.2, b"5A", "UP_ARROW\r\n"])
     program.resize(100, 40)
-    program.play(["Resize", b"q"])
-    size = "Resize(rows=40, columns=100, height=0, width=0)"
-    program.ends_with("a", "KeyCode.ESCAPE", "KeyCode.UP_ARROW", size, "q", "True")
+    program.play(["Resized", b"q"])
+    program.ends_with("a", "KeyCode.ESCAPE", "KeyCode.UP_ARROW", WIDER, "q", "True")
 
 
 @pytest.mark.timed
@@ -1277,6 +1381,7 @@ def test_loop_of_another_kind(run):
 import select
 with Terminal() as terminal:
     ready()
+    show(*terminal.ask(b"", 60))
     event = None
     while event != Q:
         select.select([terminal], [], [], terminal.timeout())
@@ -1286,8 +1391,14 @@ with Terminal() as terminal:
                 break
 """
     )
-    program.play([b"\033", "ESCAPE\r\n", b"aq"])
-    program.ends_with("KeyCode.ESCAPE", "a", "q")
+    program.play(["\033[c", b"b\033[?62c", "b\r\n", b"\033", "ESCAPE\r\n", b"aq"])
+    program.ends_with("Csi(data=b'?62c')", "b", "KeyCode.ESCAPE", "a", "q")
+
+
+def test_long_waits(run):
+    program = run("with Terminal() as it: ready(); show(it.read(1e9), it.read(float('inf')))")
+    program.play([b"a", 0.1, b"b"])
+    program.ends_with("a", "b")
 
 
 @pytest.fixture(params=[SHOW, ASYNC], ids=["loop", "asyncio"])
@@ -1296,7 +1407,7 @@ def shows(run, request):
     return run(request.param)
 
 
-RESUMED = ["Resumed()", "Resize(rows=24, columns=80, height=0, width=0)"]
+RESUMED = ["Resumed()", "Resized(size=Size(columns=80, rows=24, width=0, height=0))"]
 
 
 def shown_lines(program):
@@ -1315,7 +1426,7 @@ def stop_and_continue(program, number):
             program.wait_for_stop()
     program.continue_in_foreground()
     if number == signal.SIGTSTP:
-        program.play(["Resumed()\r\n", "width=0)\r\n"])
+        program.play(["Resumed()\r\n", "height=0))\r\n"])
     else:
         # Nothing tells that it goes on.
         time.sleep(0.1)
@@ -1378,7 +1489,7 @@ def test_size_of_a_stop(shows):
     shows.continue_in_foreground()
     shows.play(["columns=100", b"q"])
     shows.check_end(0)
-    assert shown_lines(shows) == ["Resize(rows=40, columns=100, height=0, width=0)", "q"]
+    assert shown_lines(shows) == [WIDER, "q"]
 
 
 @pytest.mark.timed
@@ -1406,52 +1517,48 @@ def test_paste_whose_rest_does_not_come(shows):
     assert shown_lines(shows) == ["a", *RESUMED, *last]
 
 
-@pytest.mark.timed
-@pytest.mark.parametrize(
-    "rest, event",
-    [
-        (b"/0/0\007", "Osc(data=b'11;rgb:0/0/0')"),
-        (b"", "StringCut(kind=StringKind.OSC, data=b'11;rgb:0')"),
-    ],
-    ids=["whole", "cut"],
-)
-def test_string_over_a_stop(shows, rest, event):
+def test_string_over_a_stop(shows):
     shows.play([b"a\033]11;rgb:0", "a\r\n"])
     stop_and_continue(shows, signal.SIGTSTP)
-    shows.play([rest, f"{event}\r\n", b"bq"])
+    shows.send(b"/0/0\007bq")
     shows.check_end(0)
-    assert shown_lines(shows) == ["a", *RESUMED, event, "b", "q"]
+    assert shown_lines(shows) == ["a", *RESUMED, "Osc(data=b'11;rgb:0/0/0')", "b", "q"]
 
 
-MEMORY = """
+REFUSED = {
+    "of the bytes": ("feed", "ParseError([], False)"),
+    "of the events": ("feed", "ParseError(Parser.feed(terminal.parser, *words), True)"),
+    "of what is due": ("idle", "ParseError([], True)"),
+}
+
+
+@pytest.mark.timed
+@pytest.mark.parametrize("name, error", REFUSED.values(), ids=REFUSED)
+def test_refused_memory(run, name, error):
+    """The same events come, and none twice."""
+    program = run(
+        f"""
 from unittest import mock
 with Terminal() as terminal:
     ready()
     refused = 0
-    def refuse(*_):
+    def refuse(*words):
         global refused
         refused += 1
-        if refused < 3:
-            raise MemoryError
-        patch.stop()
-        return {call}
-    patch = mock.patch.object(terminal.parser, "{name}", {value})
+        if refused == 2:
+            patch.stop()
+        raise {error}
+    patch = mock.patch.object(terminal.parser, "{name}", refuse)
     patch.start()
     while True:
         try:
             show_until_q(terminal)
             break
-        except MemoryError:
+        except ParseError:
             show("refused")
 """
-
-
-@pytest.mark.parametrize("name", ["feed", "parse", "take_paste"])
-def test_refused_memory(run, name):
-    """The same events come once it is granted."""
-    call = f"ExtendedParser.{name}(terminal.parser, *_)"
-    program = run(MEMORY.format(name=name, call=call, value="refuse"))
-    program.play([b"a\033[A", "refused\r\n", b"bq"])
+    )
+    program.play([b"a\033[A\033", "refused\r\n", "ESCAPE\r\n", b"bq"])
     program.check_end(0)
     shown = [line for line in program.lines() if line != "refused"]
-    assert shown == ["ready", "a", "KeyCode.UP_ARROW", "b", "q"]
+    assert shown == ["ready", "a", "KeyCode.UP_ARROW", "KeyCode.ESCAPE", "b", "q"]

@@ -23,7 +23,7 @@ from relay_child import long_text
 from terminal import END, ENDING_SIGNALS, LONG_PAUSE, PAUSE, SECONDS, START, Terminal
 from terminal_data import FOLDER, load
 
-from hedrugal import ExtendedParser, KeyPress, KeyReport, KittyKeyboardFlags, encode_paste
+from hedrugal import KeyPress, KeyReport, KittyKeyboardFlags, Parser, encode_paste
 
 CHILD = Path(__file__).with_name("relay_child.py")
 # What relay tells its terminal at the start, and at its end.
@@ -240,8 +240,8 @@ def recorded(name, mode, kind="press"):
 def one_key(data):
     """The report of the key, with what it types, if these bytes are one press. A control character
     is the key that sends it."""
-    with ExtendedParser() as parser:
-        events = parser.parse(data, maybe_more=False)
+    with Parser() as parser:
+        events = parser.feed(data) + parser.end()
     press = KeyPress.of_event(events[0]) if len(events) == 1 else None
     if press is None:
         return None

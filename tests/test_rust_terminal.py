@@ -270,7 +270,7 @@ def test_signals_within_a_paste(start):
     cases = start("")
     cases.send(START + b"ab")
     cases.resize(100, 40)
-    cases.expect_exact("Resized { columns: 100, rows: 40 }\r\n")
+    cases.expect_exact("size 100 x 40\r\n")
     cases.play([b"c\033[201~", 'Paste("abc")'])
     cases.quit()
 
@@ -281,7 +281,7 @@ def test_question_and_a_new_size(start):
     cases.play([b"a", "\033[6n\033[c", b"x\033[2;3R"])
     cases.resize(100, 40)
     cases.play([PAUSE, b"\033[?62c", "CursorPosition { row: 2, column: 3 }", "is_whole: true"])
-    cases.play(["key x\r\n", "Resized { columns: 100, rows: 40 }"])
+    cases.play(["key x\r\n", "size 100 x 40"])
     cases.quit()
 
 
@@ -294,7 +294,7 @@ def test_question_and_a_stop(start, number):
     cases.continue_in_foreground()
     cases.play(["CursorPosition { row: 2, column: 3 }", "is_whole: false"])
     cases.check_raw()
-    cases.play(["key x\r\n", "resumed\r\nResized { columns: 80, rows: 24 }\r\n"])
+    cases.play(["key x\r\n", f"resumed\r\n{SIZE}\r\n"])
     cases.play([b"\033[1;5R", "key ctrl+f3\r\n", ATTRIBUTES, "Csi("])
     cases.quit()
 
@@ -480,15 +480,14 @@ def test_guard_continued_where_nobody_had_the_terminal(start):
         (START + b"a\r", b"b" + END, 'Paste("a\\rb")'),
         (b"\033]11;rgb:", b"0/0/0\033\\", f"Osc({list(b'11;rgb:0/0/0')})"),
         (b"\033[", b"A", "key A\r\n"),
-        (b"typed", b"A", "key A\r\n"),
+        (b"xyz", b"A", "key x\r\nkey y\r\nkey z\r\nkey A\r\n"),
     ],
     ids=["a paste", "a string", "a beginning", "keys"],
 )
 def test_lent_within(start, begun, rest, line):
-    """What is open goes on, and all else is forgotten."""
+    """What was read is told, what is open goes on, and another beginning is forgotten."""
     cases = start("", "echo begun")
     cases.play([b"l" + begun, "begun", "lent true\r\n", rest, line])
-    assert b"key t" not in cases.output
     cases.play([START + b"second" + END, 'Paste("second")'])
     cases.quit()
 
@@ -528,13 +527,22 @@ def test_terminal_that_never_answers(start):
     cases.quit()
 
 
+def test_more_questions_than_may_be_open(start):
+    """The last one isn't written. Each reply makes room."""
+    cases = start("")
+    cases.play([b"n", "Answers { events: [], is_whole: false }\r\n"])
+    assert cases.output.count(BACKGROUND.encode()) == 16
+    cases.play([ATTRIBUTES, "Csi(", b"b", BACKGROUND, ATTRIBUTES * 16, "is_whole: true"])
+    cases.quit()
+
+
 def test_flags_of_kittys_protocol(start):
     """They are turned on and off, and nothing is asked. Keys are read in each form, whenever the
     terminal begins to send another."""
     cases = start("kitty")
     cases.play([b"\x03", "key ctrl+c\r\n", b"\033[99;5u", "key ctrl+c\r\n"])
     cases.play([b"\033[1;9A\033[1;5R", "key super+up\r\nkey ctrl+f3\r\n"])
-    cases.play([b"\033[?1u", "KeyboardFlags(1))\r\n"])
+    cases.play([b"\033[?1u", "KeyboardFlags(KittyKeyboardFlags(DISAMBIGUATE_ESCAPE_CODES))\r\n"])
     cases.stop()
     cases.continue_in_foreground()
     cases.play(["resumed\r\n", b"\x03\033[99;5u", "key ctrl+c\r\nkey ctrl+c\r\n"])
@@ -639,6 +647,23 @@ def test_reply_that_is_owed_at_a_stop(start):
     cases.play(["resumed\r\n", b"x", "key x\r\n", b"\033[1;5R", "key ctrl+f3\r\n"])
     assert cases.output.count(b"Csi(") == 1
     cases.quit()
+
+
+def test_reply_that_is_owed_at_a_stop_of_the_guard(start):
+    """It is discarded there, and so it isn't owed at the next stop."""
+    guard = start("guard", "plain")
+    guard.play([b"o", "byte 111\r\n"])
+    guard.stop_by(signal.SIGTSTP)
+    guard.continue_in_foreground()
+    guard.check_raw()
+    guard.stop_output()
+    guard.send(b"xls\r")  # the program is in a write
+    guard.play([PAUSE])
+    guard.kill(signal.SIGTSTP)
+    guard.wait_for_stop()
+    assert guard.read_as_shell() == b"ls\r"
+    guard.kill(signal.SIGKILL)
+    guard.wait_for_end()
 
 
 def test_reply_that_is_owed_while_it_is_lent(start):

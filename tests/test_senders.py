@@ -7,13 +7,13 @@ import pytest
 from terminal_data import data_files, load
 
 from hedrugal import (
-    ExtendedParser,
     FocusGained,
     FocusLost,
     Modifiers,
     MouseButton,
     MouseEncoding,
     MouseTracking,
+    Parser,
     SentMouse,
     encode_event,
     encode_paste,
@@ -112,4 +112,4 @@ def test_focus():
     lines = [line for path in data_files() for line in load(path)[1] if line.kind == "focus"]
     assert Counter(line.what for line in lines) == {"gained": 11, "lost": 12}
     for line in lines:
-        assert encode_event(FOCUS[line.what], ExtendedParser()) == line.bytes
+        assert encode_event(FOCUS[line.what], Parser()) == line.bytes

@@ -117,8 +117,8 @@ def told_event(line):
     numbers = [int(it) for it in numbers]
     if name == "CursorPosition":
         return ("reply", *numbers)
-    if name in ("Resize", "KeyboardFlags"):
-        return ("resize" if name == "Resize" else "flags", *numbers)
+    if name in ("Resized", "KeyboardFlags"):
+        return ("resized" if name == "Resized" else "flags", *numbers)
     if name == "Csi":
         return ("csi", bytes(numbers).decode("latin-1"))
     kind = re.search(r"kind: (\w+)", line)
@@ -553,7 +553,7 @@ def test_runs_of_all_kinds_are_drawn():
     }
     strings = {f"{word}{kind}" for word in ("", "cut ") for kind in ("osc", "dcs", "apc")}
     assert told == strings | set(
-        "none key release mouse focus reply csi flags resize paste".split() + ["part of paste"]
+        "none key release mouse focus reply csi flags resized paste".split() + ["part of paste"]
     )
     kinds = {answer for call, answer in calls if call[0] == "waiting"}
     assert kinds == set("Nothing Escape Sequence Character Paste String".split())

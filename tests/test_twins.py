@@ -136,7 +136,7 @@ def keys():
 
 
 def presses(events):
-    from hedrugal.extended import KeyPress
+    from hedrugal import KeyPress
 
     found = [KeyPress.of_event(it) for it in events]
     return [it and (plain_name(it.key), it.held.value) for it in found]
@@ -144,7 +144,7 @@ def presses(events):
 
 def read(parser, text):
     """The presses of a text with no more to come."""
-    return presses([*parser.parse(text), *parser.flush()])
+    return presses([*parser.feed(text), *parser.flush()])
 
 
 def is_left_out_of_port(key, held, level):
@@ -157,13 +157,13 @@ def is_left_out_of_port(key, held, level):
 @pytest.mark.parametrize("level", LEVELS)
 @pytest.mark.parametrize("encoding", ["XTERM", "CSI_U"])
 def test_twins(encoding, level):
-    from hedrugal import Dialect, ExtendedParser, InputParser, KeyboardEncoding
-    from hedrugal import KeyCodeEncodeModes, Modifiers, Reading, encode
+    from hedrugal import Dialect, KeyboardEncoding, KeyCodeEncodeModes, Modifiers, Parser, Reading
+    from hedrugal import encode
 
     is_csi_u = encoding == "CSI_U"
-    extended = [ExtendedParser(), ExtendedParser()]
+    extended = [Parser(), Parser()]
     extended[1].reading = Reading(x10_mouse=True)
-    port = [InputParser(), ExtendedParser(Dialect.TERMWIZ)]
+    port = Parser(Dialect.TERMWIZ)
     for key, held, on in itertools.product(keys(), range(16), [False, True]):
         modes = KeyCodeEncodeModes(KeyboardEncoding[encoding], on, on, level)
         text = encode(key, Modifiers(2 * held), modes)
@@ -176,8 +176,8 @@ def test_twins(encoding, level):
             port_pressed = [("enter", held & ALT), ("enter", 0)]
         for parser in extended:
             assert (case, read(parser, text)) == (case, pressed)
-        for parser in [] if is_left_out_of_port(name, held, level) else port:
-            assert (case, read(parser, text)) == (case, port_pressed)
+        if not is_left_out_of_port(name, held, level):
+            assert (case, read(port, text)) == (case, port_pressed)
 
 
 # The sets of modifiers in the columns of Kitty's tables, and which of them text keys have.
@@ -261,7 +261,7 @@ def kitty_keys():
 
 def kitty_reports(key, kind):
     """The reports of a key, with each set of modifiers, and what a character's key may have."""
-    from hedrugal.extended import KeyReport, KittyModifiers
+    from hedrugal import KeyReport, KittyModifiers
 
     is_character = len(str(plain_name(key))) == 1
     for held in range(64):
@@ -275,10 +275,9 @@ def kitty_reports(key, kind):
 
 @pytest.mark.parametrize("flags", [0, 1, 2, 4, 5, 8, 16, 22, 29, 31])
 def test_kitty(flags):
-    from hedrugal import ExtendedParser, Reading
-    from hedrugal.extended import KeyEventKind, KittyKeyboardFlags
+    from hedrugal import KeyEventKind, KittyKeyboardFlags, Parser, Reading
 
-    parsers = [ExtendedParser(), ExtendedParser()]
+    parsers = [Parser(), Parser()]
     parsers[1].reading = Reading(x10_mouse=True, questions=255)
     for key, kind in itertools.product(kitty_keys(), [KeyEventKind.PRESS, KeyEventKind.REPEAT]):
         name, is_repeat = plain_name(key), kind is KeyEventKind.REPEAT
@@ -289,7 +288,7 @@ def test_kitty(flags):
                 continue
             press = kitty_twin(name, held, flags, is_repeat, report.shifted, report.text)
             for parser in parsers:
-                found = presses(parser.parse(sent))
+                found = presses(parser.feed(sent))
                 if press in WAITING:
                     found += presses(parser.flush())
                 assert (report, sent, found) == (report, sent, [press])
@@ -298,12 +297,11 @@ def test_kitty(flags):
 
 def test_f3_while_a_question_is_open():
     """Its text with a modifier is the position that was asked for, and the next one is the key."""
-    from hedrugal import ExtendedParser, Function, Modifiers, encode
-    from hedrugal.extended import CursorPosition
+    from hedrugal import CursorPosition, Function, Modifiers, Parser, encode
 
     for held in range(1, 8):
-        parser = ExtendedParser()
+        parser = Parser()
         parser.expect_position()
         text = encode(Function(3), Modifiers(2 * held))
-        assert parser.parse(text) == [CursorPosition(1, held + 1)]
+        assert parser.feed(text) == [CursorPosition(1, held + 1)]
         assert read(parser, text) == [("f3", held)]

@@ -52,13 +52,13 @@ check 'example' check_example "$work/events"
 check 'example as C++' "$cxx" -std=c++11 "${strict[@]}" -I"$library" -xc++ c/events.c -xnone "${shared[@]}" -o "$work/events_cpp"
 check 'example with the shared library' check_example "$work/events_cpp"
 check 'example by pkg-config' example_by_pkg_config
-for name in parser encode presses bindings keymap; do check "build of test_$name" build test_$name $name; done
+for name in parser encode presses bindings keymap questions; do check "build of test_$name" build test_$name $name; done
 check 'build with the shared library' "$cc" -std=c99 "${strict[@]}" -I"$library" c/test_parser.c "${shared[@]}" -o "$work/parser_shared"
 check 'build of test_refusals' build test_refusals refusals "$counting"
 check 'build of test_sharing' build test_sharing sharing -pthread
 check "build of the kit's functions" build test_kit kit c/kit/heap.c c/kit/system.c "$counting"
 for name in ask live edit prompt list server many; do check "program $name as C99" build $name $name c/hedrugal_terminal.c; done
-for name in parser encode bindings keymap sharing refusals parser_shared; do check "test_$name" run "$work/$name"; done
+for name in parser encode bindings keymap questions sharing refusals parser_shared; do check "test_$name" run "$work/$name"; done
 check 'test_presses' run "$work/presses" c/numbers.txt
 check "the kit's functions" run "$work/kit" one ''
 if [ ${#emulator[@]} -gt 0 ] || ! command -v valgrind > /dev/null; then
@@ -66,7 +66,7 @@ if [ ${#emulator[@]} -gt 0 ] || ! command -v valgrind > /dev/null; then
     print_counts
     exit
 fi
-for name in parser encode bindings keymap sharing; do check "test_$name under valgrind" memcheck "$work/$name"; done
+for name in parser encode bindings keymap questions sharing; do check "test_$name under valgrind" memcheck "$work/$name"; done
 check 'test_presses under valgrind' memcheck "$work/presses" c/numbers.txt
 check 'test_refusals under valgrind' memcheck "$work/refusals" 1000
 check 'test_sharing under helgrind' timeout 300 valgrind --tool=helgrind --quiet --error-exitcode=9 "$work/sharing"

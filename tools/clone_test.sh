@@ -117,7 +117,7 @@ page="$waits; cd /root/own; $(command_of './v/bin/python -m') > /root/address & 
     python3 -c 'import re, urllib.request as web; print(web.urlopen(re.search(\"http\\S*\", open(\"/root/address\").read())[0]).read())' |
         grep -i '<title>'"
 
-parsed="import hedrugal; print(*hedrugal.InputParser().parse(b\"q\"))"
+parsed="import hedrugal; print(*hedrugal.Parser().feed(b\"q\"))"
 check 'clone' make_clone
 check 'machine without the kit' on_machine '! command -v rt; [ -e README.md ]'
 if [ "$cases" = tests ]; then

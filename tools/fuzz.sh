@@ -4,7 +4,7 @@
 #     tools/fuzz.sh [SECONDS]
 #     tools/fuzz.sh HARNESS FILE
 #
-# There are six harnesses in tools/fuzz, and the head of each says more of what it checks:
+# There are seven harnesses in tools/fuzz, and the head of each says more of what it checks:
 #
 #     cuts        a stream read whole and in pieces, whose events are written and read back and whose replies are read
 #     calls       calls in any order and at any time, with requests for memory refused
@@ -12,9 +12,10 @@
 #     keys        texts of keys, and what is sent for key reports
 #     names       names of chords, read and printed
 #     bindings    bindings of chords and a matcher beside plain ones
+#     questions   questions to the terminal beside a plain list
 #
-# Each begins with the seeds of tools/fuzz/corpus. cuts and calls run for two eighths of the SECONDS (60 if left out), the others for an
-# eighth each. With a FILE a harness is run alone.
+# Each begins with the seeds of tools/fuzz/corpus. cuts and calls run for two ninths of the SECONDS (60 if left out), the others for a
+# ninth each. With a FILE a harness is run alone.
 #
 # The harnesses are built with clang's checks of addresses and of undefined behaviour. The archive is compiled already and has no such
 # checks in it. So each argument lies beside a page that can't be touched, and each block of the library's memory between marks.
@@ -24,11 +25,11 @@
 set -u
 export LC_ALL=C
 . "$(dirname "$0")/common.sh"
-declare -A longest=([cuts]=600 [calls]=400 [maps]=300 [keys]=48 [names]=160 [bindings]=300)
+declare -A longest=([cuts]=600 [calls]=400 [maps]=300 [keys]=48 [names]=160 [bindings]=300 [questions]=300)
 [ "${1-}" != --help ] || { show_help; exit; }
 if [ $# -lt 2 ]; then
     want_number "${1-60}" SECONDS
-    eighth=$(((${1-60} + 7) / 8))
+    ninth=$(((${1-60} + 8) / 9))
 else
     [ $# = 2 ] || refuse_word "$3"
     [ -n "${longest[$1]-}" ] || refuse_word "$1"
@@ -91,9 +92,9 @@ if [ $# = 2 ]; then
     rm -r "$kept"
 else
     sed '/^#/d; s/[^ ]\+/"&"/g; s/ /\n/g' tools/fuzz/tokens.txt > "$work/tokens"
-    for harness in cuts calls maps keys names bindings; do
+    for harness in cuts calls maps keys names bindings questions; do
         [[ $harness = c* ]] && share=2 || share=1
-        fuzz "$harness" $((share * eighth))
+        fuzz "$harness" $((share * ninth))
     done
     rmdir --ignore-fail-on-non-empty "$kept"
 fi

@@ -24,6 +24,7 @@ HEADER = "c/hedrugal.h"
 NAMES = "crates/event_text/specs/Names.antt"
 LAWS = "crates/termwiz_grammar/specs/Laws.antt"
 CHORD = "crates/termwiz_bindings/src/chord.rt"
+QUESTIONS = "crates/hedrugal/src/questions.rt"
 
 
 class Number(NamedTuple):
@@ -65,35 +66,28 @@ def read_list() -> Numbers:
     return groups
 
 
-# The places of each file: its forms, each with the groups that it has in it.
+# The places of files: their forms, each with the groups that it has in one of these files.
 PLACES = {
     HEADER: {
         "c": "status kind waiting age termwiz_mod button key encoding kitty_flag dialect erase"
         " newline mouse_kind key_event_kind kitty_mod outcome reply device_attributes mode_state"
         " colour_name colour_scheme mouse mouse_tracking mouse_encoding"
     },
-    "rust/src/raw.rs": {
+    "rust/src/**/*.rs": {
         "const": "status waiting age kind dialect erase newline mouse_kind key_event_kind encoding"
         " outcome reply device_attributes mode_state colour_name colour_scheme mouse mouse_tracking"
-        " mouse_encoding"
+        " mouse_encoding",
+        "flag": "termwiz_mod button kitty_flag kitty_mod",
+        **dict.fromkeys(("variant", "number", "of"), "key"),
     },
-    "rust/src/input/flags.rs": {"flag": "termwiz_mod button kitty_flag kitty_mod"},
-    "rust/src/input/keys.rs": {"variant": "key", "number": "key", "of": "key"},
-    "rust/tests/parser/names.rs": {"named": "termwiz_mod button", "plain": "key"},
-    "python/hedrugal/__init__.py": {
-        "member": "termwiz_mod button kitty_flag encoding waiting age key",
-        "private": "status kind key",
+    "rust/tests/**/*.rs": {"named": "termwiz_mod button", "plain": "key"},
+    "python/hedrugal/*.py": {
+        "member": "termwiz_mod button kitty_flag encoding waiting age key dialect erase newline"
+        " mouse_kind key_event_kind kitty_mod device_attributes mode_state colour_name"
+        " colour_scheme mouse mouse_tracking mouse_encoding",
+        "constant": "status kind key outcome reply",
     },
-    "python/hedrugal/extended.py": {
-        "member": "dialect erase newline mouse_kind key_event_kind kitty_mod",
-        "private": "outcome",
-    },
-    "python/hedrugal/replies.py": {
-        "member": "device_attributes mode_state colour_name colour_scheme",
-        "private": "reply",
-    },
-    "python/hedrugal/sending.py": {"member": "mouse mouse_tracking mouse_encoding"},
-    "keys/names.c": {"table": "button kitty_mod"},
+    "keys/*.c": {"table": "button kitty_mod"},
 }
 
 # A place: its first line, those that are written, and its end.
@@ -114,8 +108,8 @@ FORMS = {
     "of": "{value} => KeyCode::{name}{made},",
     "named": '("{name}", {rust_type}::{name}),',
     "plain": "KeyCode::{name},",
-    "member": '{snake} = _number({value}, "{meaning}")',
-    "private": "_{capitals}_{snake} = {value}",
+    "member": '{snake} = numbered({value}, "{meaning}")',
+    "constant": "{capitals}_{snake} = {value}",
 }
 
 # The types of groups in Rust; the others are u32.
@@ -140,7 +134,7 @@ def lines_of(form: str, it: Number, is_last: bool) -> List[str]:
     if (
         (form in ("table", "named") and not it.value)
         or (form in ("plain", "member") and carried)
-        or (form == "private" and it.group == "key" and not carried)
+        or (form == "constant" and it.group == "key" and not carried)
     ):
         return []
     # LEFT_ARROW of LeftArrow; a name of capitals alone is unchanged.
@@ -162,33 +156,44 @@ def lines_of(form: str, it: Number, is_last: bool) -> List[str]:
     if form == "member" and len(text) > 96:
         parts = textwrap.wrap(it.meaning, 88, drop_whitespace=False)
         said = [f'    "{part}"' for part in parts]
-        return [f"{snake} = _number(", f"    {it.value},", *said[:-1], f"{said[-1]},", ")"]
+        return [f"{snake} = numbered(", f"    {it.value},", *said[:-1], f"{said[-1]},", ")"]
     return text.split("\n")
+
+
+def files_of(pattern: str) -> List[str]:
+    return [str(path.relative_to(TOP)) for path in sorted(TOP.glob(pattern))]
+
+
+def files_with_places() -> Iterator[str]:
+    """The files that have places, once these are all there."""
+    for pattern, forms in PLACES.items():
+        texts = {file: read(file) for file in files_of(pattern)}
+        head = re.compile(r"^ *\S+ numbers\.txt: (\w+ \w+)", re.M)
+        there = sorted(place for text in texts.values() for place in head.findall(text))
+        wanted = sorted(f"{group} {form}" for form in forms for group in forms[form].split())
+        for place in sorted({*wanted, *there}):
+            if there.count(place) != wanted.count(place):
+                count = f"{there.count(place)} places 'numbers.txt: {place}'"
+                sys.exit(f"{pattern}: has {count}, and not {wanted.count(place)}")
+        yield from (file for file, text in texts.items() if head.search(text))
 
 
 def with_numbers(file: str, numbers: Numbers) -> str:
     """The file's text with the numbers of the list at its places."""
-    text = read(file)
-    wanted = [f"{group} {form}" for form in PLACES[file] for group in PLACES[file][form].split()]
-    there = re.findall(r"^ *\S+ numbers\.txt: (\w+ \w+)", text, flags=re.M)
-    for place in sorted({*wanted, *there}):
-        if there.count(place) != wanted.count(place):
-            count = f"{there.count(place)} places 'numbers.txt: {place}'"
-            sys.exit(f"{file}: has {count}, and not {wanted.count(place)}")
 
     def written(place: re.Match[str]) -> str:
         group = numbers[place["group"]]
         lines = [line for it in group for line in lines_of(place["form"], it, it is group[-1])]
         return place["head"] + "".join(f"{place['space']}{line}\n" for line in lines) + place["end"]
 
-    text, ended = PLACE.subn(written, text)
-    if ended != len(wanted):
+    text, ended = PLACE.subn(written, read(file))
+    if 2 * ended != len(re.findall(r"^ *\S+ numbers\.txt: ", text, re.M)):
         sys.exit(f"{file}: has a place without its 'numbers.txt: end'")
     return text
 
 
 def write(numbers: Numbers) -> None:
-    for file in PLACES:
+    for file in files_with_places():
         wanted = with_numbers(file, numbers)
         if wanted != read(file):
             (TOP / file).write_text(wanted, encoding="utf-8")
@@ -197,7 +202,7 @@ def write(numbers: Numbers) -> None:
 
 def compare_places(numbers: Numbers) -> Iterator[str]:
     """What differs first in each file that has places."""
-    for file in PLACES:
+    for file in files_with_places():
         both = ((it + "\n").splitlines() for it in (read(file), with_numbers(file, numbers)))
         for at, (one, other) in enumerate(zip(*both), 1):
             if one != other:
@@ -205,11 +210,12 @@ def compare_places(numbers: Numbers) -> Iterator[str]:
                 break
 
 
-def matches(file: str, pattern: str) -> Iterator[Tuple[str, Dict[str, str]]]:
-    """Where a file has the pattern, and the pattern's groups."""
-    text = read(file)
-    for found in re.finditer(pattern, text, flags=re.M):
-        yield f"{file}:{text.count(chr(10), 0, found.start()) + 1}", found.groupdict("0")
+def matches(files: str, pattern: str) -> Iterator[Tuple[str, Dict[str, str]]]:
+    """Where files have the pattern, and the pattern's groups."""
+    for file in files_of(files):
+        text = read(file)
+        for found in re.finditer(pattern, text, flags=re.M):
+            yield f"{file}:{text.count(chr(10), 0, found.start()) + 1}", found.groupdict("0")
 
 
 def constants(prefix: str) -> str:
@@ -298,14 +304,17 @@ SAME = [
     ("HED_ENTRY_MOST", "rust/src/raw.rs", r"^pub const ENTRY_MOST: usize = (?P<it>\d+);$"),
     ("HED_CHORD_MOST", CHORD, r"^pub const MAX_KEYS: usize = (?P<it>\d+);$"),
     ("HED_CHORD_MOST", "rust/src/raw.rs", r"^pub const CHORD_MOST: usize = (?P<it>\d+);$"),
-    ("HED_CHORD_MOST", "python/hedrugal/extended.py", r"^_CHORD_MOST = (?P<it>\d+)$"),
+    ("HED_CHORD_MOST", "python/hedrugal/*.py", r"^CHORD_MOST = (?P<it>\d+)$"),
+    ("HED_QUESTIONS_MOST", QUESTIONS, r"^pub\(crate\) const MOST: usize = (?P<it>\d+);$"),
+    ("HED_QUESTIONS_MOST", "rust/src/raw.rs", r"^pub const QUESTIONS_MOST: usize = (?P<it>\d+);$"),
+    ("HED_QUESTIONS_MOST", "python/hedrugal/*.py", r"^QUESTIONS_MOST = (?P<it>\d+)$"),
     ("HED_VERSION", "c/hedrugal.pc", rf"^Version: {VERSION}$"),
     ("HED_VERSION", "CHANGELOG.md", rf"^## \[?{VERSION}"),
     ("HED_VERSION", "debian/changelog", rf"^hedrugal \({VERSION}-"),
     ("HED_VERSION", "rust/Cargo.toml", rf'^version = "{VERSION}"$'),
     ("HED_VERSION", "rust/Cargo.lock", rf'^name = "hedrugal"\nversion = "{VERSION}"$'),
     ("HED_VERSION", "rust/with/Cargo.toml", rf'^version = "{VERSION}"$'),
-    ("HED_VERSION", "python/hedrugal/__init__.py", rf'^__version__ = "{VERSION}"$'),
+    ("HED_VERSION", "python/hedrugal/*.py", rf'^__version__ = "{VERSION}"$'),
     ("HED_VERSION", "README.md", rf"^Version {VERSION};"),
     *(
         (f"HED_{it}", "crates/hedrugal/src/lib.rt", rf"^const {it}: u32 = (?P<it>\d+);$")

@@ -14,8 +14,8 @@ turn, and of each the least time counts. What is printed is what docs/PERFORMANC
 - processor time for an event through each layer over a terminal: those in C, Rust and Python, and
   crossterm's
 
-The parsers are Termwiz and Extended (the parser from C, in either dialect), Rust and Python
-(InputParser), Python Extended (ExtendedParser), Python Keys (the parser for prompt_toolkit),
+The parsers are Termwiz and Extended (the parser from C, in either dialect), Rust, Rust Extended,
+Python and Python Extended (the same from there), Python Keys (the parser for prompt_toolkit),
 libtermkey, crossterm and prompt_toolkit. The last three are those of Debian's packages. If one
 can't be built its column says why; `tools/needs.sh --install performance` installs them. To compare
 two commits there is tools/measure.sh."""
@@ -112,9 +112,9 @@ class Builder:
         run("cargo", *words, HEDRUGAL_LIBRARY=self.library, CARGO_TARGET_DIR=self.work)
         return f"{self.work}/release"
 
-    def rust(self):
+    def rust(self, *dialect):
         built = self.cargo("rust/Cargo.toml", "--locked", "--example", "measure")
-        return [f"{built}/examples/measure"]
+        return [f"{built}/examples/measure", *dialect]
 
     def layers(self):
         """The words of a program for each layer over a terminal, by the layer's name."""
@@ -158,7 +158,8 @@ PARSERS = {
     "Termwiz": lambda it: it.from_c("TERMWIZ"),
     "Extended": lambda it: it.from_c("EXTENDED"),
     "Rust": Builder.rust,
-    "Python": lambda it: it.python("measure.py", "hedrugal"),
+    "Rust Extended": lambda it: it.rust("extended"),
+    "Python": lambda it: it.python("measure.py", "termwiz"),
     "Python Extended": lambda it: it.python("measure.py", "extended"),
     "Python Keys": lambda it: it.python("measure.py", "keys"),
     "libtermkey": lambda it: it.linked(f"{TOOLS}/libtermkey.c", "-ltermkey"),
@@ -166,7 +167,7 @@ PARSERS = {
     "prompt_toolkit": lambda it: it.python("measure.py", "prompt_toolkit"),
 }
 # Those that read by one dialect.
-ALIKE = ["Termwiz", "Rust", "Python"], ["Extended", "Python Extended"]
+ALIKE = ["Termwiz", "Rust", "Python"], ["Extended", "Rust Extended", "Python Extended"]
 # The parsers that may be many. Their inputs stay in the processor's cache.
 OWN = "Termwiz with a table each"
 MANY = ["Termwiz", OWN, "Extended", "libtermkey", "crossterm"]

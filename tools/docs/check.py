@@ -18,6 +18,8 @@ Markers:
 <!-- run: rust [with FEATURE] [input 'TEXT' | typed 'TEXT' ..] -->
                                     a program over the package in rust/, or in rust/with with a
                                     feature and the crate of that name
+<!-- run: python [input 'TEXT' | typed 'TEXT' ..] -->
+                                    a program over the package in python/
 <!-- run: rattle FILE -->           the file, without its contracts, `ghost use` lines and comments
 <!-- run: sh -->                    commands, run at the top of the repository; DIR is the library's
                                     folder, TMPDIR a folder that is removed afterwards
@@ -40,8 +42,8 @@ nothing comes the word pause.
 
 --library names the library's folder, out/lib without it. With --built, `rt run` in a listing is
 the program that lies in the crate's out/; otherwise it proves and builds it. --only names some of
-links, c, rust, rattle, sh, lines, keyshow, separated by commas. One line is printed for each check
-that failed, and at the end 'N passed, N failed'."""
+links, c, rust, python, rattle, sh, lines, keyshow, separated by commas. One line is printed for
+each check that failed, and at the end 'N passed, N failed'."""
 import argparse
 import contextlib
 import glob
@@ -70,7 +72,15 @@ BESIDE = {
     "<event2/event.h>": ["-levent"],
 }
 # The kinds of listings, and the programs that each needs.
-TOOLS = {"c": "cc", "rust": "cc cargo", "rattle": "", "sh": "cc rt", "lines": "", "keyshow": "rt"}
+TOOLS = {
+    "c": "cc",
+    "rust": "cc cargo",
+    "python": "",
+    "rattle": "",
+    "sh": "cc rt",
+    "lines": "",
+    "keyshow": "rt",
+}
 KINDS = ["links", *TOOLS]
 FENCED = r"^ *(?P<fence>```+).*\n(?P<block>(?:.*\n)*?) *(?P=fence)$"
 # What a document consists of.
@@ -343,6 +353,13 @@ class Runner:
         run(["cargo", "build", "--quiet", "--offline", *words], folder, **variables)
         return run_with_input([f"{target}/debug/listing"], listing)
 
+    def python(self, listing):
+        source = f"{tempfile.mkdtemp(dir=self.work)}/listing.py"
+        Path(source).write_text(listing.text)
+        variables = {"HEDRUGAL_LIBRARY": self.library, "PYTHONPATH": f"{TOP}/python"}
+        words = [sys.executable, *shlex.split("-X utf8 -B -W error"), source]
+        return run_with_input(words, listing, **variables)
+
     def rattle(self, listing):
         file = listing.words[0]
         wanted = lines_in("\n".join(without_contracts(read(file))))
@@ -412,7 +429,7 @@ def options():
 def missing_tool(listings, library):
     """Says what a listing needs and isn't there."""
     in_sh = [it for it in listings if it.kind == "sh" and re.search(r"\bDIR\b", it.text)]
-    linked = [it for it in listings if it.kind in ("c", "rust")]
+    linked = [it for it in listings if it.kind in ("c", "rust", "python")]
     if in_sh + linked and not os.path.exists(f"{library}/libhedrugal.a"):
         return f"there is no libhedrugal.a in {library}: make builds it, or --library names another"
     for tool in " ".join(TOOLS[it.kind] for it in listings).split():

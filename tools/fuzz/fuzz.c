@@ -287,7 +287,7 @@ static hed_event without_own(hed_event event) {
       event.x = event.y = 0;
       break;
     case HED_KIND_CURSOR_POSITION: event.row = event.column = 0; break;
-    case HED_KIND_RESIZE: event.rows = event.columns = event.height = event.width = 0; break;
+    case HED_KIND_RESIZED: event.rows = event.columns = event.height = event.width = 0; break;
     case HED_KIND_KEYBOARD_FLAGS: event.flags = 0; break;
     case HED_KIND_STRING_PART:
     case HED_KIND_STRING_CUT: event.string_kind = 0; break;

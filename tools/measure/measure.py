@@ -1,4 +1,4 @@
-"""measure.py READER FILE READ: gives the file to READER, which is hedrugal, extended, keys or
+"""measure.py READER FILE READ: gives the file to READER, which is termwiz, extended, keys or
 prompt_toolkit, in reads of READ bytes, as measure.c does. It prints the nanoseconds of that, and
 the number of events."""
 import codecs
@@ -6,18 +6,23 @@ import sys
 import time
 
 
-def hedrugal():
-    from hedrugal import InputParser
+def termwiz():
+    from hedrugal import Dialect
 
-    parser = InputParser()
-    return lambda data, is_last: len(parser.parse(data, not is_last))
+    return of_dialect(Dialect.TERMWIZ)
 
 
 def extended():
-    from hedrugal import ExtendedParser
+    from hedrugal import Dialect
 
-    parser = ExtendedParser()
-    return lambda data, is_last: len(parser.parse(data, not is_last))
+    return of_dialect(Dialect.EXTENDED)
+
+
+def of_dialect(dialect):
+    from hedrugal import Parser
+
+    parser = Parser(dialect)
+    return lambda data, is_last: len(parser.feed(data, 0)) + (len(parser.flush()) if is_last else 0)
 
 
 def prompt_toolkit():
@@ -54,7 +59,7 @@ def main():
     with open(file, "rb") as opened:
         text = opened.read()
     reads = [text[at : at + int(read)] for at in range(0, len(text), int(read))]
-    readers = (hedrugal, extended, keys, prompt_toolkit)
+    readers = (termwiz, extended, keys, prompt_toolkit)
     give = {it.__name__: it for it in readers}[reader]()
     start = time.perf_counter_ns()
     events = sum(give(data, False) for data in reads[:-1]) + give(reads[-1], True)

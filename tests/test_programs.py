@@ -1,7 +1,9 @@
-"""The programs in C to copy first: c/prompt.c, c/list.c and c/server.c, and the longer c/many.c.
+"""The programs to copy first: prompt, list and server in C, Rust and Python, and the longer
+c/many.c.
 
-The three are short, and call only what the first pages name. On a pseudo-terminal a program has to
-draw and print the right things, and to leave the terminal's settings and modes as they were."""
+The three are short, and use only what the first pages name. On a pseudo-terminal a program has to
+draw and print the same in each language, and to leave the terminal's settings and modes as they
+were."""
 import collections
 import contextlib
 import os
@@ -19,6 +21,13 @@ from terminal import END, ENDING_SIGNALS, LFLAG, LONG_PAUSE, PAUSE, SECONDS, STA
 from terminal import Terminal, change_settings
 
 SHORT = ["prompt", "list", "server"]
+MOST_LINES = 60
+# Of each language where a program lies, and where it names what it uses of the library.
+SOURCES = {
+    "c": ("c/{}.c", r"\bhed_[a-z_]+(?=\()"),
+    "rust": ("rust/examples/{}.rs", r"^use hedrugal::([^;]+);"),
+    "python": ("python/examples/{}.py", r"^from hedrugal[\w.]* import (\([^)]*\)|.*)"),
+}
 UP, DOWN, RIGHT, LEFT = b"\033[A", b"\033[B", b"\033[C", b"\033[D"
 ROOM = 4096
 PASTE_LIMIT = 1 << 20
@@ -26,18 +35,28 @@ PASTE_LIMIT = 1 << 20
 ESCAPE_LIMIT, SHORT_PAUSE = 0.05, 0.01
 
 
-@pytest.mark.parametrize("name", SHORT)
-def test_length(name):
-    assert len((TOP / f"c/{name}.c").read_text().splitlines()) <= 60
+@pytest.fixture(scope="session", params=SOURCES)
+def language(request):
+    return request.param
+
+
+def source(language, name):
+    return (TOP / SOURCES[language][0].format(name)).read_text()
 
 
 @pytest.mark.parametrize("name", SHORT)
-def test_calls(name):
-    """README.md names them, or docs/c.md up to the end of its first section."""
-    first = "\n## ".join((TOP / "docs/c.md").read_text().split("\n## ")[:2])
-    named = set(re.findall(r"\bhed_[a-z_]+", (TOP / "README.md").read_text() + first))
-    calls = set(re.findall(r"\b(hed_[a-z_]+)\(", (TOP / f"c/{name}.c").read_text()))
-    assert calls and not calls - named
+def test_length(language, name):
+    assert len(source(language, name).splitlines()) <= MOST_LINES
+
+
+@pytest.mark.parametrize("name", SHORT)
+def test_names(language, name):
+    """README.md names what it uses, or the language's page up to the end of its first section."""
+    page = (TOP / f"docs/{language}.md").read_text()
+    first = (TOP / "README.md").read_text() + "\n## ".join(page.split("\n## ")[:2])
+    uses = re.findall(SOURCES[language][1], source(language, name), re.M)
+    used = set(re.findall(r"\w+", " ".join(uses)))
+    assert used and not used - set(re.findall(r"\w+", first))
 
 
 class Drawing(Terminal):
@@ -91,18 +110,19 @@ class List(Drawing):
         return [re.sub("^\033\\[7m", "*", row) for row in rows]
 
     def end(self, keys, status, printed):
+        """What it prints comes behind the last switch of a mode."""
         self.send(keys)
         self.check_end(status)
-        assert self.text().split("\033[?2004l")[-1] == printed
+        assert re.split(r"\033\[\?\d+[hl]", self.text())[-1] == printed
 
 
 @pytest.fixture
-def start(example):
+def start(example, language):
     """Starts a program, and waits for the first thing that it draws."""
     with contextlib.ExitStack() as stack:
 
         def run(kind, drawn, *words, **how):
-            program = example("c", kind.__name__.lower())
+            program = example(language, kind.__name__.lower())
             terminal = stack.enter_context(kind([*program, *words], **how))
             terminal.wait_for_drawn(drawn)
             assert terminal.is_raw()
@@ -473,8 +493,8 @@ class Many(Serving):
 
 
 @pytest.fixture
-def server(example):
-    with tempfile.TemporaryDirectory() as folder, Server(example("c", "server"), folder) as it:
+def server(example, language):
+    with tempfile.TemporaryDirectory() as folder, Server(example(language, "server"), folder) as it:
         yield it
 
 
