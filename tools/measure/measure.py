@@ -22,7 +22,7 @@ def of_dialect(dialect):
     from hedrugal import Parser
 
     parser = Parser(dialect)
-    return lambda data, is_last: len(parser.feed(data, 0)) + (len(parser.flush()) if is_last else 0)
+    return lambda data, is_last: len(parser.feed(data)) + (len(parser.flush()) if is_last else 0)
 
 
 def prompt_toolkit():
