@@ -159,7 +159,7 @@ def test_terminal_that_is_gone(start):
 @pytest.mark.parametrize("number", ENDING_SIGNALS, ids=lambda it: it.name)
 def test_signal(start, number):
     live = start("--mouse")
-    live.play([b"a", "Char U+0061"])
+    live.play([b"a", "Char U+0061\r\n"])
     live.kill(number)
     live.check_end(-number, "Char U+0061")
 
