@@ -1,5 +1,5 @@
 -- What numbers of an event stand for.
-use Rattle.std.proofs.Common.{◌≡◌, ℕ, List, Option, Some, None}
+use Rattle.std.proofs.Common.{◌≡◌, ℕ, List, Option, None}
 use Rattle.std.specs.Prelude.{IfNone}
 use Rattle.termwiz_extended_events.specs.declared.types.Event.{Event}
 use Rattle.termwiz_extended_events.specs.declared.types.Event.TheVariants.{Key, Mouse, Paste, FocusGained, FocusLost, CursorPosition, Resized, KeyboardFlags, Csi, Osc, Dcs, Apc, StringPart, StringCut}

@@ -34,10 +34,6 @@ press_found numbers p key told is only e =
     let h : numbers.held ≡ p.held = ap (λ (n : CKeyPress). n.held) is.1 in
     e ∙ ap₂ (λ k h. canonical (report_of k (record { modifiers = h; kind = Press }))) k h ∙ is.0.own
 
--- numbers are the same by their parts
-pub same_numbers : (a b : CKeyPress) → a.key ≡ b.key → a.held ≡ b.held → a.detail ≡ b.detail → a ≡ b
-same_numbers a b key held detail = λ i. record { key = key i; held = held i; detail = detail i }
-
 -- one more press is written
 pub one_more_written : (ps : List KeyPress) (keys : List CKeyPress) (i : ℕ) (p : KeyPress) → i < length keys → slice_get ps i ≡ Some p
     → slice_set (map c_press (take i ps) ++ drop i keys) i (c_press p) ≡ map c_press (take (suc i) ps) ++ drop (suc i) keys

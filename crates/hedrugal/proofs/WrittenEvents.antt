@@ -12,7 +12,7 @@ use Rattle.termwiz_timed.specs.Timed.{Timed}
 use Rattle.hedrugal.specs.declared.events.CEvent.{CEvent}
 use Rattle.hedrugal.specs.declared.parser_and_text.ParserAndText.{ParserAndText}
 use Rattle.hedrugal.specs.Calls.{MeetsMemory, copied}
-use Rattle.hedrugal.specs.EventArrays.{AreWritten, IsFull, Stops, TellsAll, TookAll, TookWithBytes, WroteEvents, joined_bytes, text_after_all}
+use Rattle.hedrugal.specs.EventArrays.{AreWritten, Stops, TellsAll, TookAll, TookWithBytes, WroteEvents, joined_bytes, text_after_all}
 use Rattle.hedrugal.specs.EventArrays.Stops.{all_told, full, refused}
 use Rattle.hedrugal.specs.Events.{brought, c_event, c_told, own_bytes}
 

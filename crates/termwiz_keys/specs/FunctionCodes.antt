@@ -1,5 +1,5 @@
 -- The numbers of the function keys in sequences.
-use Rattle.std.specs.Prelude.{ℕ, List, [], ◌∷◌, codes}
+use Rattle.std.specs.Prelude.{ℕ, List, [], ◌∷◌}
 
 -- the codes of the function keys, with the number of each
 abbrev pub function_codes : List (ℕ × ℕ)

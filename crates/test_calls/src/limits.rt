@@ -3,15 +3,8 @@ use crate::failure::Failure;
 use crate::line::Line;
 use termwiz_input::time::{Age, Limit, Policy, Seen, Timer};
 
-/// The usual limits, and one for a paste that stalls.
-const END_PASTES: Policy = Policy {
-    escape: Some(50),
-    alt_key: Some(100),
-    sequence: Some(1000),
-    string: Some(5000),
-    character: None,
-    paste: Some(10000),
-};
+/// How long a paste that stalls may wait, in milliseconds.
+const STALLED_PASTE: u32 = 10000;
 
 /// A timer and a policy.
 #[derive(Clone, Copy)]
@@ -63,7 +56,7 @@ impl Limits {
         line: &mut Line,
     ) -> Result<(), Failure> {
         match name {
-            "end-pastes" => self.policy = END_PASTES,
+            "end-pastes" => self.policy.paste = Some(STALLED_PASTE),
             "timeout" => show_millis(self.timer.next_timeout(now), line),
             "limit" => show_limit(limit, line),
             _ => return Err(Failure::NoSuchWord),

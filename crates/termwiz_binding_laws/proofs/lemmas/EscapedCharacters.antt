@@ -10,7 +10,7 @@ use Rattle.termwiz_keys.specs.declared.types.KeyEvent.{KeyEvent}
 use Rattle.termwiz_keys.specs.declared.types.KeyCode.TheVariants.{Char}
 use Rattle.termwiz_keys.specs.Encoding.{enc, key_text, char_text, plain_char_text, other_text}
 use Rattle.termwiz_keys.specs.Keys as port
-use Rattle.termwiz_keys.specs.Keys.{key_with, plain, with_alt}
+use Rattle.termwiz_keys.specs.Keys.{key_with}
 use Rattle.termwiz_grammar.specs.Table.{numbers}
 use Rattle.termwiz_grammar.proofs.lemmas.lists.ListMembers.{same_on}
 use Rattle.termwiz_laws.proofs.lemmas.first_bytes.EncodedBytes.{IsSeveral, encode_forms}

@@ -12,7 +12,7 @@ use Rattle.termwiz_laws.proofs.lemmas.further_keys.SingleKey.Plainly.{by_row, by
 use Rattle.termwiz_laws.proofs.lemmas.further_keys.SingleKey.Single.{plainly, after_escape}
 use Rattle.termwiz_extended_events.specs.declared.types.Reading.{Reading}
 use Rattle.termwiz_extended_grammar.proofs.lemmas.forms.FormBytes.{IsSecond, form_shape}
-use Rattle.termwiz_kitty.proofs.lemmas.legacy.ReadAsOne.{IsReportText, row_is, no_escape_before, second_byte}
+use Rattle.termwiz_kitty.proofs.lemmas.legacy.ReadAsOne.{IsReportText, row_is, no_escape_before}
 
 -- what a report begins with
 pub record Shape (text : List ℕ) : Type 0 where
@@ -32,11 +32,6 @@ plainly_row reading text k (by_row r) is = r
 plainly_row reading text k (by_character c scalar e g) is =
     let s = shape reading text is in absurd (no_escape_before c s.second s.rest scalar (sym e ∙ s.split))
 plainly_row reading text k (by_broken_byte b e g) is = (let s = shape reading text is in absurd (cc (e, s.split)))
-
-pub single_row : (reading : Reading) (text : List ℕ) (k : KeyEvent) → Single text k → IsReportText reading text → Contains rows (text, k)
-single_row reading text k (plainly p) is = plainly_row reading text k p is
-single_row reading text k (after_escape t j e p g) is =
-    let s = shape reading text is in absurd (second_byte s.second s.rest t j s.is_second s.some (cc (e, s.split)) p)
 
 no_second_escape : (r : List ℕ) → Bytes (27 ∷ 27 ∷ r) → ⊥
 no_second_escape r (one y l e) = cc (e)

@@ -11,7 +11,6 @@ use Rattle.termwiz_keys.specs.declared.types.KeyCode.TheVariants.{Char, Function
 use Rattle.termwiz_keys.specs.Encoding.{enc}
 use Rattle.termwiz_keys.specs.KeyCodes.{holds}
 use Rattle.termwiz_keys.specs.Keys as port
-use Rattle.termwiz_keys.specs.Keys.{key_with, plain, with_alt}
 use Rattle.termwiz_grammar.specs.Table.{numbers}
 use Rattle.termwiz_grammar.proofs.lemmas.lists.ListMembers.{pairs}
 use Rattle.termwiz_laws.proofs.lemmas.further_keys.ComputedReadings.{Held, enc_written_out}

@@ -1,6 +1,6 @@
 -- Bindings by the codes of their chords.
 use Rattle.std.proofs.Common.{◌≡◌, ◌≢◌, ◌∙◌, ◌↔◌, ⊎_elim, ℕ, ◌+◌, ◌*◌, ◌/◌, ◌<◌, ◌≤◌, Bool, true, false, cond, List, [], ◌∷◌, ◌++◌, length, take, drop, refl, sym, ap, subst, take-append-drop, arith}
-use Rattle.std.specs.Prelude.{Option, None, Some, IsSome, IsSomeAnd, MatchOption, is_some}
+use Rattle.std.specs.Prelude.{Option, None, Some, IsSome, is_some}
 use Rattle.std.specs.List.{All}
 use Rattle.std.specs.Ordering.{nat_cmp}
 use Rattle.std.specs.Cmp.Lexicographic.{slice_cmp}
@@ -11,7 +11,7 @@ use Rattle.termwiz_keymap.specs.declared.keymap.Found.{Found}
 use Rattle.termwiz_keymap.specs.declared.keymap.Found.TheVariants.{None as Nothing, Exact, Ambiguous, NeedData}
 use Rattle.termwiz_keymap.specs.KeyRanges.{GoesOn}
 use Rattle.termwiz_keymap.specs.KeysInOrder.{AreExtensions, AreInOrder, IsEntryAt}
-use Rattle.termwiz_keymap.specs.Lookup.{ByteMap, IsClone, IsExtended, IsLongestKey, LookupGives, NoKeyBegins}
+use Rattle.termwiz_keymap.specs.Lookup.{ByteMap, IsExtended, IsLongestKey, LookupGives, NoKeyBegins}
 use Rattle.termwiz_keymap.proofs.lemmas.entries.EntriesInOrder.{in_order_of_bytes}
 use Rattle.termwiz_keymap.proofs.lemmas.entries.KeysInEntries.{tied, tied_same, get-set}
 use Rattle.termwiz_keymap.proofs.lemmas.entries.RemovedEntries.{get-without}
@@ -185,15 +185,6 @@ module _ {V : Type 0} (m : ByteMap V) (are : AreBindings m) where
       go : (b : Bool) → IsSome (cond b None (map.get m key)) → (c : List KeyPress) × IsChord c × (c ≢ []) × (key ≡ codes c)
       go true found = absurd (cc (found))
       go false found = are key found
-
-  pub bindings_cloned : (is_clone : V → V → Type 0) (copy : ByteMap V) → IsClone is_clone m copy → AreBindings copy
-  bindings_cloned is_clone copy cloned key there = go (map.get m key) refl (cloned key)
-    where
-      go : (found : Option V) → map.get m key ≡ found
-          → MatchOption found (map.get copy key ≡ None) (λ value. IsSomeAnd (map.get copy key) (is_clone value))
-          → (c : List KeyPress) × IsChord c × (c ≢ []) × (key ≡ codes c)
-      go None is none = absurd (cc (none, there))
-      go (Some value) is some = are key (some_at key value is)
 
 -- no chord is bound in an empty map
 pub bindings_empty : (V : Type 0) (m : ByteMap V) → m ≡ map.empty → AreBindings m

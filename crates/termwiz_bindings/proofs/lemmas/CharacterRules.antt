@@ -11,7 +11,7 @@ use Rattle.termwiz_extended_events.specs.declared.types.ReportedKey.TheVariants.
 use Rattle.termwiz_extended_events.specs.ReportedKeys.{entry_at}
 use Rattle.termwiz_bindings.specs.declared.press.KeyPress.{KeyPress}
 use Rattle.termwiz_bindings.specs.Letters.{letter_of, shown_with_shift}
-use Rattle.termwiz_bindings.specs.Presses.{character, character_press, by_character, has_shift, with_shift, without_shift, is_strong, is_told, control_keys, uncontrolled, key_with_control, control_character, control_press, told_press, shown_press, lowered_character, lowered_press, cased_press, main_press}
+use Rattle.termwiz_bindings.specs.Presses.{character, character_press, has_shift, with_shift, without_shift, is_strong, is_told, control_keys, uncontrolled, key_with_control, control_character, control_press, told_press, shown_press, lowered_character, lowered_press, cased_press, main_press}
 use Rattle.termwiz_bindings.specs.MainKeys.{main_key, main_of_named, main_code, makes_no_press}
 use Rattle.termwiz_bindings.specs.PressLaws.{IsSettled}
 use Rattle.termwiz_bindings.proofs.lemmas.CasedLetters.{letter_is, not_shown, shown_plain}
@@ -28,11 +28,6 @@ by_key P characters others p = go p.key refl
         let own : character_press c p.held ≡ p = ap (λ (key : ReportedKey). record { key = key; held = p.held }) (sym is) in
         subst P own (characters c p.held)
     go key is = others p (ap character is)
-
--- a rule on characters leaves any other press alone
-pub other_stays : (rule : ℕ → ℕ → KeyPress) (p : KeyPress) → character p.key ≡ None
-    → by_character rule p (character p.key) ≡ p
-other_stays rule p none = rw none refl
 
 -- 5
 pub main_settles : IsSettled main_press

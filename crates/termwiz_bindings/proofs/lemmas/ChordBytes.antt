@@ -4,7 +4,7 @@ use Rattle.std.specs.Prelude.{None, Some, slice_get}
 use Rattle.std.specs.List.{between}
 use Rattle.std.proofs.lemmas.List.{append-nil, drop-append-le, drop-drop, drop-replicate, drop_at, length-append, length-drop, take_all, take_at}
 use Rattle.std.proofs.lemmas.Option.{slice_get_cases, slice_get_past}
-use Rattle.std.proofs.lemmas.List.Elements.{All-drop, All-get_or, All-nil, All-push}
+use Rattle.std.proofs.lemmas.List.Elements.{All-drop, All-get_or, All-push}
 use Rattle.termwiz_bindings.specs.declared.chord.TheConstants.{MAX_KEYS}
 use Rattle.termwiz_bindings.specs.declared.press.KeyPress.{KeyPress}
 use Rattle.termwiz_bindings.specs.Codes.{IsPress, code, code_len, codes, presses_with}
@@ -31,10 +31,6 @@ holds_as bytes len ps same count is =
       padding = ap padded held ∙ sym same;
     }
 
--- no press, and zeros alone
-pub no_presses : IsChord []
-no_presses = record { few = omega arith; presses = All-nil IsPress }
-
 -- one press more
 pub one_more : (ps : List KeyPress) (press : KeyPress) → IsChord ps → IsPress press → length ps < MAX_KEYS → IsChord (ps ++ press ∷ [])
 one_more ps press is one room = record {
@@ -59,10 +55,6 @@ pushed_bytes ps press start same room =
     ∙ drop-replicate code_len (MAX_KEYS * code_len - length ps * code_len) 0 ∙ ap (λ n. replicate n 0) fewer)
     ∙ sym (append_assoc (codes ps) (code press) (replicate (MAX_KEYS * code_len - length (ps ++ press ∷ []) * code_len) 0))
     ∙ ap (λ bytes. bytes ++ replicate (MAX_KEYS * code_len - length (ps ++ press ∷ []) * code_len) 0) (sym (codes_push ps press))
-
--- the codes of a chord as it is held
-pub held_codes : (ps : List KeyPress) (len : ℕ) → len ≡ length ps * code_len → take len (padded ps) ≡ codes ps
-held_codes ps len same = take_at (codes ps) _ len (codes_length ps ∙ sym same)
 
 -- and those of one press
 pub held_code : (ps : List KeyPress) (index start end : ℕ) (d : KeyPress) → index < length ps → start ≡ index * code_len

@@ -7,8 +7,7 @@ use Rattle.std.proofs.lemmas.Bool.Decides.{nat_tests}
 use Rattle.std.proofs.lemmas.List.{drop_all, take_all, take_more, map_push, length-map, length-take-le}
 use Rattle.termwiz_bindings.specs.declared.press.KeyPress.{KeyPress}
 use Rattle.termwiz_bindings.specs.declared.names.ReadError.{ReadError}
-use Rattle.termwiz_bindings.specs.declared.names.ReadErrorKind.TheVariants.{TooLong}
-use Rattle.termwiz_bindings.specs.Names.{error_at, read_key, printed}
+use Rattle.termwiz_bindings.specs.Names.{read_key, printed}
 use Rattle.termwiz_bindings.specs.ChordNames.{is_blank, is_refused, control_at, with_key, read_keys, printed_chord}
 use Rattle.termwiz_bindings.proofs.lemmas.TextPlaces.{part_to_end, byte_and_rest, part_length, part_grown}
 
@@ -25,32 +24,6 @@ pub refused_later : (at c : ℕ) (all cs : List ℕ) → all ≡ c ∷ cs → is
     → control_at at all ≡ control_at (at + len_utf8 c) cs
 unfolding control_at
 refused_later at c all cs is fine = rw (is, fine) refl
-
--- a key behind others
-module _ (presses : List KeyPress) (at : ℕ) where
-  pub with_none : (key : List ℕ) → length key ≡ 0 → with_key presses at key ≡ Ok presses
-  with_none [] none = refl
-  with_none (b ∷ key) none = absurd (omega arith)
-
-  pub with_full : (key : List ℕ) → ¬ (length key ≡ 0) → 32 ≤ length presses → with_key presses at key ≡ Err (error_at TooLong at)
-  with_full [] some full = absurd (some refl)
-  with_full (b ∷ key) some full =
-      let none : nat_lt (length presses) 32 ≡ false = grind (arith, nat_tests) in
-      rw none refl
-
-  pub with_press : (key : List ℕ) (p : KeyPress) → ¬ (length key ≡ 0) → length presses < 32 → read_key at key ≡ Ok p
-      → with_key presses at key ≡ Ok (presses ++ p ∷ [])
-  with_press [] p some room reads = absurd (some refl)
-  with_press (b ∷ key) p some room reads =
-      let test : nat_lt (length presses) 32 ≡ true = grind (arith, nat_tests) in
-      rw (test, reads) refl
-
-  pub with_error : (key : List ℕ) (error : ReadError) → ¬ (length key ≡ 0) → length presses < 32 → read_key at key ≡ Err error
-      → with_key presses at key ≡ Err error
-  with_error [] error some room reads = absurd (some refl)
-  with_error (b ∷ key) error some room reads =
-      let test : nat_lt (length presses) 32 ≡ true = grind (arith, nat_tests) in
-      rw (test, reads) refl
 
 -- a byte of a key, and a blank behind one
 pub same_key : (presses : List KeyPress) (at b : ℕ) (key rest : List ℕ) → is_blank b ≡ false

@@ -26,9 +26,6 @@ held_from_below held below =
 pub locks_held : (bits : ℕ) → IsHeld (bit_and bits all_but_locks)
 locks_held bits = and_assoc 63 bits 63
 
-pub none_held : IsHeld 0
-none_held = refl
-
 -- one modifier more
 pub more_held : (held more : ℕ) → more < 64 → IsHeld held → IsHeld (bit_or held more)
 more_held held more below is = held_from_below (bit_or held more) (or_lt 6 held more (held_below held is) below)
@@ -52,9 +49,6 @@ others_stay held = ap (λ n. not (n == 0)) (and_assoc 60 held 62)
 -- SHIFT was added
 pub is_shifted : (held : ℕ) → has_shift (with_shift held) ≡ true
 is_shifted held = ap (λ n. not (n == 0)) (and_or_self 1 held)
-
-pub others_with_shift : (held : ℕ) → is_strong (with_shift held) ≡ is_strong held
-others_with_shift held = ap (λ n. not (n == 0)) (and_or_apart 60 held 1 refl)
 
 pub dropped_again : (held : ℕ) → without_shift (with_shift held) ≡ without_shift held
 dropped_again held = and_or_apart 62 held 1 refl

@@ -107,11 +107,6 @@ modifier_read modifier word reads all held at rest new = go (has_any all modifie
     go true = reads held at rest new
     go false = (at, refl)
 
--- one reading after another
-then_read : (h0 h1 h2 at : ℕ) (before between after : List ℕ) (one : ReadsOn h0 at before h1 between)
-    → ReadsOn h1 one.0 between h2 after → ReadsOn h0 at before h2 after
-then_read h0 h1 h2 at before between after one two = (two.0, one.1 ∙ two.1)
-
 -- all modifiers
 pub modifiers_read : (held at : ℕ) (name : List ℕ) → held < 64 → ReadsOn 0 at (printed_modifiers held ++ name) held name
 unfolding printed_modifiers

@@ -22,7 +22,7 @@ use Rattle.termwiz_keys.specs.declared.types.KeyEvent.{KeyEvent}
 use Rattle.termwiz_keys.specs.declared.types.InputEvent.{InputEvent}
 use Rattle.termwiz_keys.specs.declared.types.InputEvent.TheVariants.{Key}
 use Rattle.termwiz_grammar.specs.Grammar as port
-use Rattle.termwiz_grammar.specs.Grammar.{Head, IsHead, IsCharacter, IsBroken, IsLongest, IsAfterEscape, replacement}
+use Rattle.termwiz_grammar.specs.Grammar.{Head, IsHead, IsCharacter, IsBroken, IsLongest, replacement}
 use Rattle.termwiz_grammar.specs.Grammar.Head.{Sequence, Character, Broken}
 use Rattle.termwiz_grammar.specs.Grammar.Item.{key, char, broken, mouse, paste, lone_escape, alt}
 use Rattle.termwiz_grammar.specs.Sequences.{IsSequence}

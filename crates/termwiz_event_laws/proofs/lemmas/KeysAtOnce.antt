@@ -14,7 +14,7 @@ use Rattle.termwiz_keys.specs.declared.types.KeyCode.TheVariants.{Char}
 use Rattle.termwiz_keys.specs.declared.types.KeyEvent.{KeyEvent}
 use Rattle.termwiz_keys.specs.declared.types.InputEvent.{InputEvent}
 use Rattle.termwiz_grammar.specs.Grammar as port
-use Rattle.termwiz_grammar.specs.Grammar.{Head, IsHead, IsCharacter, IsBroken, IsUnfinishedSequence, IsUnfinishedCharacter, replacement}
+use Rattle.termwiz_grammar.specs.Grammar.{Head, IsHead, IsCharacter, IsBroken}
 use Rattle.termwiz_grammar.specs.Grammar.Head.{Sequence, Character, Broken}
 use Rattle.termwiz_grammar.specs.Grammar.Item.{key, char, broken, mouse, paste, lone_escape, alt}
 use Rattle.termwiz_grammar.specs.Sequences.{Meaning, IsSequence}

@@ -8,7 +8,7 @@ use Rattle.termwiz_keys.specs.Keys.{ALT, plain, escape, with_alt}
 use Rattle.termwiz_keys.specs.declared.types.KeyEvent.{KeyEvent}
 use Rattle.termwiz_keys.specs.declared.types.InputEvent.{InputEvent}
 use Rattle.termwiz_grammar.specs.Grammar as port
-use Rattle.termwiz_grammar.specs.Grammar.{Head, IsHead, IsCharacter, IsBroken, replacement}
+use Rattle.termwiz_grammar.specs.Grammar.{Head, IsHead, replacement}
 use Rattle.termwiz_grammar.specs.Grammar.Head.{Sequence, Character, Broken}
 use Rattle.termwiz_grammar.specs.Grammar.Item.{key, char, broken, mouse, paste, lone_escape, alt}
 use Rattle.termwiz_grammar.specs.Sequences.Meaning.{Row, Report}

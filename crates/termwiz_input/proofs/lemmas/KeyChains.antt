@@ -1,8 +1,8 @@
 -- The places of the rows of each bucket as a chain, and the search in it for the rows of a key.
 use Rattle.std.proofs.Common.{◌≡◌, ℕ, ◌+◌, ◌<◌, ◌≤◌, List, length, refl, sym, ap, ◌∙◌, subst, ◌⊎◌, ⊎_elim, Bool, true, false, IsTrue, Fits, w16, arith}
 use Rattle.std.specs.Prelude.{slice_index, slice_index_or, slice_set}
-use Rattle.std.proofs.Math.ListN.{replicate, length-set}
-use Rattle.std.proofs.lemmas.List.{length-replicate, get_or-replicate, get_or_read, get_or-set_same, get_or-set_other}
+use Rattle.std.proofs.Math.ListN.{length-set}
+use Rattle.std.proofs.lemmas.List.{get_or_read, get_or-set_same, get_or-set_other}
 use Rattle.std.proofs.lemmas.Bool.{cases_eq}
 use Rattle.std.specs.FinMap as map
 use Rattle.termwiz_keymap.specs.KeysInOrder.{IsEntryAt}
@@ -12,7 +12,7 @@ use Rattle.termwiz_grammar.specs.Table.{table}
 use Rattle.termwiz_grammar.specs.Laws.{row_count}
 use Rattle.termwiz_grammar.specs.RowsInOrder.{IsRowAt}
 use Rattle.termwiz_grammar.proofs.lemmas.table.TableAsMap.{rows_in_order}
-use Rattle.termwiz_input.specs.KeyBuckets.{AreFirst, AreNext, IsNextOfBucket, IsOfBucket, IsSearched, bucket_count, bucket_of}
+use Rattle.termwiz_input.specs.KeyBuckets.{AreFirst, AreNext, IsNextOfBucket, IsSearched, bucket_count, bucket_of}
 use Rattle.termwiz_input.specs.KeyPlaces.{IsNextPlaceOf}
 
 -- A place of the table has one key.
@@ -46,29 +46,6 @@ here_or_after a b h = grind (arith, h)
 
 before_or_from : (a b : ℕ) → (b < a) ⊎ (a ≤ b)
 before_or_from a b = grind arith
-
--- From the number of rows on there is no row.
-at_end : (bucket n : ℕ) → n ≡ map.len table → IsNextOfBucket bucket n n
-at_end bucket n same = record {
-  low = omega arith;
-  high = omega (arith, same);
-  own = λ bytes key is. absurd (omega (arith, same, is.inside));
-  none = λ between bytes key from below is e. absurd (omega (arith, from, below));
-}
-
-pub first_at_end : (n : ℕ) (first : List ℕ) → n ≡ map.len table → first ≡ replicate bucket_count n → AreFirst n first
-first_at_end n first same are = record {
-  counted = ap length are ∙ length-replicate bucket_count n;
-  each = λ bucket inside.
-      subst (IsNextOfBucket bucket n) (sym (ap (λ f. slice_index f bucket) are ∙ get_or-replicate bucket_count bucket n 0 inside))
-      (at_end bucket n same);
-}
-
-pub next_at_end : (n : ℕ) (next : List ℕ) → n ≡ map.len table → next ≡ replicate n n → AreNext n next
-next_at_end n next same are = record {
-  counted = ap length are ∙ length-replicate n n ∙ same;
-  each = λ place bytes key from is. absurd (omega (arith, same, from, is.inside));
-}
 
 -- one place before
 here : (place : ℕ) (bytes : List ℕ) (key : KeyEvent) → IsRowAt place bytes key → IsNextOfBucket (bucket_of key) place place
@@ -145,15 +122,6 @@ next_read place bytes key next read after follow row is value =
     let at : after ≡ slice_index next place = read_at next place read after (omega (arith, follow.counted, row.inside)) is value in
     subst (IsNextOfBucket (bucket_of key) (place + 1)) (sym at) (follow.each place bytes key (omega arith) row)
 
--- A search in a chain.
-pub search_begun : (key : KeyEvent) (from : ℕ) → IsOfBucket (bucket_of key) from → from ≤ map.len table → IsSearched key from from
-search_begun key from own high = record {
-  low = omega arith;
-  high = high;
-  own = own;
-  none = λ between bytes low below is. absurd (omega (arith, low, below));
-}
-
 pub search_on : (key own : KeyEvent) (from place next : ℕ) (bytes : List ℕ) → IsSearched key from place → IsRowAt place bytes own
     → ¬ (own ≡ key) → IsNextOfBucket (bucket_of own) (place + 1) next → IsSearched key from next
 search_on key own from place next bytes so_far is not after =
@@ -178,14 +146,6 @@ search_found key own from place bytes so_far is same = record {
   low = so_far.low;
   high = so_far.high;
   own = λ other its at. key_once_at place other bytes its own at is ∙ same;
-  none = so_far.none;
-}
-
-pub search_ended : (key : KeyEvent) (from place : ℕ) → IsSearched key from place → map.len table ≤ place → IsNextPlaceOf key from place
-search_ended key from place so_far all = record {
-  low = so_far.low;
-  high = so_far.high;
-  own = λ other its at. absurd (omega (arith, all, at.inside));
   none = so_far.none;
 }
 

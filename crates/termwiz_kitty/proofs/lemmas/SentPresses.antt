@@ -33,10 +33,6 @@ no_legacy_by_rule false false false true t text e = cc (e)
 no_legacy_by_rule false false false false true text e = cc (e)
 no_legacy_by_rule false false false false false text e = cc (e)
 
-other_rule : (sent : Option LegacyText) → or_reported sent ≡ Typed → ⊥
-other_rule (Some text) e = cc (e)
-other_rule None e = cc (e)
-
 typed_by_rule : (a b c d t : Bool) (sent : Option LegacyText) → (if a then Nothing else (if b then Nothing else (if c then Reported
     else (if d then Nothing else (if t then Typed else or_reported sent))))) ≡ Typed → c ≡ false
 typed_by_rule true b c d t sent e = absurd (cc (e))

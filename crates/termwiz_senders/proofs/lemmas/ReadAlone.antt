@@ -209,30 +209,6 @@ row_of_key key own place bytes only here = subst (IsRowAt place bytes) (only byt
 pub one_key : (r : KeyReport) (o : Option KeyEvent) (key own : KeyEvent) → o ≡ port_key r → o ≡ Some key → port_key r ≡ Some own → own ≡ key
 one_key r o key own is some other = let same : Some own ≡ Some key = sym other ∙ sym is ∙ some in cc (same)
 
-no_port_key : (r : KeyReport) (o : Option KeyEvent) (own : KeyEvent) → o ≡ port_key r → o ≡ None → ¬ (port_key r ≡ Some own)
-no_port_key r o own is none other = let same : None ≡ Some own = sym none ∙ is ∙ other in cc (same)
-
-pub no_sent : (reading : Reading) (r : KeyReport) (o : Option KeyEvent) → o ≡ port_key r → o ≡ None → (bytes : List ℕ)
-    → ¬ IsSentText reading r bytes
-no_sent reading r o is none bytes text = no_port_key r o text.key is none text.key_is
-
-pub sent_unread : (reading : Reading) (r : KeyReport) (o : Option KeyEvent) (key : KeyEvent) (sent : List ℕ) → o ≡ port_key r
-    → o ≡ Some key → enc key.key key.modifiers no_modes ≡ Some sent → ¬ IsReadAsKey reading r sent → (bytes : List ℕ)
-    → ¬ IsSentText reading r bytes
-sent_unread reading r o key sent is some are not bytes text =
-    let own : text.key ≡ key = one_key r o key text.key is some text.key_is in
-    let both : Some bytes ≡ Some sent = sym text.sent ∙ ap (λ k. enc k.key k.modifiers no_modes) own ∙ are in
-    let same : bytes ≡ sent = cc (both) in
-    not (subst (IsReadAsKey reading r) same text.read)
-
--- the character of a key
-pub other_character : (reading : Reading) (r : KeyReport) (c : ℕ) (text : List ℕ) → r.key ≡ Named (Char c) → text ≡ encode_utf8 c
-    → ¬ IsReadAsKey reading r text → (bytes : List ℕ) → ¬ IsCharacterText reading r bytes
-other_character reading r c text is are not bytes own =
-    let both : Named (Char own.character) ≡ Named (Char c) = sym own.key_is ∙ is in
-    let same : own.character ≡ c = cc (both) in
-    not (subst (IsReadAsKey reading r) (own.bytes_are ∙ ap encode_utf8 same ∙ sym are) own.read)
-
 -- What a key without an ESC before it is written as, by the three ways.
 pub no_plain_text : (reading : Reading) (r : KeyReport) → ((bytes : List ℕ) → ¬ IsSentText reading r bytes)
     → ((bytes : List ℕ) → ¬ IsFirstRow reading r bytes) → ((bytes : List ℕ) → ¬ IsCharacterText reading r bytes) → (bytes : List ℕ)
@@ -255,13 +231,6 @@ no_key_text reading r typed_none report_none bytes (reported none is) = report_n
 pub if_ok : {A E : Type 0} {P Q : A → Type 0} (r : Result A E) → ((x : A) → P x → Q x) → IfOk r P → IfOk r Q
 if_ok (Ok x) f h = f x h
 if_ok (Err e) f h = h
-
--- what a call found, or that there is none
-pub if_some : {A E : Type 0} (r : Result (Option A) E) (P Q : A → Type 0) → ((x : A) → P x → Q x) → IfOk r (λ o. IfSome o P)
-    → IfOk r (λ o. IfSome o Q)
-if_some (Ok (Some x)) P Q f h = f x h
-if_some (Ok None) P Q f h = h
-if_some (Err e) P Q f h = h
 
 pub if_none : {A E P Q : Type 0} (r : Result (Option A) E) → (P → Q) → IfOk r (λ o. IfNone o P) → IfOk r (λ o. IfNone o Q)
 if_none (Ok (Some x)) f h = h

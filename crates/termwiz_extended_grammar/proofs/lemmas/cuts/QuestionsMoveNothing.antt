@@ -7,7 +7,6 @@ use Rattle.termwiz_grammar.specs.Sequences.{Meaning, IsSequence}
 use Rattle.termwiz_grammar.specs.Grammar as port
 use Rattle.termwiz_grammar.specs.Laws as portlaws
 use Rattle.termwiz_grammar.specs.Laws.Waits.{nothing, open_paste, undecided}
-use Rattle.termwiz_grammar.specs.Laws.{IsHeldEscape}
 use Rattle.termwiz_grammar.proofs.lemmas.characters.CharacterPrefixes.{IsHigh, unfinished_high}
 use Rattle.termwiz_grammar.proofs.lemmas.table.SequenceFacts.{sequence_or_not}
 use Rattle.termwiz_grammar.proofs.lemmas.items.ItemStable.{item_begins}

@@ -6,7 +6,7 @@ use Rattle.termwiz_keys.specs.Introducers.{ESC, END}
 use Rattle.termwiz_keys.specs.Keys.{escape}
 use Rattle.termwiz_keys.specs.declared.types.InputEvent.{InputEvent}
 use Rattle.termwiz_grammar.specs.Grammar as port
-use Rattle.termwiz_grammar.specs.Grammar.{IsLongest, IsUnfinishedSequence, IsUnfinishedCharacter, IsBeginning, Item}
+use Rattle.termwiz_grammar.specs.Grammar.{IsLongest, IsUnfinishedSequence, IsBeginning, Item}
 use Rattle.termwiz_grammar.specs.Grammar.Item.{key, char, broken, mouse, paste, lone_escape, alt}
 use Rattle.termwiz_grammar.specs.declared.waiting.Waiting.{Waiting}
 use Rattle.termwiz_grammar.specs.declared.waiting.Waiting.TheVariants.{Nothing, Escape, Sequence, Character, Paste}

@@ -5,7 +5,7 @@ use Rattle.termwiz_keymap.proofs.lemmas.lists.CommonPrefixes.{append-some, true_
 use Rattle.termwiz_grammar.specs.MouseReports.{IsDigit}
 use Rattle.termwiz_extended_events.specs.declared.types.StringKind.{StringKind}
 use Rattle.termwiz_extended_events.specs.declared.types.StringKind.TheVariants.{Osc, Dcs, Apc}
-use Rattle.termwiz_extended_grammar.specs.Forms.{ST, BEL, introducer, IsInner, IsData, IsKeypadLetter, IsModifiedFront, IsRxvtNumber, IsStringEnd, IsTitleLetter, IsForm}
+use Rattle.termwiz_extended_grammar.specs.Forms.{ST, BEL, introducer, IsInner, IsData, IsKeypadLetter, IsModifiedFront, IsRxvtNumber, IsTitleLetter, IsForm}
 use Rattle.termwiz_extended_grammar.specs.Forms.IsForm.{control, x10_report, console_key, keypad_key, modified_key, shifted_key, title}
 use Rattle.termwiz_extended_grammar.specs.Strings.{IsHead, StartsWithOpening}
 
@@ -26,12 +26,6 @@ IsStringIntroducer b = (b ≡ 93) ⊎ ((b ≡ 80) ⊎ (b ≡ 95))
 -- the byte after the ESC of a mark
 abbrev pub IsSecond : ℕ → Type 0
 IsSecond b = (b ≡ 91) ⊎ ((b ≡ 79) ⊎ IsStringIntroducer b)
-
-pub some_end : (kind : StringKind) (end : List ℕ) → IsStringEnd kind end → end ≢ []
-some_end Osc end (inl e) = λ h. cc (e, h)
-some_end Osc end (inr e) = λ h. cc (e, h)
-some_end Dcs end e = λ h. cc (e, h)
-some_end Apc end e = λ h. cc (e, h)
 
 pub head_some : (kind : StringKind) (head : List ℕ) → IsHead kind head → head ≢ []
 head_some Osc head (inl n) = λ h. append-some n.digits (59 ∷ []) (λ k. cc (k)) (sym n.form ∙ h)
@@ -107,10 +101,6 @@ rxvt_digits [] is = absurd is
 rxvt_digits (d ∷ []) is = ((omega (arith, is), omega (arith, is)), tt)
 rxvt_digits (d ∷ e ∷ []) is = ((omega (arith, is), omega (arith, is)), ((omega (arith, is), omega (arith, is)), tt))
 rxvt_digits (d ∷ e ∷ c ∷ digits) is = absurd is
-
-pub rxvt_some : (number : List ℕ) → IsRxvtNumber number → number ≢ []
-rxvt_some [] is = absurd is
-rxvt_some (d ∷ digits) is = λ h. cc (h)
 
 -- what a form ends with, if it is a title
 abbrev pub IsEnd : List ℕ → Type 0

@@ -199,10 +199,6 @@ usual_stays reading u s f some is = record {
   closed = λ h. is.closed (record { more_comes = refl; some = some; beginning = shorter_beginning reading u s h.beginning });
 }
 
--- what is open to the port is open
-pub open_from_port : (reading : Reading) (u : List ℕ) (f : Bool) → port.IsOpen u f → IsOpen reading u f
-open_from_port reading u f h = record { more_comes = h.more_comes; some = h.some; beginning = inl h.beginning }
-
 -- the text after the ESC of a longer text is that of the shorter one, made longer
 pub longer_after : (u s w : List ℕ) → u ≢ [] → (u ≡ ESC → ⊥) → u ++ s ≡ ESC ++ w
     → (v : List ℕ) × (u ≡ ESC ++ v) × (w ≡ v ++ s) × (v ≢ [])

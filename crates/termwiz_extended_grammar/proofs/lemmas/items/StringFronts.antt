@@ -13,14 +13,6 @@ head_inside kind t o =
     (sym (append_assoc (introducer o.kind) o.head o.begins.0) ∙ sym o.begins.1) in
     (o.head, subst (λ z. IsHead z o.head) one.0 o.is_head, (o.begins.0, sym one.1))
 
-pub opening_outside : (kind : StringKind) (t head : List ℕ) → IsHead kind head → Begins head t → StartsWithOpening (introducer kind ++ t)
-opening_outside kind t head is b = record {
-  kind = kind;
-  head = head;
-  is_head = is;
-  begins = (b.0, ap (λ z. introducer kind ++ z) b.1 ∙ sym (append_assoc (introducer kind) head b.0));
-}
-
 pub unfinished_inside : (kind : StringKind) (t : List ℕ) → IsUnfinishedOpening (introducer kind ++ t)
     → (tail : List ℕ) × (tail ≢ []) × IsHead kind (t ++ tail)
 unfinished_inside kind t h =
@@ -42,12 +34,5 @@ pub no_opening_after : (x y : ℕ) (t : List ℕ) → (x ≡ 27 → IsStringIntr
 no_opening_after x y t never o =
     let i = introducer_shape o.kind in
     let all : x ∷ y ∷ t ≡ 27 ∷ i.0 ∷ (o.head ++ o.begins.0) = o.begins.1 ∙ ap (λ z. z ++ o.head ++ o.begins.0) i.1 in
-    let second : i.0 ≡ y = cc (all) in
-    never (cc (all)) (subst IsStringIntroducer second i.2)
-
-pub no_beginning_after : (x y : ℕ) (t : List ℕ) → (x ≡ 27 → IsStringIntroducer y → ⊥) → IsUnfinishedOpening (x ∷ y ∷ t) → ⊥
-no_beginning_after x y t never h =
-    let i = introducer_shape h.kind in
-    let all : 27 ∷ i.0 ∷ h.head ≡ x ∷ y ∷ (t ++ h.tail) = ap (λ z. z ++ h.head) (sym i.1) ∙ h.spells in
     let second : i.0 ≡ y = cc (all) in
     never (cc (all)) (subst IsStringIntroducer second i.2)

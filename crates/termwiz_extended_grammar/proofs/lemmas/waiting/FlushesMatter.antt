@@ -16,7 +16,7 @@ use Rattle.termwiz_keys.specs.declared.types.InputEvent.TheVariants.{Key, Mouse}
 use Rattle.termwiz_grammar.specs.Sequences.{Meaning, IsSequence}
 use Rattle.termwiz_grammar.specs.Sequences.Meaning.{Row, Report}
 use Rattle.termwiz_grammar.specs.Grammar as port
-use Rattle.termwiz_grammar.specs.Grammar.{Head, IsHead, IsLongest, IsUnfinishedSequence, IsUnfinishedCharacter, IsBeginning, bytes_of, IsApart, Item}
+use Rattle.termwiz_grammar.specs.Grammar.{Head, IsHead, bytes_of, IsApart, Item}
 use Rattle.termwiz_grammar.specs.Grammar.Head.{Sequence, Character, Broken}
 use Rattle.termwiz_grammar.specs.Grammar.Item.{key, char, mouse}
 use Rattle.termwiz_grammar.specs.Laws.{IsHeldEscape}
@@ -568,25 +568,3 @@ undecided reading = (λ held p is some beginning. go (reads_or_only reading) hel
     go (inr only) held p is some (inl beginning) =
         let c = undecided_law held p is some beginning in (c.0, port_undecided reading (held ++ p) c.0 only c.1)
     go (inr only) held p is some (inr h) = absurd (cc (only, unfinished_reads reading p h))
-
--- the reading that reads more and is like this one
-abbrev reading_more : Reading → Reading
-reading_more reading = record reading { dialect = Extended }
-
-begins_more : (reading : Reading) (p : List ℕ) → BeginsKnown reading p → BeginsKnown (reading_more reading) p
-begins_more reading p (inl h) = inl h
-begins_more reading p (inr (inl h)) = inr (inl (record {
-  tail = h.tail;
-  longer = h.longer;
-  event = h.event;
-  is_extra = record { reads = refl; is_form = h.is_extra.is_form; is_free = h.is_extra.is_free; means = h.is_extra.means };
-}))
-begins_more reading p (inr (inr (reads, o))) = inr (inr (refl, o))
-
--- START begins at no place in what waits as a beginning
-pub beginning_no_start : (reading : Reading) (held p : List ℕ) → IsHeldEscape held → p ≢ [] → BeginsKnown reading p → HasNoStart (held ++ p)
-beginning_no_start reading held [] is some beginning = absurd (some refl)
-beginning_no_start reading held (x ∷ p) is some beginning =
-    let more = reading_more reading in
-    let on = goes_on more x p refl (begins_more reading (x ∷ p) beginning) (unfinished_mark_or_not reading.x10_mouse (x ∷ p)) in
-    no_start_held more x p on.0 on.1 held is

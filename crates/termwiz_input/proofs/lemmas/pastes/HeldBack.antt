@@ -114,14 +114,6 @@ decided u n place paste few is held =
       };
     }
 
--- what the bytes begin with
-pub begins_so : (u : List ℕ) (place : ℕ) → IsDecidedTo u place → take 6 u ≡ START
-begins_so u place is = ap (take 6) is.parted.splits
-
--- and what is left of it
-pub left_after : (u v : List ℕ) (place : ℕ) → IsDecidedTo u place → v ≡ take 6 u ++ drop place u → v ≡ START ++ drop place u
-left_after u v place is e = e ∙ ap (λ t. t ++ drop place u) (begins_so u place is)
-
 -- what can be taken
 pub has_part : (u : List ℕ) (limit place : ℕ) → IsDecidedTo u place → (place ≡ 6 → ⊥) → limit < length u - 6 → HasPart u limit
 has_part u limit place is some many = (
@@ -142,11 +134,6 @@ has_part u limit place is some many = (
     leaves = refl;
   },
 )
-
--- an open paste has what is taken
-pub part_open : (u : List ℕ) (limit : ℕ) → HasPart u limit → IsOpenPaste u
-part_open u limit (text, left, is) =
-    record { body = is.decided ++ is.held; splits = is.parted.splits; endless = is.parted.endless }
 
 -- where nothing can be taken
 pub no_part : (u : List ℕ) (limit place : ℕ) → IsDecidedTo u place → (place ≡ 6) ⊎ (length u - 6 ≤ limit) → ¬ HasPart u limit

@@ -10,7 +10,7 @@ use Rattle.termwiz_extended_grammar.proofs.lemmas.forms.FormBytes.{first_other}
 use Rattle.termwiz_extended_grammar.proofs.lemmas.forms.FormEnds.{shifted_inner}
 use Rattle.termwiz_extended_grammar.proofs.lemmas.forms.FormOrNot.{rxvt_short}
 use Rattle.termwiz_input_extended.specs.declared.form.FormAt.TheVariants.{Whole, Unfinished, Absent}
-use Rattle.termwiz_input_extended.specs.FormAnswers.{HasForm, IsRow, IsShiftedDigit, IsShiftedOf, IsShiftedPair, StartsShifted}
+use Rattle.termwiz_input_extended.specs.FormAnswers.{HasForm, IsRow, IsShiftedOf, IsShiftedPair, StartsShifted}
 use Rattle.termwiz_input_extended.proofs.lemmas.forms.FrontAnswers.{whole_front, unfinished_front, absent_front, run_before, parted_at}
 
 -- the control sequence that a text begins like
@@ -282,22 +282,8 @@ shifted_whole_at {x10_mouse = x10_mouse} r len (number, left, is, e, size) =
     (whole_front (27 ∷ 91 ∷ (number ++ 36 ∷ [])) left (2 + len) (omega (arith, size, length-append number (36 ∷ [])))
     (shifted_key (record { number = number; form = refl; number_is = is })))
 
--- a digit and $, or two and $, by their places
-pub digit_shifted : (r : List ℕ) → IsShiftedDigit r → IsShiftedOf r 2
-digit_shifted [] is = absurd (omega (arith, is.0))
-digit_shifted (d ∷ []) is = absurd (omega (arith, is.0))
-digit_shifted (d ∷ b ∷ r) is = (d ∷ [], r, is.2, ap (λ z. d ∷ z ∷ r) is.1, refl)
-
 pub pair_shifted : (r : List ℕ) → IsShiftedPair r → IsShiftedOf r 3
 pair_shifted [] is = absurd (omega (arith, is.0))
 pair_shifted (d ∷ []) is = absurd (omega (arith, is.0))
 pair_shifted (d ∷ e ∷ []) is = absurd (omega (arith, is.0))
 pair_shifted (d ∷ e ∷ b ∷ r) is = (d ∷ e ∷ [], r, is.2, ap (λ z. d ∷ e ∷ z ∷ r) is.1, refl)
-
-pub not_shifted : (r : List ℕ) → ¬ IsShiftedDigit r → ¬ IsShiftedPair r → ¬ StartsShifted r
-not_shifted r no_digit no_pair ([], left, is, e) = absurd is
-not_shifted r no_digit no_pair (d ∷ [], left, is, e) =
-    no_digit (subst IsShiftedDigit (sym e) (omega arith, refl, is))
-not_shifted r no_digit no_pair (d ∷ f ∷ [], left, is, e) =
-    no_pair (subst IsShiftedPair (sym e) (omega arith, refl, is))
-not_shifted r no_digit no_pair (d ∷ f ∷ g ∷ number, left, is, e) = absurd is

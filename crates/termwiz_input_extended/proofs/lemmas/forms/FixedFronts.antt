@@ -1,5 +1,5 @@
 -- Forms of a fixed length at the front of a text, and texts that no form begins like.
-use Rattle.std.proofs.Common.{◌≡◌, ◌≢◌, ◌⊎◌, inl, inr, ℕ, zero, suc, ◌+◌, ◌-◌, ◌<◌, ◌≤◌, Bool, true, List, [], ◌∷◌, ◌++◌, length, take, drop, refl, sym, ap, ◌∙◌, subst, arith, append_assoc, length-append, get_or, Some, None}
+use Rattle.std.proofs.Common.{◌≡◌, ◌≢◌, ◌⊎◌, inl, inr, ℕ, zero, suc, ◌+◌, ◌-◌, ◌<◌, ◌≤◌, Bool, true, List, [], ◌∷◌, ◌++◌, length, take, drop, refl, sym, ap, ◌∙◌, subst, arith, append_assoc, get_or, Some, None}
 use Rattle.std.specs.List.{slice_get}
 use Rattle.std.specs.List.{AllByRecursion}
 use Rattle.termwiz_extended_grammar.specs.Forms.{IsMouseByte, IsConsoleLetter, IsKeypadLetter, IsModifierDigit, IsModifiedFront, IsLetterBehind, IsRxvtNumber, IsForm}
@@ -172,14 +172,6 @@ parted_absent first b r first_is other = keypad_none (first ∷ 59 ∷ b ∷ r) 
         let p = parted front part in
         let all : first ∷ 59 ∷ b ∷ (r ++ y) ≡ p.0 ∷ 59 ∷ digit ∷ letter ∷ x = e ∙ ap (λ z. z ++ digit ∷ letter ∷ x) p.1 in
         other (subst IsModifierDigit (let same : digit ≡ b = cc (all) in same) digit_is)
-
--- a digit and what follows it
-modified_whole : {x10_mouse : Bool} (front : List ℕ) (digit b : ℕ) (r : List ℕ) → IsModifiedFront front → IsModifierDigit digit
-    → IsLetterBehind front b → HasForm x10_mouse (27 ∷ 79 ∷ (front ++ digit ∷ b ∷ r)) (Whole (3 + length front + 1))
-modified_whole {x10_mouse = x10_mouse} front digit b r front_is digit_is letter_is =
-    subst (λ u. HasForm x10_mouse u (Whole (3 + length front + 1))) (ap (λ z. 27 ∷ 79 ∷ z) (append_assoc front (digit ∷ b ∷ []) r))
-    (whole_front (27 ∷ 79 ∷ (front ++ digit ∷ b ∷ [])) r (3 + length front + 1) (omega (arith, length-append front (digit ∷ b ∷ [])))
-    (modified_form front digit b front_is digit_is letter_is))
 
 modified_unfinished : {x10_mouse : Bool} (front : List ℕ) (digit : ℕ) → IsModifiedFront front → IsModifierDigit digit
     → HasForm x10_mouse (27 ∷ 79 ∷ (front ++ digit ∷ [])) Unfinished
@@ -399,12 +391,6 @@ pub modified_at_end : {x10_mouse : Bool} (front r : List ℕ) (digit : ℕ) → 
     → HasForm x10_mouse (27 ∷ 79 ∷ (front ++ digit ∷ r)) Unfinished
 modified_at_end {x10_mouse = x10_mouse} front r digit e front_is digit_is =
     subst (λ z. HasForm x10_mouse (27 ∷ 79 ∷ (front ++ digit ∷ z)) Unfinished) (sym (none_got r e)) (modified_unfinished front digit front_is digit_is)
-
-pub modified_whole_at : {x10_mouse : Bool} (front r : List ℕ) (digit b : ℕ) → Some b ≡ slice_get r 0 → IsModifiedFront front → IsModifierDigit digit
-    → IsLetterBehind front b → HasForm x10_mouse (27 ∷ 79 ∷ (front ++ digit ∷ r)) (Whole (3 + length front + 1))
-modified_whole_at {x10_mouse = x10_mouse} front r digit b e front_is digit_is letter_is =
-    subst (λ z. HasForm x10_mouse (27 ∷ 79 ∷ (front ++ digit ∷ z)) (Whole (3 + length front + 1))) (first_got r b e)
-    (modified_whole front digit b (take (length r - 1) (drop 1 r)) front_is digit_is letter_is)
 
 pub modified_absent_at : {x10_mouse : Bool} (front r : List ℕ) (digit b : ℕ) → Some b ≡ slice_get r 0 → IsModifiedFront front → IsModifierDigit digit
     → ¬ IsLetterBehind front b → HasForm x10_mouse (27 ∷ 79 ∷ (front ++ digit ∷ r)) Absent

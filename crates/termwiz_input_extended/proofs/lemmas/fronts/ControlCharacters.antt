@@ -70,9 +70,6 @@ module _ (u : List ℕ) (b : ℕ) (rest : List ℕ) (key : KeyEvent) (split : u 
   begins : Begins (b ∷ []) u
   begins = (rest, split)
 
-  no_escape : (t tail : List ℕ) → Begins (27 ∷ t) (u ++ tail) → ⊥
-  no_escape t tail c = other (cc (split, c.1))
-
   at_most : (text : List ℕ) (m : Meaning) → IsSequence text m → Begins text u → length text ≤ 1
   at_most text m is c = go (sequence_bytes text m is)
     where

@@ -1,6 +1,6 @@
 -- What a call answers that consumes the item at the front.
 use Rattle.std.proofs.Common.{◌≡◌, ◌+◌, ◌-◌, ℕ, suc, Bool, List, [], ◌∷◌, ◌++◌, take, drop, refl, sym, ap, ◌∙◌, take-append-drop, Option, Some, None, arith, Result, Ok, Err, IsErr}
-use Rattle.std.specs.Prelude.{IfOk, IfSome, OnErr}
+use Rattle.std.specs.Prelude.{IfSome}
 use Rattle.termwiz_keys.specs.Introducers.{ESC}
 use Rattle.termwiz_keys.specs.declared.types.KeyCode.{KeyCode}
 use Rattle.termwiz_keys.specs.declared.types.InputEvent.{InputEvent}
@@ -40,23 +40,9 @@ module _ {F : Type 0} (old new : Buffered) (more : Bool) where
   emits_refused (Err fault) is item same =
       record { event = tt; reading = tt; none = tt; none_same = tt; refused = item; refused_same = same }
 
--- what follows from what a call answers holds of it too
-pub if_ok : {A F : Type 0} {P Q : A → Type 0} (result : Result A F) → ((x : A) → P x → Q x) → IfOk result P → IfOk result Q
-if_ok (Ok value) then p = then value p
-if_ok (Err fault) then p = tt
-
 pub if_some : {A : Type 0} {P Q : A → Type 0} (found : Option A) → ((x : A) → P x → Q x) → IfSome found P → IfSome found Q
 if_some (Some value) then p = then value p
 if_some None then p = tt
-
-pub if_refused : {A F : Type 0} {P Q : Type 0} (result : Result A F) → (P → Q) → OnErr result P → OnErr result Q
-if_refused (Ok value) then p = tt
-if_refused (Err fault) then p = then p
-
--- what is so is so after a refusal
-pub on_refusal : {A F : Type 0} {P : Type 0} (result : Result A F) → P → OnErr result P
-on_refusal (Ok value) p = tt
-on_refusal (Err fault) p = p
 
 -- a bare key with ALT leaves the reading as it is, and needs memory if the key does
 pub alt_reading : (reading : Reading) (event : Event) → IsKey event → after_event reading (with_alt event) ≡ reading

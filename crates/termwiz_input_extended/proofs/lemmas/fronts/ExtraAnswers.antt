@@ -1,8 +1,8 @@
 -- Whether a form is an extra sequence, and what extra sequence or opening begins a text by the form that does.
-use Rattle.std.proofs.Common.{◌≡◌, inl, inr, ℕ, ◌<◌, Bool, true, false, List, ◌++◌, length, take, drop, refl, sym, ap, ◌∙◌, subst, arith, append_assoc, take-append-drop, Contains, Option, Some, None}
+use Rattle.std.proofs.Common.{◌≡◌, inl, inr, ℕ, Bool, true, false, List, ◌++◌, take, drop, refl, sym, ap, ◌∙◌, subst, append_assoc, take-append-drop, Contains, Option, Some, None}
 use Rattle.std.specs.Prelude.{IfSome}
 use Rattle.termwiz_keymap.specs.Bytes.{Begins}
-use Rattle.termwiz_keymap.proofs.lemmas.lists.CommonPrefixes.{append-some, length-some}
+use Rattle.termwiz_keymap.proofs.lemmas.lists.CommonPrefixes.{append-some}
 use Rattle.termwiz_keys.specs.declared.types.KeyEvent.{KeyEvent}
 use Rattle.termwiz_keys.specs.declared.types.MouseEvent.{MouseEvent}
 use Rattle.termwiz_grammar.specs.Table.{rows as table_rows}
@@ -22,7 +22,7 @@ use Rattle.termwiz_extended_grammar.specs.Readings.{ReadsMore, event_in, is_aski
 use Rattle.termwiz_extended_grammar.specs.Strings.{IsUnfinishedOpening, StartsWithOpening}
 use Rattle.termwiz_extended_grammar.specs.ExtendedGrammar.{BeginsExtended, StartsExtended}
 use Rattle.termwiz_input_extended.specs.NextItems.{IsSomeExtra, IsUnfinishedFront}
-use Rattle.termwiz_extended_grammar.proofs.lemmas.forms.FormBytes.{IsMark, form_shape, opening_mark}
+use Rattle.termwiz_extended_grammar.proofs.lemmas.forms.FormBytes.{IsMark, opening_mark}
 use Rattle.termwiz_extended_grammar.proofs.lemmas.forms.FormEnds.{form_no_opening, mark_ends, sequence_after_mark}
 use Rattle.termwiz_extended_grammar.proofs.lemmas.forms.ExtraFacts.{completed_mark, free_from_none, mark_from_unfinished, unfinished_from_form}
 use Rattle.termwiz_extended_grammar.proofs.lemmas.items.StringItems.{mark_once}
@@ -84,10 +84,6 @@ row_stored text h = h
 -- the event of an extra sequence is that of its bytes
 pub event_is : (reading : Reading) (text : List ℕ) → IsSomeExtra reading text → IsExtra reading text (event_in reading text)
 event_is reading text is = record { reads = is.1.reads; is_form = is.1.is_form; is_free = is.1.is_free; means = refl }
-
--- a form has three bytes or more
-pub form_long : {x10_mouse : Bool} (text : List ℕ) → IsForm x10_mouse text → 2 < length text
-form_long text form = (let s = form_shape text form in omega (arith, ap length s.2, length-some s.1 s.3))
 
 module _ (reading : Reading) (u : List ℕ) (len : ℕ) (form : IsForm reading.x10_mouse (take len u)) where
   begins : Begins (take len u) u

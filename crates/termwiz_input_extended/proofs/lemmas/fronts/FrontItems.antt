@@ -5,7 +5,7 @@ use Rattle.termwiz_keys.specs.Introducers.{ESC}
 use Rattle.termwiz_keys.specs.declared.types.InputEvent.{InputEvent}
 use Rattle.termwiz_keys.specs.declared.types.InputEvent.TheVariants.{Paste}
 use Rattle.termwiz_grammar.specs.Grammar as port
-use Rattle.termwiz_grammar.specs.Grammar.{IsBeginning, IsUnfinishedSequence}
+use Rattle.termwiz_grammar.specs.Grammar.{IsBeginning}
 use Rattle.termwiz_grammar.proofs.lemmas.items.ItemStable.{item_begins}
 use Rattle.termwiz_extended_events.specs.declared.types.Event.{Event}
 use Rattle.termwiz_extended_events.specs.declared.types.Dialect.TheVariants.{Termwiz}

@@ -1,8 +1,8 @@
 -- What a call answers that moves the event of the item at the front to a list.
-use Rattle.std.proofs.Common.{◌≡◌, ◌∙◌, Bool, true, false, List, [], ◌∷◌, ◌++◌, sym, ap, subst, arith, Result, Ok, Err, IsErr}
+use Rattle.std.proofs.Common.{◌≡◌, ◌∙◌, Bool, true, List, [], ◌∷◌, ◌++◌, sym, ap, subst, arith, Ok}
 use Rattle.termwiz_extended_events.specs.declared.types.Event.{Event}
 use Rattle.termwiz_extended_events.specs.declared.types.Reading.{Reading}
-use Rattle.termwiz_extended_grammar.specs.ExtendedGrammar.{HasItem, IsRest, Steps}
+use Rattle.termwiz_extended_grammar.specs.ExtendedGrammar.{Steps}
 use Rattle.termwiz_extended_grammar.specs.Readings.{after_event, after_events}
 use Rattle.termwiz_extended_grammar.proofs.lemmas.cuts.ExtendedCuts.{after_both, few_events, join_steps}
 use Rattle.termwiz_input_extended.specs.Buffered.{Buffered}
@@ -22,22 +22,4 @@ module _ {F : Type 0} (old new : Buffered) (more : Bool) (before after : List Ev
     fewer = λ found. omega (arith, few_events old.reading old.text new.text (event ∷ []) more step);
     rest = λ found. absurd (cc (found));
     refused = tt;
-  }
-
-  pub stores_none : new ≡ old → after ≡ before → IsRest old.reading old.text more → Stores {F = F} old more before new after (Ok false)
-  stores_none same is rest = record {
-    stored = λ first text steps read. (rw (same, is) steps, rw (same, is) read);
-    fewer = λ found. absurd (cc (found));
-    rest = λ found. rw (same) rest;
-    refused = tt;
-  }
-
-  pub stores_refused : (result : Result Bool F) → IsErr result → new ≡ old → after ≡ before → HasItem old.reading old.text more
-      → Stores old more before new after result
-  stores_refused (Ok found) refused same is item = absurd (cc (refused))
-  stores_refused (Err fault) refused same is item = record {
-    stored = λ first text steps read. (rw (same, is) steps, rw (same, is) read);
-    fewer = tt;
-    rest = tt;
-    refused = rw (same) item;
   }

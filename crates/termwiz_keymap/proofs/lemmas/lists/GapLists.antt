@@ -1,6 +1,6 @@
 -- A list in two parts, of which the second is kept with its last element first.
 use Rattle.std.proofs.Common.{◌≡◌, ◌∙◌, ◌+◌, ◌-◌, ◌≤◌, ℕ, zero, suc, List, [], ◌∷◌, ◌++◌, length, reverse, set, refl, sym, ap, arith}
-use Rattle.std.specs.List.{insert, remove}
+use Rattle.std.specs.List.{remove}
 use Rattle.std.proofs.lemmas.Grind.{reverse_onto}
 use Rattle.std.proofs.lemmas.List.{reverse-append, reverse-reverse, length-reverse, length-append, append-nil, set-append_left, set-append_right}
 use Rattle.std.proofs.lemmas.List.Edits.{remove-append_left, remove-append_right}
@@ -63,9 +63,3 @@ module _ {A : Type 0} where
   removed_after a b i j past e =
       remove-append_right a (reverse b) (length a) i refl past
       ∙ ap (λ l. a ++ l) (remove-reverse b (i - length a) j (omega arith))
-
-  -- an element inserted between the parts
-  pub inserted_between : (a b : List A) (v : A) (i : ℕ) → length a ≡ i → (a ++ v ∷ []) ++ b ≡ insert (a ++ b) i v
-  inserted_between [] b v i e = ap (λ n. insert b n v) e
-  inserted_between (x ∷ a) b v zero e = absurd (omega arith)
-  inserted_between (x ∷ a) b v (suc i) e = ap (λ l. x ∷ l) (inserted_between a b v i (omega arith))

@@ -1,5 +1,5 @@
 -- What a search among ascending rows finds, and which bytes it need not compare again.
-use Rattle.std.proofs.Common.{⊎_elim, ◌⊎◌, inl, inr, ◌≡◌, ◌≢◌, ◌∙◌, ◌+◌, ◌-◌, ◌<◌, ◌≤◌, min, ℕ, zero, suc, List, [], ◌∷◌, length, get_or, refl, sym, ap, subst, arith}
+use Rattle.std.proofs.Common.{⊎_elim, ◌⊎◌, inl, inr, ◌≡◌, ◌≢◌, ◌∙◌, ◌+◌, ◌-◌, ◌<◌, ◌≤◌, ℕ, zero, suc, List, [], ◌∷◌, length, get_or, refl, sym, ap, subst, arith}
 use Rattle.std.specs.Ordering.{nat_cmp}
 use Rattle.std.specs.declared.cmp.Ordering.TheVariants.{Less, Equal, Greater}
 use Rattle.std.specs.Cmp.Lexicographic.{slice_cmp}
@@ -8,7 +8,7 @@ use Rattle.std.proofs.lemmas.Cmp.{nat_list_cmp_total}
 use Rattle.std.proofs.lemmas.Bool.{cases_lt}
 use Rattle.std.proofs.lemmas.List.{get_or_default}
 use Rattle.termwiz_keymap.specs.declared.keymap.row.Row.{Row}
-use Rattle.termwiz_keymap.specs.KeyRows.{AgreeFor, ShareFirst, key_of, AreAscending, IsAt, IsGapFor, IsBounded, IsCountUpTo}
+use Rattle.termwiz_keymap.specs.KeyRows.{AgreeFor, ShareFirst, key_of, AreAscending, IsGapFor, IsBounded, IsCountUpTo}
 use Rattle.termwiz_keymap.proofs.lemmas.rows.KeyOrder.{Before, first_bytes, before_by_first, before_by_rest, turned}
 
 -- the rest of an agreement
@@ -22,13 +22,6 @@ agree_rest x y key text n is = record {
 
 pub share_none : (key text : List ℕ) → ShareFirst key text 0
 share_none key text = record { in_key = omega arith; in_text = omega arith; same = λ i below. absurd (omega arith) }
-
-share_fewer : (key text : List ℕ) (n m : ℕ) → m ≤ n → ShareFirst key text n → ShareFirst key text m
-share_fewer key text n m fewer s = record {
-  in_key = omega (arith, s.in_key);
-  in_text = omega (arith, s.in_text);
-  same = λ i below. s.same i (omega arith);
-}
 
 share_rest : (x y : ℕ) (key text : List ℕ) (n : ℕ) → ShareFirst (x ∷ key) (y ∷ text) (suc n) → ShareFirst key text n
 share_rest x y key text n s = record {
@@ -119,13 +112,6 @@ not_after_agreed (b ∷ key) (c ∷ text) (suc n) is how before = ⊎_elim
     (omega (arith, h.0), h.1)) p.1)
     (first_bytes c b text key before)
 
-pub decided : (t k : List ℕ) → (Before t k) ⊎ (Before t k → ⊥)
-decided t k = elim (slice_cmp nat_cmp t k) as (λ o. (o ≡ Less) ⊎ (o ≡ Less → ⊥)) [
-  | Less ↦ inl refl
-  | Equal ↦ inr (λ e. cc (e))
-  | Greater ↦ inr (λ e. cc (e))
-]
-
 module _ {V : Type 0} where
   -- the key of a row, whatever stands where no row is
   pub key_any : (rows : List (Row V)) (i : ℕ) (row r : Row V) → i < length rows → row ≡ get_or rows i row
@@ -141,24 +127,8 @@ module _ {V : Type 0} where
     pub above : (i : ℕ) (r : Row V) → i < high → Before key (key_of (get_or rows i r))
         → ShareFirst (key_of (get_or rows i r)) key high_shared
 
-  pub narrowed_none : (rows : List (Row V)) (key : List ℕ) (low high : ℕ) → IsBounded rows key low high
-      → IsNarrowed rows key low high 0 0
-  narrowed_none rows key low high is = record {
-    bounded = is;
-    below = λ i r _ _ _. share_none (key_of (get_or rows i r)) key;
-    above = λ i r _ _. share_none (key_of (get_or rows i r)) key;
-  }
-
   module _ (rows : List (Row V)) (up : AreAscending rows) (key : List ℕ) (low high low_shared high_shared : ℕ)
       (is : IsNarrowed rows key low high low_shared high_shared) where
-    pub counted : high ≤ low → IsCountUpTo rows key low
-    counted met = record {
-      low_inside = is.bounded.low_inside;
-      high_inside = is.bounded.low_inside;
-      up_to = is.bounded.up_to;
-      after = λ i r past inside. is.bounded.after i r (omega arith) inside;
-    }
-
     module _ (middle : ℕ) (row : Row V) (from : low ≤ middle) (to : middle < high)
         (there : row ≡ get_or rows middle row) where
       inside : middle < length rows
@@ -166,16 +136,6 @@ module _ {V : Type 0} where
 
       key_is : (r : Row V) → key_of row ≡ key_of (get_or rows middle r)
       key_is r = key_any rows middle row r inside there
-
-      pub middle_shares : (n : ℕ) → n ≡ min low_shared high_shared → ShareFirst (key_of row) key n
-      middle_shares n least =
-          let k = key_of (get_or rows middle row) in
-          subst (λ x. ShareFirst x key n) (sym (key_is row))
-          (⊎_elim
-          (λ (past : Before key k). share_fewer k key high_shared n (omega arith) (is.above middle row to past))
-          (λ (up_to : Before key k → ⊥). share_fewer k key low_shared n (omega arith)
-          (is.below middle row from inside up_to))
-          (decided key k))
 
       module _ (n : ℕ) (agree : AgreeFor (key_of row) key n) where
         shares : (r : Row V) → ShareFirst (key_of (get_or rows middle r)) key n
@@ -221,12 +181,6 @@ module _ {V : Type 0} where
 
   -- of the rows that aren't after a key the last has the key, or none has
   module _ (rows : List (Row V)) (up : AreAscending rows) (key : List ℕ) (n : ℕ) (count : IsCountUpTo rows key n) where
-    pub at_last : (row : Row V) → 0 < n → row ≡ get_or rows (n - 1) row → key_of row ≡ key → IsAt rows key (n - 1)
-    at_last row some last same = record {
-      in_range = omega (arith, count.low_inside);
-      same = λ r. sym (key_any rows (n - 1) row r (omega (arith, count.low_inside)) last) ∙ same;
-    }
-
     pub gap_after_last : (0 < n → (r : Row V) → key_of (get_or rows (n - 1) r) ≢ key) → IsGapFor rows key n
     gap_after_last apart = record {
       in_range = count.low_inside;

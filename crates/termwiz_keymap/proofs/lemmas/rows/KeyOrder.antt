@@ -45,12 +45,6 @@ before_by_rest x xs ys before =
       | Greater ↦ λ is. absurd (let more : x < x = ranked x x Greater is in omega arith)
     ] refl
 
--- of two keys only one is before the other
-pub not_both_ways : (x y : List ℕ) → Before x y → Before y x → ⊥
-not_both_ways x y before after =
-    let other : slice_cmp nat_cmp y x ≡ Greater = nat_list_cmp_total.antisymm y x ∙ ap ordering_reverse before in
-    cc (other, after)
-
 -- what begins a text isn't after it
 pub not_after : (q x : List ℕ) → Before (q ++ x) q → ⊥
 not_after [] [] before = cc (before)

@@ -159,9 +159,6 @@ later_characters (x ∷ q) R f low =
     )
 
 module _ (p : List ℕ) (h : IsUnfinishedSequence p) (i : Introduced p) (R : List ℕ) (f : Bool) (cut : IsCut R f) where
-  front : List ℕ
-  front = 27 ∷ i.second ∷ []
-
   head_is : IsLongest (27 ∷ i.second ∷ i.later ++ R) (27 ∷ i.second ∷ []) (Row i.its_key)
   head_is = record {
     is_sequence = introducer_is_sequence (27 ∷ i.second ∷ []) i.its_key i.is_introducer;

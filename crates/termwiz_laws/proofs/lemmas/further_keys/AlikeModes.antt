@@ -102,7 +102,3 @@ level_or_not (Some z) n = go (int_eq z (pos n)) refl
     go : (b : Bool) → int_eq z (pos n) ≡ b → (Some z ≡ Some (pos n)) ⊎ (Some z ≢ Some (pos n))
     go true e = inl (ap (λ x. Some x) ((Decides-int_eq z (pos n)).0 e))
     go false e = inr (λ same. let s : z ≡ pos n = cc (same) in cc (e, (Decides-int_eq z (pos n)).1 s))
-
-pub is_on_some : (level : Option ℤ) → level ≢ None → is_some level ≡ true
-is_on_some None on = absurd (on refl)
-is_on_some (Some z) on = refl
