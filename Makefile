@@ -20,8 +20,9 @@ OBJCOPY ?= objcopy
 PYTHON ?= /usr/bin/python3
 
 VERSION := $(shell sed -n 's/^\#define HED_VERSION "\(.*\)"$$/\1/p' c/hedrugal.h)
-open := (
-CALLS := $(shell sed -nE 's/^[a-z].*[ *](hed_[a-z_]+)\$(open).*$$/\1/p' c/hedrugal.h)
+# The manual pages of calls, and each call behind its page, as hedrugal_parser/hed_parser_next.
+call_pages := $(notdir $(wildcard docs/man/*.3))
+paged_calls := $(shell awk '/^\.Nm/ { for (i = 4; i <= NF; i += 2) print $$2 "/" $$i }' docs/man/*.3)
 SONAME := libhedrugal.so.$(firstword $(subst ., ,$(VERSION)))
 
 # The library is that of LIBRARY, else what rt makes of these sources, and without rt the prebuilt one for the processor of CC. keyshow
@@ -36,7 +37,7 @@ lib := $(or $(LIBRARY),out/lib)
 keyshow := $(or $(KEYSHOW),out/bin/keyshow)
 library_files := $(addprefix $(lib)/,libhedrugal.a libhedrugal.so.$(VERSION) hedrugal.h hedrugal.pc hedrugal_terminal.h hedrugal_terminal.c)
 
-.PHONY: all library keys flags clean help libdir install uninstall check lint format gate gate-parts FORCE
+.PHONY: all library keys flags clean help libdir install uninstall check lint numbers format gate gate-parts FORCE
 all: library $(keyshow) out/bin/hedrugal-keys ## builds the library and the programs, in out/lib and out/bin; what needs a proof is proved
 
 library: $(library_files) ## builds the library alone
@@ -212,7 +213,7 @@ root = $(patsubst %/,%,$(if $(DESTDIR),$(destdir)))$(patsubst %/,%,$(prefix))
 installed = include/hedrugal.h include/hedrugal_terminal.h share/hedrugal/hedrugal_terminal.c \
 	$(addprefix $(LIBDIR)/,libhedrugal.a libhedrugal.so.$(VERSION) $(SONAME) libhedrugal.so pkgconfig/hedrugal.pc) \
 	bin/keyshow bin/hedrugal-keys share/man/man1/keyshow.1 share/man/man1/hedrugal-keys.1 \
-	share/man/man3/hedrugal.3 $(patsubst %,share/man/man3/%.3,$(CALLS))
+	$(addprefix share/man/man3/,$(call_pages) $(addsuffix .3,$(notdir $(paged_calls))))
 # hedrugal.pc names no folder but by where it lies itself, so the prefix may be moved as a whole.
 up = $(shell realpath -ms --relative-to='/$(LIBDIR)/pkgconfig' /)
 
@@ -233,8 +234,8 @@ install: libdir all ## puts the library, the programs and their manual pages bel
 	install -m 755 $(keyshow) '$(root)/bin/keyshow'
 	install -m 755 out/bin/hedrugal-keys '$(root)/bin/'
 	install -m 644 docs/man/*.1 '$(root)/share/man/man1/'
-	install -m 644 docs/man/hedrugal.3 '$(root)/share/man/man3/'
-	@for call in $(CALLS); do ln -sfn hedrugal.3 "$(root)/share/man/man3/$$call.3"; done
+	install -m 644 $(call_pages:%=docs/man/%) '$(root)/share/man/man3/'
+	@for it in $(paged_calls); do ln -sfn "$${it%/*}.3" "$(root)/share/man/man3/$${it#*/}.3"; done
 	@echo 'make: wrote $(words $(installed)) files below $(or $(root),/)'
 
 # The folders of the system stay, but in a DESTDIR. share/hedrugal is none of them.
@@ -265,7 +266,7 @@ export HEDRUGAL_LIBRARY := $(abspath $(lib))
 export HEDRUGAL_KEYS := $(abspath out/bin/hedrugal-keys)
 
 check-lint := pre-commit run --all-files
-check-numbers := tools/numbers.py --check
+check-numbers := $(PYTHON) tools/interface --check
 check-c := tools/c_test.sh
 check-c-arm64 := CC=aarch64-linux-gnu-gcc CXX=aarch64-linux-gnu-g++ EMULATOR='qemu-aarch64-static -L /usr/aarch64-linux-gnu' \
 	HEDRUGAL_LIBRARY=$(arm64)/lib tools/c_test.sh
@@ -311,6 +312,9 @@ check: all ## runs the tests that need no kit; CHECKS="c rust" names the parts, 
 	tools/gate.sh table "$${run[@]}"
 
 lint: check-lint ## checks the layout of the sources in C, Rust and Python, and runs flake8 and shellcheck
+
+numbers: ## writes what is made of c/hedrugal.h: declarations and numbers in Rust and Python, lists of calls and manual pages
+	$(PYTHON) tools/interface
 
 format: ## lays out the sources in C, Rust and Python
 	git ls-files -z '*.[ch]' | xargs -0 clang-format-14 -i

@@ -1,25 +1,62 @@
-/* Key, mouse and paste events, and replies, from the bytes that a terminal sends, and the bytes that it sends for a key. Names of keys, and
- * bindings of chords. A map from byte strings to numbers.
+/* Key, mouse and paste events, and replies, from the bytes that a terminal sends, and the bytes that it sends for them. Names of keys, and
+ * bindings of chords. The library does no input of its own and reads no clock: a program waits and reads, and passes on what came and when.
+ * This one prints the keys of its standard input, a terminal or a file:
  *
- *     hed_parser parser = HED_PARSER_NONE;
- *     hed_event event;
- *     if (hed_parser_init(&parser, HED_DIALECT_EXTENDED)) ...                       // no memory
- *     for (bool open = true; open;) {
- *       while (hed_parser_next(&parser, &event) == HED_OK) ...                      // handle the event
- *       int ready = poll(&keyboard, 1, hed_parser_timeout(&parser, now_ms()));
- *       ssize_t n = ready > 0 ? read(0, bytes, sizeof bytes) : 0;
- *       if (ready == 0) hed_parser_idle(&parser, now_ms());                         // nothing came: what is buffered may be due
- *       else if (n > 0) hed_parser_feed(&parser, now_ms(), bytes, n);
- *       else open = false;
+ *     #define _POSIX_C_SOURCE 200809L
+ *     #include <hedrugal.h>
+ *     #include <poll.h>
+ *     #include <stdio.h>
+ *     #include <time.h>
+ *     #include <unistd.h>
+ *
+ *     static uint64_t now_ms(void) {
+ *       struct timespec now;
+ *       clock_gettime(CLOCK_MONOTONIC, &now);
+ *       return (uint64_t)now.tv_sec * 1000 + (uint64_t)now.tv_nsec / 1000000;
  *     }
- *     hed_parser_end(&parser);
- *     while (hed_parser_next(&parser, &event) == HED_OK) ...                        // what was buffered
- *     hed_parser_free(&parser);
+ *
+ *     static void print_keys(hed_parser *parser) {
+ *       hed_event event;
+ *       while (hed_parser_next(parser, &event) == HED_OK) {
+ *         char name[22];
+ *         if (event.kind != HED_KIND_KEY) continue;
+ *         hed_key_name(event.key, (uint8_t *)name, sizeof name);
+ *         fputs(name, stdout);
+ *         puts(event.modifiers & HED_KITTY_MOD_CTRL ? " with Ctrl" : "");
+ *       }
+ *     }
+ *
+ *     int main(void) {
+ *       hed_parser parser = HED_PARSER_NONE;
+ *       struct pollfd input = { .fd = 0, .events = POLLIN };
+ *       uint8_t bytes[4096];
+ *       if (hed_parser_init(&parser, HED_DIALECT_EXTENDED) != HED_OK) return 1;
+ *       for (;;) {
+ *         print_keys(&parser);
+ *         if (poll(&input, 1, hed_parser_timeout(&parser, now_ms())) == 0) {
+ *           hed_parser_idle(&parser, now_ms()); // what is buffered may be due
+ *           continue;
+ *         }
+ *         ssize_t n = read(0, bytes, sizeof bytes);
+ *         if (n <= 0) break;
+ *         if (hed_parser_feed(&parser, now_ms(), bytes, (size_t)n)) return 1;
+ *       }
+ *       hed_parser_end(&parser);
+ *       print_keys(&parser);
+ *       hed_parser_free(&parser);
+ *       return 0;
+ *     }
+ *
+ * It is compiled and linked with what `pkg-config --cflags --libs hedrugal` prints.
  *
  * hed_parser_feed buffers bytes, and hed_parser_next tells events, one at a time. However the bytes are cut into calls, the events are the same.
  * An ESC stays buffered, since it may begin a sequence: only time tells that it is the Escape key. hed_parser_timeout says how long the program
- * may wait for more bytes, and hed_parser_idle that none came. now_ms() stands for CLOCK_MONOTONIC in milliseconds: the library reads no clock.
- * A program without a clock passes 0, calls hed_parser_flush at its pauses and hed_parser_end at the end.
+ * may wait for more bytes, and hed_parser_idle that none came. Times are in milliseconds, of a clock that nobody sets, such as CLOCK_MONOTONIC. A
+ * time before that of an earlier call counts as the same. A program without a clock passes 0, calls hed_parser_flush at its pauses and
+ * hed_parser_end at the end.
+ *
+ * Mouse reports, pastes as such, and changes of the focus come only if the program switches them on. The file hedrugal_terminal.c beside the
+ * library does that, and has raw mode, signals and the loop too.
  *
  * A call that returns a hed_status returns HED_OK, which is 0, if it did what it says, and else why not. Then it changed and wrote nothing, but
  * for what is said of it.
@@ -42,8 +79,8 @@
  * table. What a parser or a map owns it gets from malloc and realloc, and hed_parser_free, hed_keymap_free or hed_bindings_free frees it.
  * That what it owns may pass from thread to thread is proved.
  *
- * The library is built for Linux on x86-64 and on 64-bit ARM, and so are its layouts: for anything else this header doesn't compile. The
- * numbers are those of c/numbers.txt, and a number never changes its meaning. */
+ * The library is built for Linux on x86-64 and on 64-bit ARM, and so are its layouts: for anything else this header doesn't compile. A number
+ * never changes its meaning. */
 #ifndef HEDRUGAL_H
 #define HEDRUGAL_H
 
@@ -55,6 +92,8 @@
 #include <stddef.h>
 #include <stdint.h>
 
+/* ---- hedrugal(3): key, mouse and paste events from the bytes that a terminal sends ---- */
+
 /* The version of this header, and of the library that lies beside it. The first number is also in the name by which programs ask for the
  * shared library, libhedrugal.so.0. */
 #define HED_VERSION_MAJOR 0
@@ -62,19 +101,19 @@
 #define HED_VERSION_PATCH 0
 #define HED_VERSION "0.1.0"
 
-/* The version in one number, which grows with it. hed_version returns that of the library. */
+/* The version in one number, which grows with it: 65536 times the first number, 256 times the second, and the third. */
 #define HED_VERSION_NUMBER (HED_VERSION_MAJOR * 65536 + HED_VERSION_MINOR * 256 + HED_VERSION_PATCH)
 
 #ifdef __cplusplus
 extern "C" {
 #endif
 
+/* Returns the version of the library that is linked, as HED_VERSION_NUMBER has that of the header. */
+uint32_t hed_version(void);
+
 /* What a call did: HED_OK, or why it did nothing. */
 typedef uint32_t hed_status;
-
-/* Every hed_status. */
 enum {
-  /* numbers.txt: status c */
   HED_OK = 0, /* The call did what it says. */
   HED_NONE = 1, /* There is nothing more, or nothing was found. */
   HED_NO_MEMORY = 2, /* Memory was refused. The call may be made again. */
@@ -100,32 +139,12 @@ enum {
   HED_NAME_SHIFTED_CHARACTER = 28, /* Shift with a sign that shows it, as in `shift+!`: write the sign alone. */
   HED_NAME_TOO_LONG = 29, /* A chord has at most 32 keys, and this is the 33rd. */
   HED_NAME_EMPTY = 30 /* No key is in the text. */
-  /* numbers.txt: end */
 };
 
-/* A parser, or none. Its fields are the library's. It may be moved, as by memcpy, and is then used at its new place alone: of two
- * copies only one may ever be used, and only one freed. */
-typedef struct hed_parser {
-  bool live;
-  void *state;
-} hed_parser;
-
-/* The value of a hed_parser that is none. */
-#define HED_PARSER_NONE \
-  { false, NULL }
-
-/* By which grammar a parser reads: what hed_parser_init is given. Pass HED_DIALECT_EXTENDED: it reads every protocol and mode, so a program
- * never has to know which its terminal speaks. HED_DIALECT_TERMWIZ is for programs that must read just what termwiz reads. */
-enum hed_dialect {
-  /* numbers.txt: dialect c */
-  HED_DIALECT_EXTENDED = 0, /* What terminals send in any mode. For every program. */
-  HED_DIALECT_TERMWIZ = 1 /* What termwiz reads, and nothing else: the other fields of a reading say nothing then. */
-  /* numbers.txt: end */
-};
+/* ---- hedrugal_events(3): events, keys and modifiers ---- */
 
 /* The kinds of events: the field kind of a hed_event. docs/EXTENDED.md says which bytes are which. */
 enum hed_kind {
-  /* numbers.txt: kind c */
   HED_KIND_OTHER = 0, /* None of these. No event has this kind. */
   HED_KIND_KEY = 1, /* A key: it was typed, or reported with what happened to it. */
   HED_KIND_MOUSE = 2, /* The mouse was moved, one of its buttons was pressed or released, or a wheel was turned. */
@@ -142,47 +161,7 @@ enum hed_kind {
   HED_KIND_PASTE_PART = 14, /* Text of a paste whose end is still to come. */
   HED_KIND_STRING_PART = 15, /* The first bytes of a long string whose end is still to come. */
   HED_KIND_STRING_CUT = 16 /* A string that was cut off before its end. */
-  /* numbers.txt: end */
 };
-
-/* What happened to a key: the field key_event_kind of a hed_event. */
-enum hed_key_event_kind {
-  /* numbers.txt: key_event_kind c */
-  HED_KEY_EVENT_KIND_PRESS = 1, /* It was pressed. */
-  HED_KEY_EVENT_KIND_REPEAT = 2, /* It was held down so long that it repeats. */
-  HED_KEY_EVENT_KIND_RELEASE = 3 /* It was released. */
-  /* numbers.txt: end */
-};
-
-/* What happened to the mouse: the field mouse_kind of a hed_event. */
-enum hed_mouse_kind {
-  /* numbers.txt: mouse_kind c */
-  HED_MOUSE_KIND_PRESS = 1, /* A button was pressed. */
-  HED_MOUSE_KIND_RELEASE = 2, /* A button was released. Only SGR reports (mode 1006) tell which. */
-  HED_MOUSE_KIND_DRAG = 3, /* The mouse was moved while a button was down. */
-  HED_MOUSE_KIND_MOVE = 4, /* The mouse was moved, and no button is down. */
-  HED_MOUSE_KIND_WHEEL = 5 /* A wheel was turned. */
-  /* numbers.txt: end */
-};
-
-/* The modifiers by Kitty's bits, as a set: the field modifiers of a hed_event, and held of a hed_key_press. Only hed_encode has others, those
- * of enum hed_termwiz_mod. */
-enum hed_kitty_mod {
-  /* numbers.txt: kitty_mod c */
-  HED_KITTY_MOD_NONE = 0, /* No modifier. */
-  HED_KITTY_MOD_SHIFT = 1, /* Shift. */
-  HED_KITTY_MOD_ALT = 2, /* Alt. */
-  HED_KITTY_MOD_CTRL = 4, /* Ctrl. */
-  HED_KITTY_MOD_SUPER = 8, /* Super: the key with the Windows logo, or Command. */
-  HED_KITTY_MOD_HYPER = 16, /* Hyper. */
-  HED_KITTY_MOD_META = 32, /* Meta. */
-  HED_KITTY_MOD_CAPS_LOCK = 64, /* Caps Lock is on. */
-  HED_KITTY_MOD_NUM_LOCK = 128 /* Num Lock is on. */
-  /* numbers.txt: end */
-};
-
-/* The code point in shifted and base of a hed_event, if the terminal didn't report one. */
-#define HED_NO_CODE 0xffffffffu
 
 /* An event. What its kind doesn't have is 0. The mouse's buttons have numbers: 1 to 3 are the left, middle and right one, 4 to 7 a wheel that is
  * turned up, down, left and right, and 8 to 11 side buttons. */
@@ -210,289 +189,41 @@ typedef struct hed_event {
   size_t text_len; /* the number of bytes that the event brought, which hed_parser_text copies: see there */
 } hed_event;
 
-/* Makes a parser with an empty buffer. If there was one, it is freed. The caller owes a hed_parser_free. Pass HED_DIALECT_EXTENDED, whatever
- * the terminal is and whatever protocol or mode the program turns on.
- *
- * A parser takes some half a millisecond to make, and some 170 KB, most of it a table of sequences. So make one and keep it:
- * hed_parser_reset empties its buffer, and further parsers share its table by hed_parser_init_sharing.
- *
- * Returns HED_OK, HED_NO_MEMORY, or HED_BAD_NUMBER if dialect is no enum hed_dialect. */
-hed_status hed_parser_init(hed_parser *parser, uint32_t dialect);
+/* The code point in shifted and base of a hed_event, if the terminal didn't report one. */
+#define HED_NO_CODE 0xffffffffu
 
-/* Makes a parser with an empty buffer that shares the table of another. If there was one, it is freed. The caller owes a hed_parser_free. The
- * two may have different dialects.
- *
- * It is for programs with many sessions, such as a server: make one parser by hed_parser_init, and the others from that one or from each
- * other. Each takes some two hundred bytes beside its buffer. The table is freed with the last parser that has it, in whatever order they are
- * freed. Threads may make parsers of one idle parser, but one at a time: this is a call on the other parser too.
- *
- * Returns what hed_parser_init does, or HED_NOT_INITIALIZED if there is no other parser. The other is unchanged. */
-hed_status hed_parser_init_sharing(hed_parser *parser, uint32_t dialect, const hed_parser *other);
-
-/* Frees what the parser owns, and leaves HED_PARSER_NONE. If there is no parser, it does nothing, so it may be called twice. */
-void hed_parser_free(hed_parser *parser);
-
-/* Says that these bytes came now: appends len bytes to the buffer. They are copied. Then call hed_parser_next until it returns HED_NONE.
- *
- * now is in milliseconds, of a clock that nobody sets, such as CLOCK_MONOTONIC. If it is before the time of an earlier call, no time has passed.
- *
- * Returns HED_OK; HED_NO_MEMORY: then none of the bytes is buffered, and the call may be made again; HED_BUSY while a flush that began isn't
- * over: call hed_parser_next until it returns HED_NONE, and then make the call again; or HED_NOT_INITIALIZED. A call without bytes needs no
- * memory. */
-hed_status hed_parser_feed(hed_parser *parser, uint64_t now, const uint8_t *bytes, size_t len);
-
-/* Writes the next event to *event, and consumes its bytes. The caller calls this until it returns HED_NONE: then all is told, and what stays
- * buffered may become a longer sequence or a character, such as a lone ESC.
- *
- * A paste is one event, or with hed_parser_set_parts several. A string is one event if it has its end and less than 65535 bytes before that. Of a
- * longer one come some HED_KIND_STRING_PART first, and then an event with the rest. The bytes of each begin with those of the string's opening,
- * such as 52; after ESC ]: a program that joins them leaves these out of all but the first. If a flush cuts a string off, or ESC without a \
- * after it, then its last event is a HED_KIND_STRING_CUT. No byte of a string that comes before a flush becomes a key.
- *
- * Returns HED_OK, HED_NONE, HED_NO_MEMORY, or HED_NOT_INITIALIZED. *event is written only with HED_OK. HED_NO_MEMORY comes only if a paste, a
- * string or a sequence that isn't of the table is next. Then nothing changed, and the call may be made again. */
-hed_status hed_parser_next(hed_parser *parser, hed_event *event);
-
-/* Makes calls of hed_parser_next one after another, and writes their events to events, at most room of them, and their number to *count.
- * The bytes that they bring go to text one after another: those of an event begin where those of the event before it end, and are its
- * text_len bytes. After an event whose bytes don't all fit into the text_room bytes of text no further one is told. So only the bytes of the
- * last event can be cut off, and hed_parser_text then copies them whole. With text_room 0 the last event alone may bring bytes. What lies
- * behind the events and the bytes is unchanged.
- *
- * Afterwards the parser is what it is after these calls. All of the events are read by one reading. A program that changes the reading by an
- * event calls hed_parser_next.
- *
- * Returns HED_NONE if all is told: the last of the calls returned that. HED_OK says that there is no more room, so there may be further events.
- * With HED_NO_MEMORY the event after those that were written is still next, and the call may be made again. With HED_NOT_INITIALIZED *count is
- * 0. With each of them *count events were written. */
-hed_status hed_parser_next_events(hed_parser *parser, hed_event *events, size_t room, uint8_t *text, size_t text_room, size_t *count);
-
-/* Copies the bytes of the event that was told last to out, at most len of them. A HED_KIND_PASTE or HED_KIND_PASTE_PART brings its text. A
- * HED_KIND_KEY brings the text that the key types, if the terminal reported it. A HED_KIND_CSI, _OSC, _DCS or _APC brings its bytes after ESC
- * and the byte that introduces it, without the end of a string. So does a HED_KIND_STRING_PART or _STRING_CUT. The texts are UTF-8, without a
- * final 0. The rest of out is unchanged.
- *
- * Returns the number of all these bytes, as text_len has it, so a caller whose room was short can call again: the parser keeps them until the
- * next event or hed_parser_drop_text. Returns 0 if there are none, or if there is no parser. */
-size_t hed_parser_text(const hed_parser *parser, uint8_t *out, size_t len);
-
-/* Frees these bytes: hed_parser_text returns 0 until the next event that brings some. The caller calls it once it has copied a text that is too
- * long to be kept. If there are none or there is no parser, it does nothing. */
-void hed_parser_drop_text(hed_parser *parser);
-
-/* Returns how many milliseconds the program may wait for input, as poll takes it: 0 from a call that can bring events, also such as
- * hed_parser_set_parts and hed_parser_set_reading, until hed_parser_next returned HED_NONE; else until what is buffered is due. That is 0 if it is
- * due already, and -1 if it may wait for ever, nothing is buffered, or there is no parser. The parser is unchanged. */
-int32_t hed_parser_timeout(const hed_parser *parser, uint64_t now);
-
-/* Says that nothing more came up to now: the program looked, as by a poll that timed out. If all is told and what is buffered is due, its flush
- * begins, and hed_parser_next tells it: an Escape key, a sequence that was cut off as its keys, and an open paste as a HED_KIND_PASTE of what came
- * so far. Else only the time is noted. */
-void hed_parser_idle(hed_parser *parser, uint64_t now);
-
-/* Reads what is buffered with no more to come, told or not: then hed_parser_next tells it. An open paste stays open. It is for a program that
- * knows by itself that nothing more came, as at its pauses. */
-void hed_parser_flush(hed_parser *parser);
-
-/* Says that nothing will ever come: reads what is buffered as hed_parser_flush does, and an open paste ends where it is. Then call
- * hed_parser_next until it returns HED_NONE. */
-void hed_parser_end(hed_parser *parser);
-
-/* Says that another program had the terminal up to now. A beginning that is buffered is forgotten, since its rest went there, and so are open
- * questions. An open paste or string stays, as the rest of it would be typed otherwise. It ends where it is once nothing came for a second: the
- * other program may have read its end.
- *
- * Returns HED_OK, HED_BUSY unless hed_parser_next returned HED_NONE since the last call that can bring events, or HED_NOT_INITIALIZED. */
-hed_status hed_parser_interrupted(hed_parser *parser, uint64_t now);
-
-/* Tells a paste in parts as soon as more than limit bytes of its text are buffered: then hed_parser_next writes a HED_KIND_PASTE_PART, and the
- * paste stays open. What follows is its further text: none of it becomes a key. The HED_KIND_PASTE that ends it has the rest of the text, maybe
- * none. So with a limit such as 1 << 20 a paste of any length needs little memory: at most 6 bytes and the limit stay buffered of it, or 11 if the
- * limit is below 5. With HED_NO_PARTS, as at first, a paste is one event, and is buffered until its end arrives, whatever its length. */
-void hed_parser_set_parts(hed_parser *parser, size_t limit);
-
-/* The limit of parts with which there are none. */
-#define HED_NO_PARTS SIZE_MAX
-
-/* Forgets text of an open paste before its end arrives, and writes the number of these bytes to *count. The paste stays open. To refuse a paste
- * that is too long, the caller calls it after each read and its events until the HED_KIND_PASTE comes, and ignores that one. No memory is
- * asked for.
- *
- * Returns HED_OK, HED_NONE if no paste is open, or HED_NOT_INITIALIZED. *count is written only with HED_OK. */
-hed_status hed_parser_skip_paste(hed_parser *parser, size_t *count);
-
-/* Forgets all that is buffered, an open paste too, and the questions that are open: the next byte that is fed comes first. The text of the
- * event that was told last is kept, and no memory is freed. The rest of the reading stays.
- *
- * Returns the number of bytes that were buffered, 0 if there is no parser. */
-size_t hed_parser_reset(hed_parser *parser);
-
-/* Frees memory that holds nothing, of the buffer and of the bytes of the event that was told last. The buffer keeps its room for min_capacity
- * bytes, if it has that. What is buffered, those bytes and all later events are unchanged. A session that is quiet after a long paste calls
- * hed_parser_drop_text, and this with 0. If the smaller memory is refused, the larger is kept. If there is no parser, it does nothing. */
-void hed_parser_shrink_to(hed_parser *parser, size_t min_capacity);
-
-/* Returns the number of bytes that are buffered, 0 if there is no parser. Once hed_parser_next returned HED_NONE, it is at most 256, or an open
- * string of at most 65535 bytes, or an open paste. */
-size_t hed_parser_waiting_len(const hed_parser *parser);
-
-/* What stays buffered, as hed_parser_waiting returns it. */
-enum hed_waiting {
-  /* numbers.txt: waiting c */
-  HED_WAITING_NOTHING = 0, /* Nothing is buffered. */
-  HED_WAITING_ESCAPE = 1, /* ESC, or ESC ESC: the Escape key, alone or with Alt, unless more bytes follow. */
-  HED_WAITING_SEQUENCE = 2, /* A longer prefix of a sequence, after an ESC or not. */
-  HED_WAITING_CHARACTER = 3, /* A prefix of a character in UTF-8, after an ESC or not. */
-  HED_WAITING_PASTE = 4, /* An open paste: its start, and its text so far. */
-  HED_WAITING_STRING = 5 /* An open string: its opening, and its bytes so far. */
-  /* numbers.txt: end */
+/* What happened to a key: the field key_event_kind of a hed_event. */
+enum hed_key_event_kind {
+  HED_KEY_EVENT_KIND_PRESS = 1, /* It was pressed. */
+  HED_KEY_EVENT_KIND_REPEAT = 2, /* It was held down so long that it repeats. */
+  HED_KEY_EVENT_KIND_RELEASE = 3 /* It was released. */
 };
 
-/* Returns what stays buffered, an enum hed_waiting. The caller calls it after HED_NONE: before that, events may still be next. The beginning of a
- * control sequence, of a title or of the opening of a string is a HED_WAITING_SEQUENCE. With HED_WAITING_STRING the opening is whole, and the
- * string's end is still to come.
- *
- * It tells a program what to show, or to log, of bytes that wait. How long they may wait is what hed_parser_timeout answers.
- *
- * Returns HED_WAITING_NOTHING if there is no parser. */
-uint32_t hed_parser_waiting(const hed_parser *parser);
-
-/* Which byte the Backspace key sends: the field erase of a hed_reading. A program takes it from its terminal's settings: VERASE of termios is 8
- * or 127. hedrugal_terminal.c does that. */
-enum hed_erase {
-  /* numbers.txt: erase c */
-  HED_ERASE_DELETE = 0, /* 127, as most terminals send it. Byte 8 is Ctrl-H. */
-  HED_ERASE_BACKSPACE = 1 /* 8. Byte 127 is Ctrl-Backspace. */
-  /* numbers.txt: end */
+/* What happened to the mouse: the field mouse_kind of a hed_event. */
+enum hed_mouse_kind {
+  HED_MOUSE_KIND_PRESS = 1, /* A button was pressed. */
+  HED_MOUSE_KIND_RELEASE = 2, /* A button was released. Only SGR reports (mode 1006) tell which. */
+  HED_MOUSE_KIND_DRAG = 3, /* The mouse was moved while a button was down. */
+  HED_MOUSE_KIND_MOVE = 4, /* The mouse was moved, and no button is down. */
+  HED_MOUSE_KIND_WHEEL = 5 /* A wheel was turned. */
 };
 
-/* What byte 10 is: the field newline of a hed_reading. It is Enter while the terminal's settings turn CR into LF (ICRNL of termios), or if the
- * input is no terminal. In raw mode, as hedrugal_terminal.c sets it, it is Ctrl-J. */
-enum hed_newline {
-  /* numbers.txt: newline c */
-  HED_NEWLINE_CTRL_J = 0, /* Ctrl-J. The Enter key sends the byte 13. */
-  HED_NEWLINE_ENTER = 1 /* The Enter key: the terminal's settings turn CR into it (ICRNL), or the input is no terminal. */
-  /* numbers.txt: end */
+/* The modifiers by Kitty's bits, as a set: the field modifiers of a hed_event, and held of a hed_key_press. Only hed_encode has others, those
+ * of enum hed_termwiz_mod. */
+enum hed_kitty_mod {
+  HED_KITTY_MOD_NONE = 0, /* No modifier. */
+  HED_KITTY_MOD_SHIFT = 1, /* Shift. */
+  HED_KITTY_MOD_ALT = 2, /* Alt. */
+  HED_KITTY_MOD_CTRL = 4, /* Ctrl. */
+  HED_KITTY_MOD_SUPER = 8, /* Super: the key with the Windows logo, or Command. */
+  HED_KITTY_MOD_HYPER = 16, /* Hyper. */
+  HED_KITTY_MOD_META = 32, /* Meta. */
+  HED_KITTY_MOD_CAPS_LOCK = 64, /* Caps Lock is on. */
+  HED_KITTY_MOD_NUM_LOCK = 128 /* Num Lock is on. */
 };
 
-/* How a parser reads. A new one has its dialect, and the rest is 0: Backspace sends 127, and byte 10 is Ctrl-J. */
-typedef struct hed_reading {
-  uint32_t dialect; /* an enum hed_dialect. With HED_DIALECT_TERMWIZ the other fields say nothing */
-  uint32_t erase; /* an enum hed_erase: which byte the Backspace key sends */
-  uint32_t newline; /* an enum hed_newline: what byte 10 is */
-  bool x10_mouse; /* X10 mouse reports are read: ESC [M and three bytes. Without it ESC [M is a control sequence */
-  uint8_t questions; /* how many questions for the cursor's position are open */
-} hed_reading;
-
-/* Has the parser read so from now on, also what is buffered. A flush that began goes on. A program that changes one field begins with what
- * hed_parser_reading wrote.
- *
- * Returns HED_OK, HED_NOT_INITIALIZED, or HED_BAD_NUMBER if dialect is no enum hed_dialect, erase no enum hed_erase or newline no enum
- * hed_newline. */
-hed_status hed_parser_set_reading(hed_parser *parser, const hed_reading *reading);
-
-/* Writes how the parser reads. Returns HED_OK or HED_NOT_INITIALIZED. */
-hed_status hed_parser_reading(const hed_parser *parser, hed_reading *reading);
-
-/* Expects one more reply to a question for the cursor's position, up to 255: call it with each ESC [6n that is written. While a reply is
- * expected, ESC [1;5R and the like are HED_KIND_CURSOR_POSITION, and not F3 with modifiers; each such event answers one question. */
-void hed_parser_expect_position(hed_parser *parser);
-
-/* Expects no reply any more to such questions: call it when a reply is overdue, or when a later question was answered. */
-void hed_parser_forget_positions(hed_parser *parser);
-
-/* How long each kind of bytes may stay buffered, in milliseconds: then they are due to be flushed. 0 is the usual limit, so a program names
- * only those that it changes, as in { .escape = 25 }; 1 is the least, and 2147418111 the most. Negative: for ever. */
-typedef struct hed_policy {
-  int32_t escape; /* ESC or ESC ESC, since its last byte */
-  int32_t alt_key; /* ESC and one byte that may begin a sequence, since the ESC: unless more follows, the byte's key with Alt */
-  int32_t sequence; /* a longer prefix of a sequence, since its first byte */
-  int32_t string; /* a string without its end, since its first byte; each byte that is buffered adds a millisecond */
-  int32_t character; /* a prefix of a character, since its first byte */
-  int32_t paste; /* an open paste, since bytes last came */
-} hed_policy;
-
-/* The usual limits: those of a parser for which none were set. */
-#define HED_POLICY_USUAL \
-  { 50, 100, 1000, 5000, -1, -1 }
-
-/* Sets the limits of a parser. They hold from now on, also for what is buffered.
- *
- * Returns HED_OK, HED_NOT_INITIALIZED, or HED_BAD_NUMBER if a limit is above 2147418111, which hed_parser_timeout couldn't tell. */
-hed_status hed_parser_set_policy(hed_parser *parser, const hed_policy *policy);
-
-/* The two ages of what is pending, by which a hed_timer limits it. */
-enum hed_age {
-  /* numbers.txt: age c */
-  HED_AGE_LAST = 0, /* How long ago something was fed last. */
-  HED_AGE_FRONT = 1 /* How long ago the first of what is pending came to the front. */
-  /* numbers.txt: end */
-};
-
-/* What a program tells a hed_timer: what is pending now, and what happened since the last note. */
-typedef struct hed_seen {
-  int32_t limit; /* how long what is pending may wait, in milliseconds. Negative: forever */
-  uint8_t by; /* an enum hed_age: the age that the limit is for */
-  bool fed; /* whether something was fed since the last note, as a press to a matcher */
-  bool taken; /* whether something was taken since the last note, as an outcome of a matcher */
-  bool empty; /* whether nothing is pending now */
-} hed_seen;
-
-/* A timer, by which a program keeps a limit in time of its own beside its parser's. An example is the pause of a chord, after which the
- * presses that are pending in a hed_matcher are given up. All zero, as HED_TIMER_NONE, it is a new one. It owns no memory, and may be copied.
- * Its fields are the library's. */
-typedef struct hed_timer {
-  uint64_t last;
-  uint64_t front;
-  uint64_t noted;
-  uint64_t millis;
-  uint8_t by;
-  bool has_noted;
-  bool has_limit;
-  bool holds;
-} hed_timer;
-
-/* The value of a new hed_timer. */
-#define HED_TIMER_NONE \
-  { 0, 0, 0, 0, 0, false, false, false }
-
-/* Tells the timer what time it is and what was seen. Both ages grow by the time since the last note. Then HED_AGE_LAST is 0 if something was
- * fed, and HED_AGE_FRONT is 0 if something was taken, or if nothing was pending at the last note. The pause of a chord is limited by
- * HED_AGE_LAST: the caller notes each press, once hed_matcher_next has returned HED_NONE.
- *
- * now is in milliseconds, as for hed_parser_feed: if it is before the time of the last note, no time has passed.
- *
- * Returns HED_OK, or HED_BAD_NUMBER if by is no enum hed_age, in *seen or in *timer. */
-hed_status hed_timer_note(hed_timer *timer, uint64_t now, const hed_seen *seen);
-
-/* Returns how many milliseconds what is pending may still wait, as poll takes it: 0 if its age has reached the limit, and -1 if it may wait
- * forever. It is also -1 if by is no enum hed_age in *timer. The timer is unchanged.
- *
- * A program waits for no longer than this and hed_parser_timeout say. If no key came and this is 0, it gives up the chord: it calls
- * hed_matcher_next with maybe_more as false. */
-int32_t hed_timer_timeout(const hed_timer *timer, uint64_t now);
-
-/* The modifiers by termwiz's bits, as a set: what hed_encode is given. Everything else has those of enum hed_kitty_mod. */
-enum hed_termwiz_mod {
-  /* numbers.txt: termwiz_mod c */
-  HED_TERMWIZ_MOD_NONE = 0, /* No modifier. */
-  HED_TERMWIZ_MOD_SHIFT = 2, /* Shift. */
-  HED_TERMWIZ_MOD_ALT = 4, /* Alt. */
-  HED_TERMWIZ_MOD_CTRL = 8, /* Ctrl. */
-  HED_TERMWIZ_MOD_SUPER = 16, /* Super: the key with the Windows logo, or Command. */
-  HED_TERMWIZ_MOD_LEFT_ALT = 32, /* The left Alt key. */
-  HED_TERMWIZ_MOD_RIGHT_ALT = 64, /* The right Alt key. */
-  HED_TERMWIZ_MOD_LEADER = 128, /* A leader key, for programs that define one. */
-  HED_TERMWIZ_MOD_LEFT_CTRL = 256, /* The left Ctrl key. */
-  HED_TERMWIZ_MOD_RIGHT_CTRL = 512, /* The right Ctrl key. */
-  HED_TERMWIZ_MOD_LEFT_SHIFT = 1024, /* The left Shift key. */
-  HED_TERMWIZ_MOD_RIGHT_SHIFT = 2048 /* The right Shift key. */
-  /* numbers.txt: end */
-};
-
-/* The buttons and wheels of the mouse, as bits of a set: the field buttons of a hed_event. */
+/* The buttons and wheels of the mouse, as a set: the field buttons of a hed_event. */
 enum hed_button {
-  /* numbers.txt: button c */
   HED_BUTTON_NONE = 0, /* No button and no wheel. */
   HED_BUTTON_LEFT = 2, /* The left button. */
   HED_BUTTON_RIGHT = 4, /* The right button. */
@@ -500,12 +231,21 @@ enum hed_button {
   HED_BUTTON_VERT_WHEEL = 16, /* The wheel that scrolls up and down. It was turned up if WHEEL_POSITIVE is set too, and down if not. */
   HED_BUTTON_HORZ_WHEEL = 32, /* The wheel that scrolls to the sides. It was turned left if WHEEL_POSITIVE is set too, and right if not. */
   HED_BUTTON_WHEEL_POSITIVE = 64 /* Set with a wheel that was turned up or left. */
-  /* numbers.txt: end */
+};
+
+/* The flags of Kitty's keyboard protocol, as a set: the field flags of a hed_event, kitty_flags of a hed_modes, and what hed_encode_kitty is
+ * given. */
+enum hed_kitty_flag {
+  HED_KITTY_FLAG_NONE = 0, /* Nothing is asked for. */
+  HED_KITTY_FLAG_DISAMBIGUATE_ESCAPE_CODES = 1, /* Keys whose plain text is ambiguous, as that of Escape, are reported as escape codes. */
+  HED_KITTY_FLAG_REPORT_EVENT_TYPES = 2, /* Repeats and releases of a key are reported, and not presses alone. */
+  HED_KITTY_FLAG_REPORT_ALTERNATE_KEYS = 4, /* A key is reported with its shifted code and with its code on the standard layout. */
+  HED_KITTY_FLAG_REPORT_ALL_KEYS_AS_ESCAPE_CODES = 8, /* Keys that make text are reported as escape codes too. */
+  HED_KITTY_FLAG_REPORT_ASSOCIATED_TEXT = 16 /* A key that makes text is reported with that text. */
 };
 
 /* The keys, in the order of termwiz's KeyCode: the field key of a hed_event, and what hed_key_name and hed_encode are given. */
 enum hed_key {
-  /* numbers.txt: key c */
   HED_KEY_CHAR = 1, /* A key that types a character: `A` is what Shift-A types, and Ctrl-C is `c` with CTRL. */
   HED_KEY_HYPER = 2, /* Hyper, a modifier key. */
   HED_KEY_SUPER = 3, /* Super, a modifier key: on most keyboards the one with the Windows logo, or Command. */
@@ -596,7 +336,6 @@ enum hed_key {
   HED_KEY_KEY_PAD_BEGIN = 88, /* Begin on the numeric keypad: the 5 while Num Lock is off. */
   HED_KEY_INTERNAL_PASTE_START = 89, /* The start of a bracketed paste. No event carries it: the paste comes as one event. */
   HED_KEY_INTERNAL_PASTE_END = 90 /* The end of a bracketed paste, where none was started. */
-  /* numbers.txt: end */
 };
 
 /* Copies the name of a key to out, at most len bytes of it: "LeftArrow" for HED_KEY_LEFT_ARROW, "Char" for HED_KEY_CHAR. If a byte more
@@ -606,54 +345,246 @@ enum hed_key {
  * unchanged. */
 size_t hed_key_name(uint16_t key, uint8_t *out, size_t len);
 
-/* The encodings of keys: the field encoding of a hed_modes. */
-enum hed_encoding {
-  /* numbers.txt: encoding c */
-  HED_ENCODING_XTERM = 0, /* The characters themselves, and xterm's control sequences. */
-  HED_ENCODING_CSI_U = 1, /* The same, but a character with modifiers that it can't show is sent as ESC [ c ; m u (fixterms). */
-  HED_ENCODING_WIN32 = 2, /* Records of the Windows console. Keys are encoded as with XTERM. */
-  HED_ENCODING_KITTY = 3 /* kitty's keyboard protocol. Keys are encoded as with XTERM. */
-  /* numbers.txt: end */
+/* ---- hedrugal_parser(3): parsers, which read bytes as events ---- */
+
+/* A parser, or none. Its fields are the library's. It may be moved, as by memcpy, and is then used at its new place alone: of two
+ * copies only one may ever be used, and only one freed. */
+typedef struct hed_parser {
+  bool live;
+  void *state;
+} hed_parser;
+
+/* The value of a hed_parser that is none. */
+#define HED_PARSER_NONE \
+  { false, NULL }
+
+/* By which grammar a parser reads: what hed_parser_init is given. Pass HED_DIALECT_EXTENDED: it reads every protocol and mode, so a program
+ * never has to know which its terminal speaks. HED_DIALECT_TERMWIZ is for programs that must read just what termwiz reads. */
+enum hed_dialect {
+  HED_DIALECT_EXTENDED = 0, /* What terminals send in any mode. For every program. */
+  HED_DIALECT_TERMWIZ = 1 /* What termwiz reads, and nothing else: the other fields of a reading say nothing then. */
 };
 
-/* The flags of kitty's keyboard protocol, as bits of a set: the field kitty_flags of a hed_modes, and what hed_encode_kitty is given. */
-enum hed_kitty_flag {
-  /* numbers.txt: kitty_flag c */
-  HED_KITTY_FLAG_NONE = 0, /* Nothing is asked for. */
-  HED_KITTY_FLAG_DISAMBIGUATE_ESCAPE_CODES = 1, /* Keys whose plain text is ambiguous, as that of Escape, are reported as escape codes. */
-  HED_KITTY_FLAG_REPORT_EVENT_TYPES = 2, /* Repeats and releases of a key are reported, and not presses alone. */
-  HED_KITTY_FLAG_REPORT_ALTERNATE_KEYS = 4, /* A key is reported with its shifted code and with its code on the standard layout. */
-  HED_KITTY_FLAG_REPORT_ALL_KEYS_AS_ESCAPE_CODES = 8, /* Keys that make text are reported as escape codes too. */
-  HED_KITTY_FLAG_REPORT_ASSOCIATED_TEXT = 16 /* A key that makes text is reported with that text. */
-  /* numbers.txt: end */
+/* Makes a parser with an empty buffer. If there was one, it is freed. The caller owes a hed_parser_free. Pass HED_DIALECT_EXTENDED, whatever
+ * the terminal is and whatever protocol or mode the program turns on.
+ *
+ * A parser takes some half a millisecond to make, and some 170 KB, most of it a table of sequences. So make one and keep it:
+ * hed_parser_reset empties its buffer, and further parsers share its table by hed_parser_init_sharing.
+ *
+ * Returns HED_OK, HED_NO_MEMORY, or HED_BAD_NUMBER if dialect is no enum hed_dialect. */
+hed_status hed_parser_init(hed_parser *parser, uint32_t dialect);
+
+/* Makes a parser with an empty buffer that shares the table of another. If there was one, it is freed. The caller owes a hed_parser_free. The
+ * two may have different dialects.
+ *
+ * It is for programs with many sessions, such as a server: make one parser by hed_parser_init, and the others from that one or from each
+ * other. Each takes some two hundred bytes beside its buffer. The table is freed with the last parser that has it, in whatever order they are
+ * freed. Threads may make parsers of one idle parser, but one at a time: this is a call on the other parser too.
+ *
+ * Returns what hed_parser_init does, or HED_NOT_INITIALIZED if there is no other parser. The other is unchanged. */
+hed_status hed_parser_init_sharing(hed_parser *parser, uint32_t dialect, const hed_parser *other);
+
+/* Frees what the parser owns, and leaves HED_PARSER_NONE. If there is no parser, it does nothing, so it may be called twice. */
+void hed_parser_free(hed_parser *parser);
+
+/* Says that these bytes came now: appends a copy of all len bytes to the buffer, or of none. Then call hed_parser_next until it returns HED_NONE.
+ *
+ * now is in milliseconds, of a clock that nobody sets, such as CLOCK_MONOTONIC. If it is before the time of an earlier call, no time has passed.
+ *
+ * Returns HED_OK, HED_NO_MEMORY, HED_BUSY while a flush that began isn't over, or HED_NOT_INITIALIZED. After HED_NO_MEMORY the call may be made
+ * again, and after HED_BUSY once hed_parser_next returned HED_NONE. A call without bytes needs no memory. */
+hed_status hed_parser_feed(hed_parser *parser, uint64_t now, const uint8_t *bytes, size_t len);
+
+/* Writes the next event to *event, and consumes its bytes. The caller calls this until it returns HED_NONE: then all is told, and what stays
+ * buffered may become a longer sequence or a character, such as a lone ESC.
+ *
+ * A paste is one event, or with hed_parser_set_parts several. A string is one event if it has its end and less than 65535 bytes before that. Of a
+ * longer one come some HED_KIND_STRING_PART first, and then an event with the rest. The bytes of each begin with those of the string's opening,
+ * such as 52; after ESC ]: a program that joins them leaves these out of all but the first. If a flush cuts a string off, or ESC without a \
+ * after it, then its last event is a HED_KIND_STRING_CUT. No byte of a string that comes before a flush becomes a key.
+ *
+ * Returns HED_OK, HED_NONE, HED_NO_MEMORY, or HED_NOT_INITIALIZED. *event is written only with HED_OK. HED_NO_MEMORY comes only if a paste, a
+ * string or a sequence that isn't of the table is next. Then nothing changed, and the call may be made again. */
+hed_status hed_parser_next(hed_parser *parser, hed_event *event);
+
+/* Makes calls of hed_parser_next one after another, and writes their events to events, at most room of them, and their number to *count.
+ * The bytes that they bring go to text one after another: those of an event begin where those of the event before it end, and are its
+ * text_len bytes. After an event whose bytes don't all fit into the text_room bytes of text no further one is told. So only the bytes of the
+ * last event can be cut off, and hed_parser_text then copies them whole. With text_room 0 the last event alone may bring bytes. What lies
+ * behind the events and the bytes is unchanged.
+ *
+ * Afterwards the parser is what it is after these calls. All of the events are read by one reading. A program that changes the reading by an
+ * event calls hed_parser_next.
+ *
+ * Returns HED_NONE if all is told: the last of the calls returned that. HED_OK says that there is no more room, so there may be further events.
+ * With HED_NO_MEMORY the event after those that were written is still next, and the call may be made again. With HED_NOT_INITIALIZED *count is
+ * 0. With each of them *count events were written. */
+hed_status hed_parser_next_events(hed_parser *parser, hed_event *events, size_t room, uint8_t *text, size_t text_room, size_t *count);
+
+/* Copies the bytes of the event that was told last to out, at most len of them. A HED_KIND_PASTE or HED_KIND_PASTE_PART brings its text. A
+ * HED_KIND_KEY brings the text that the key types, if the terminal reported it. A HED_KIND_CSI, _OSC, _DCS or _APC brings its bytes after ESC
+ * and the byte that introduces it, without the end of a string. So does a HED_KIND_STRING_PART or _STRING_CUT. The texts are UTF-8, without a
+ * final 0. The rest of out is unchanged.
+ *
+ * Returns the number of all these bytes, as text_len has it, so a caller whose room was short can call again: the parser keeps them until the
+ * next event or hed_parser_drop_text. Returns 0 if there are none, or if there is no parser. */
+size_t hed_parser_text(const hed_parser *parser, uint8_t *out, size_t len);
+
+/* Frees the bytes of the event that was told last: hed_parser_text returns 0 until the next event that brings some. The caller calls it once it
+ * has copied a text that is too long to be kept. If there are none or there is no parser, it does nothing. */
+void hed_parser_drop_text(hed_parser *parser);
+
+/* Returns how many milliseconds the program may wait for input, as poll takes it. While events may be next, that is 0: from a call that can bring
+ * some, also such as hed_parser_set_parts and hed_parser_set_reading, until hed_parser_next returned HED_NONE. Then it is the time until what is
+ * buffered is due, 0 if it is due already. It is -1 if that may wait for ever, nothing is buffered, or there is no parser. The parser is
+ * unchanged. */
+int32_t hed_parser_timeout(const hed_parser *parser, uint64_t now);
+
+/* Says that nothing more came up to now: the program looked, as by a poll that timed out. If all is told and what is buffered is due, its flush
+ * begins, and hed_parser_next tells it: an Escape key, a sequence that was cut off as its keys, and an open paste as a HED_KIND_PASTE of what came
+ * so far. Else only the time is noted. */
+void hed_parser_idle(hed_parser *parser, uint64_t now);
+
+/* Reads what is buffered with no more to come, whether all was told or not: then hed_parser_next tells it. An open paste stays open. It is for a
+ * program without a clock, which calls it at its pauses. */
+void hed_parser_flush(hed_parser *parser);
+
+/* Says that nothing will ever come: reads what is buffered as hed_parser_flush does, and an open paste ends where it is. Then call
+ * hed_parser_next until it returns HED_NONE. */
+void hed_parser_end(hed_parser *parser);
+
+/* Says that another program had the terminal up to now. A beginning that is buffered is forgotten, since its rest went there, and so are open
+ * questions. An open paste or string stays, as the rest of it would be typed otherwise. It ends where it is once nothing came for a second: the
+ * other program may have read its end.
+ *
+ * Returns HED_OK, HED_BUSY unless hed_parser_next returned HED_NONE since the last call that can bring events, or HED_NOT_INITIALIZED. */
+hed_status hed_parser_interrupted(hed_parser *parser, uint64_t now);
+
+/* Has a long paste told in parts. As soon as more than limit bytes of its text are buffered, hed_parser_next writes a HED_KIND_PASTE_PART, and
+ * the paste stays open. What follows is its further text: none of it becomes a key. The HED_KIND_PASTE that ends it has the rest of the text,
+ * maybe none.
+ *
+ * So with a limit such as 1 << 20 a paste of any length needs little memory: at most 6 bytes and the limit stay buffered of it, or 11 if the limit
+ * is below 5. With HED_NO_PARTS, as at first, a paste is one event, and is buffered until its end arrives, whatever its length. */
+void hed_parser_set_parts(hed_parser *parser, size_t limit);
+
+/* The limit of parts with which there are none. */
+#define HED_NO_PARTS SIZE_MAX
+
+/* Forgets text of an open paste before its end arrives, and writes the number of these bytes to *count. The paste stays open. To refuse a paste
+ * that is too long, the caller calls it after each read and its events until the HED_KIND_PASTE comes, and ignores that one. No memory is
+ * asked for.
+ *
+ * Returns HED_OK, HED_NONE if no paste is open, or HED_NOT_INITIALIZED. *count is written only with HED_OK. */
+hed_status hed_parser_skip_paste(hed_parser *parser, size_t *count);
+
+/* Forgets all that is buffered, an open paste too, and the questions that are open: the next byte that is fed comes first. The text of the
+ * event that was told last is kept, and no memory is freed. The rest of the reading stays.
+ *
+ * Returns the number of bytes that were buffered, 0 if there is no parser. */
+size_t hed_parser_reset(hed_parser *parser);
+
+/* Frees memory that holds nothing, of the buffer and of the bytes of the event that was told last. The buffer keeps its room for min_capacity
+ * bytes, if it has that. What is buffered, those bytes and all later events are unchanged. A session that is quiet after a long paste calls
+ * hed_parser_drop_text, and this with 0. If the smaller memory is refused, the larger is kept. If there is no parser, it does nothing. */
+void hed_parser_shrink_to(hed_parser *parser, size_t min_capacity);
+
+/* Returns the number of bytes that are buffered, 0 if there is no parser. Once hed_parser_next returned HED_NONE, it is at most 256, or an open
+ * string of at most 65535 bytes, or an open paste. */
+size_t hed_parser_waiting_len(const hed_parser *parser);
+
+/* What stays buffered, as hed_parser_waiting returns it. */
+enum hed_waiting {
+  HED_WAITING_NOTHING = 0, /* Nothing is buffered. */
+  HED_WAITING_ESCAPE = 1, /* ESC, or ESC ESC: the Escape key, alone or with Alt, unless more bytes follow. */
+  HED_WAITING_SEQUENCE = 2, /* A longer prefix of a sequence, after an ESC or not. */
+  HED_WAITING_CHARACTER = 3, /* A prefix of a character in UTF-8, after an ESC or not. */
+  HED_WAITING_PASTE = 4, /* An open paste: its start, and its text so far. */
+  HED_WAITING_STRING = 5 /* An open string: its opening, and its bytes so far. */
 };
 
-/* The modes of a terminal that change the text of a key. All zero is xterm with every mode off. */
-typedef struct hed_modes {
-  int64_t modify_other_keys; /* the level of xterm's modifyOtherKeys; not read if has_modify_other_keys is false */
-  uint8_t encoding; /* an enum hed_encoding */
-  uint8_t kitty_flags; /* a set of HED_KITTY_FLAG_..; read only with HED_ENCODING_KITTY */
-  bool application_cursor_keys; /* the arrows, Home and End send ESC O in place of ESC [ (DECCKM) */
-  bool newline_mode; /* Enter sends a line feed after the carriage return (LNM) */
-  bool has_modify_other_keys; /* modifyOtherKeys is on, at the level above */
-} hed_modes;
-
-/* Writes the text that a terminal in these modes sends for a key to out, and its length to *text_len. The text is UTF-8
- * without a final 0. It is empty for a key that sends nothing, and for every key that is up (is_down is false), which needs no memory.
+/* Returns what stays buffered, an enum hed_waiting, so that a program can show or log it. It is HED_WAITING_NOTHING if there is no parser. How
+ * long the bytes may wait is what hed_parser_timeout answers.
  *
- * The key is an enum hed_key. detail is its code point if it is HED_KEY_CHAR, its number if it is HED_KEY_FUNCTION, and isn't read for
- * other keys. modifiers is a set of HED_TERMWIZ_MOD_...
- *
- * Returns HED_OK: *text_len is the length of the whole text, and out has as much of it as len bytes hold. If *text_len is above len, call again
- * with more room. The rest of out is unchanged. Otherwise *text_len is 0 and out is unchanged: HED_REFUSED_KEY for a function key, down, that
- * isn't one of F1 to F24; HED_NO_MEMORY; HED_BAD_NUMBER if no key has the number, if detail is no Unicode scalar value or above 255, or if
- * modifiers, encoding or (with HED_ENCODING_KITTY) kitty_flags have a value or a bit without a name. */
-hed_status hed_encode(uint16_t key, uint32_t detail, uint16_t modifiers, bool is_down, const hed_modes *modes, uint8_t *out, size_t len,
-                      size_t *text_len);
+ * The caller calls it after HED_NONE: before that, events may still be next. The beginning of a control sequence, of a title or of the opening of
+ * a string is a HED_WAITING_SEQUENCE. With HED_WAITING_STRING the opening is whole, and the string's end is still to come. */
+uint32_t hed_parser_waiting(const hed_parser *parser);
 
-/* The sequence table, which each parser has: the entries are in the order of their bytes, and the first place is 0. */
-#define HED_ENTRY_COUNT 2937 /* how many entries there are */
-#define HED_ENTRY_MOST 11 /* the length of the longest */
+/* Which byte the Backspace key sends: the field erase of a hed_reading. A program takes it from its terminal's settings: VERASE of termios is 8
+ * or 127. hedrugal_terminal.c does that. */
+enum hed_erase {
+  HED_ERASE_DELETE = 0, /* 127, as most terminals send it. Byte 8 is Ctrl-H. */
+  HED_ERASE_BACKSPACE = 1 /* 8. Byte 127 is Ctrl-Backspace. */
+};
+
+/* What byte 10 is: the field newline of a hed_reading. It is Enter while the terminal's settings turn CR into LF (ICRNL of termios), or if the
+ * input is no terminal. In raw mode, as hedrugal_terminal.c sets it, it is Ctrl-J. */
+enum hed_newline {
+  HED_NEWLINE_CTRL_J = 0, /* Ctrl-J. The Enter key sends the byte 13. */
+  HED_NEWLINE_ENTER = 1 /* The Enter key: the terminal's settings turn CR into it (ICRNL), or the input is no terminal. */
+};
+
+/* How a parser reads. A new one has its dialect, and the rest is 0: Backspace sends 127, and byte 10 is Ctrl-J. */
+typedef struct hed_reading {
+  uint32_t dialect; /* an enum hed_dialect. With HED_DIALECT_TERMWIZ the other fields say nothing */
+  uint32_t erase; /* an enum hed_erase: which byte the Backspace key sends */
+  uint32_t newline; /* an enum hed_newline: what byte 10 is */
+  bool x10_mouse; /* X10 mouse reports are read: ESC [M and three bytes. Without it ESC [M is a control sequence */
+  uint8_t questions; /* how many questions for the cursor's position are open */
+} hed_reading;
+
+/* Has the parser read as *reading says from now on, also what is buffered. A flush that began goes on. A program that changes one field begins
+ * with what hed_parser_reading wrote.
+ *
+ * Returns HED_OK, HED_NOT_INITIALIZED, or HED_BAD_NUMBER if dialect is no enum hed_dialect, erase no enum hed_erase or newline no enum
+ * hed_newline. */
+hed_status hed_parser_set_reading(hed_parser *parser, const hed_reading *reading);
+
+/* Writes how the parser reads to *reading. Returns HED_OK or HED_NOT_INITIALIZED. */
+hed_status hed_parser_reading(const hed_parser *parser, hed_reading *reading);
+
+/* Expects one more reply to a question for the cursor's position, up to 255: call it with each ESC [6n that is written. While a reply is
+ * expected, ESC [1;5R and the like are HED_KIND_CURSOR_POSITION, and not F3 with modifiers; each such event answers one question. */
+void hed_parser_expect_position(hed_parser *parser);
+
+/* Expects no reply any more to questions for the cursor's position: call it when one is overdue, or when a later question was answered. */
+void hed_parser_forget_positions(hed_parser *parser);
+
+/* How long each kind of bytes may stay buffered, in milliseconds: then they are due to be flushed. 0 is the usual limit, so a program names
+ * only those that it changes, as in `{ .escape = 25 }`. 1 is the least limit, and HED_LIMIT_MOST the most. A negative one is for ever.
+ *
+ * Some terminals drop the end of some pastes: a program that must not hang gives pastes a limit such as 10000. */
+typedef struct hed_policy {
+  int32_t escape; /* ESC or ESC ESC, since its last byte: usually 50 */
+  int32_t alt_key; /* ESC and one byte that may begin a sequence, else that byte's key with Alt, since the ESC: usually 100 */
+  int32_t sequence; /* a longer prefix of a sequence, since its first byte: usually 1000 */
+  int32_t string; /* a string without its end, since its first byte: usually 5000; each byte that is buffered adds a millisecond */
+  int32_t character; /* a prefix of a character, since its first byte: usually for ever */
+  int32_t paste; /* an open paste, since bytes last came: usually for ever */
+} hed_policy;
+
+/* The usual limits: those of a parser for which none were set. */
+#define HED_POLICY_USUAL \
+  { 50, 100, 1000, 5000, -1, -1 }
+
+/* The most milliseconds of a limit: what hed_parser_timeout can tell, also of the longest string. */
+#define HED_LIMIT_MOST 2147418111
+
+/* Sets the limits of a parser. They hold from now on, also for what is buffered.
+ *
+ * Returns HED_OK, HED_NOT_INITIALIZED, or HED_BAD_NUMBER if a limit is above HED_LIMIT_MOST. */
+hed_status hed_parser_set_policy(hed_parser *parser, const hed_policy *policy);
+
+/* Some entries of the sequence table, one after another. Each parser has this table of the sequences that it reads as keys: entries of bytes and
+ * a key, in the order of their bytes. The first place is 0. */
+typedef struct hed_entries {
+  size_t first; /* the place of the first */
+  size_t count; /* how many there are */
+  bool with_alt; /* whether their keys get HED_KITTY_MOD_ALT */
+} hed_entries;
+
+#define HED_ENTRY_COUNT 2937 /* How many entries the sequence table has. */
+#define HED_ENTRY_MOST 11 /* The most bytes of an entry. */
 
 /* Tells the entry at a place: the bytes of a sequence, and its key, as HED_DIALECT_TERMWIZ reads it. Writes as many of the bytes as capacity says,
  * and the key to *event, a HED_KIND_KEY. The start and the end of a paste are entries too, with the keys HED_KEY_INTERNAL_PASTE_START and
@@ -663,20 +594,292 @@ hed_status hed_encode(uint16_t key, uint32_t detail, uint16_t modifiers, bool is
  * is unchanged, and no memory is needed. */
 size_t hed_parser_entry(const hed_parser *parser, size_t place, uint8_t *bytes, size_t capacity, hed_event *event);
 
-/* Some entries of the table, one after another. */
-typedef struct hed_entries {
-  size_t first; /* the place of the first */
-  size_t count; /* how many there are */
-  bool with_alt; /* whether their keys get HED_KITTY_MOD_ALT */
-} hed_entries;
-
-/* Tells which entries would complete what stays buffered: those that begin with it and are longer. If there are none, those that begin
- * with what follows its ESC, and with_alt is true. Ask while hed_parser_waiting is HED_WAITING_ESCAPE or HED_WAITING_SEQUENCE. A mouse
- * report and a character aren't entries, and after an ESC any character follows as a key with HED_KITTY_MOD_ALT. Only the start of a
+/* Tells which entries would complete what stays buffered, so that a program can show the keys that may follow: those that begin with it and are
+ * longer. If there are none, they are those that begin with what follows its ESC, and with_alt is true. Ask while hed_parser_waiting is
+ * HED_WAITING_ESCAPE or HED_WAITING_SEQUENCE.
+ *
+ * A mouse report and a character aren't entries, and after an ESC any character follows as a key with HED_KITTY_MOD_ALT. Only the start of a
  * paste gets no modifier after ESC: that ESC is the Escape key.
  *
  * Returns HED_OK or HED_NOT_INITIALIZED. The parser is unchanged, and no memory is needed. */
 hed_status hed_parser_completions(const hed_parser *parser, hed_entries *entries);
+
+/* ---- hedrugal_bindings(3): presses, names of keys, and bindings of chords ---- */
+
+/* The press of a key: the key and the modifiers held with it, the same however the terminal reports the key. A program compares presses,
+ * field by field, and looks up by them what a key does.
+ *
+ * Letters, digits and signs are the characters that they type: Shift with `a` is HED_KEY_CHAR with `A`. Where CTRL, SUPER, HYPER or META is
+ * held too, a letter that has a capital keeps HED_KITTY_MOD_SHIFT. So does a digit, or any other character, of which the terminal doesn't tell
+ * what it types with Shift. A sign such as `!` never has it. The keypad and the arrows in application mode are the keys of the main block. A
+ * control character is its key, or a character with HED_KITTY_MOD_CTRL: U+0008 is `ctrl+h`, and U+000A `ctrl+j`. U+007F is `ctrl+backspace`. */
+typedef struct hed_key_press {
+  uint16_t key; /* an enum hed_key, or 0 for a key that has no name there */
+  uint8_t held; /* a set of HED_KITTY_MOD_.., without the locks */
+  uint32_t detail; /* as in a hed_event; 0 for a key that has none */
+} hed_key_press;
+
+/* Writes the press of the event that hed_parser_next told last to *press. event is that event. A repeat counts as a press. Ask before
+ * hed_parser_drop_text, since the press is by the text that the key types.
+ *
+ * A program that turns Kitty's protocol on asks for HED_KITTY_FLAG_DISAMBIGUATE_ESCAPE_CODES and HED_KITTY_FLAG_REPORT_ALTERNATE_KEYS, and
+ * with HED_KITTY_FLAG_REPORT_ALL_KEYS_AS_ESCAPE_CODES for HED_KITTY_FLAG_REPORT_ASSOCIATED_TEXT too. Otherwise Ctrl, Shift and `1` is `1` with
+ * HED_KITTY_MOD_CTRL and HED_KITTY_MOD_SHIFT, and not `!`.
+ *
+ * Returns HED_OK, HED_NONE if the event has no press, HED_BAD_NUMBER if a number names nothing, HED_BAD_TEXT if its text isn't UTF-8, which the
+ * parser's own is, or HED_NOT_INITIALIZED. *press is written only with HED_OK. These have no press:
+ *
+ * - An event that is no HED_KIND_KEY, and a release.
+ * - A key that is a modifier or a lock by itself, the mark of a paste, or no key of Kitty's table.
+ * - A key that types several characters: a program inserts them as it inserts a paste. */
+hed_status hed_parser_press(const hed_parser *parser, const hed_event *event, hed_key_press *press);
+
+/* Writes a second press of the event that was told last to *press, for a program in which the first one leads nowhere. It is the first of these:
+ *
+ * - With ALT, CTRL, SUPER, HYPER or META, a character that isn't of ASCII, and base told: the key at the same place of a PC-101 keyboard, with
+ *   the same modifiers. So Ctrl with a Cyrillic letter is tried as Ctrl with a Latin one.
+ * - With one of these and Shift, a digit or another character that keeps Shift if nothing is told, and another one told as shifted: the press
+ *   with Shift. So Ctrl with `!` is tried as Ctrl, Shift and `1`.
+ * - U+0008 and U+000A, which are the bytes 8 and 10: Backspace with CTRL, and Enter, with what else is held. Some terminals send these keys so.
+ *
+ * Returns what hed_parser_press does, HED_NONE if there is none. Call it for an event that has a press. */
+hed_status hed_parser_second(const hed_parser *parser, const hed_event *event, hed_key_press *press);
+
+/* Writes the press of any event to *press, such as one that hed_parser_next_events wrote. text is what the key types, text_len bytes of UTF-8 or
+ * none. A text with control characters counts as none.
+ *
+ * Returns what hed_parser_press does. */
+hed_status hed_event_press(const hed_event *event, const uint8_t *text, size_t text_len, hed_key_press *press);
+
+/* Writes the second press of any event to *press, and returns what hed_parser_second does. */
+hed_status hed_event_second(const hed_event *event, hed_key_press *press);
+
+/* Copies the character that a press types to out, at most len bytes of it: in UTF-8, which has 1 to 4 bytes. If a byte more fits, a final 0 follows.
+ * The rest of out is unchanged. A program inserts it if the press does nothing else. A press types one if nothing is held, or HED_KITTY_MOD_SHIFT
+ * with the space alone. Enter and Tab type none.
+ *
+ * Returns the number of its bytes without the 0. For a press that types none, or numbers that are those of no press, it returns 0, and out is
+ * unchanged. */
+size_t hed_press_text(const hed_key_press *press, uint8_t *out, size_t len);
+
+/* Writes the name of a press to out, and its length to *name_len: what hed_key_print writes for a chord of it alone. If a byte more fits, a final 0
+ * follows, so with 64 bytes every name is a string.
+ *
+ * Returns what hed_key_print does. */
+hed_status hed_press_print(const hed_key_press *press, uint8_t *out, size_t len, size_t *name_len);
+
+/* Reads the name of a chord, text_len bytes of UTF-8. A chord is a list of 1 to HED_CHORD_MOST presses, to which a program binds a command, as
+ * Ctrl-X and then Ctrl-S. Its keys are parted by spaces and tabs. A key is a character, a word such as `up`, `f5`, `pageup` or `space`, or a
+ * number such as `U+0441`. Modifiers stand before it in one of three ways, and words in any case:
+ *
+ * - `ctrl+x`, `Ctrl-Shift-Up`: the words ctrl or control, alt or option, shift, super, cmd or win, hyper and meta, each with + or - behind it.
+ * - `C-x`, `C-M-<f5>`: Emacs's letters, C for ctrl, M or A for alt, S for shift, s for super and H for hyper.
+ * - `<C-W>`, `<c-s-Up>`: Vim's letters, c for ctrl, s for shift, m or a for alt, d for super and t for meta.
+ *
+ * The presses are those that hed_parser_press tells, whichever way they are written. With CTRL a letter is the same in any case, as in
+ * Emacs and Vim. "Names" of crates/termwiz_bindings/README.md has all words and rules.
+ *
+ * Returns HED_OK: *count is the number of the presses, keys has as many of them as room says, and *at is 0. A keys with room for HED_CHORD_MOST has
+ * room for all. Otherwise it is one of HED_NAME_.., or HED_BAD_TEXT if the text isn't UTF-8. Then *count is 0, keys is unchanged, and *at is the
+ * byte of the text at which the part that is wrong starts, for a message to the user. No memory is needed. */
+hed_status hed_key_read(const uint8_t *text, size_t text_len, hed_key_press *keys, size_t room, size_t *count, size_t *at);
+
+/* The most presses that a chord has. */
+#define HED_CHORD_MOST 32
+
+/* The bytes and the length of a string literal, for the calls that take both. */
+#define HED_TEXT(literal) (const uint8_t *)("" literal), sizeof(literal) - 1
+
+/* Writes the name of a chord to out, and its length to *name_len: of count presses, 1 to HED_CHORD_MOST, as hed_key_read or hed_parser_press
+ * writes them. The name is UTF-8 without a final 0. Its keys are parted by a space, and their modifiers are in the order super+, hyper+, meta+,
+ * ctrl+, alt+, shift+, as in `ctrl+x ctrl+s`, `alt+<`, `shift+f5` and `U+200B`. hed_key_read reads the same presses from it.
+ *
+ * Returns HED_OK: *name_len is the length of the whole name, and out has as many of its bytes as len says. If *name_len is above len, call again
+ * with more room. The rest of out is unchanged. Otherwise *name_len is 0 and out is unchanged: HED_NO_MEMORY, or HED_BAD_NUMBER if the numbers of a
+ * key are those of no press, or count isn't 1 to HED_CHORD_MOST. */
+hed_status hed_key_print(const hed_key_press *keys, size_t count, uint8_t *out, size_t len, size_t *name_len);
+
+/* Bindings, or none: a map from chords to numbers, by which a program tells what it does at which keys. One chord may begin another one. Its
+ * fields are the library's, and it may be moved as a hed_parser may. */
+typedef struct hed_bindings {
+  bool live;
+  void *state;
+} hed_bindings;
+
+/* The value of a hed_bindings that is none. */
+#define HED_BINDINGS_NONE \
+  { false, NULL }
+
+/* Makes bindings of no chord. If there were some, they are freed. The caller owes a hed_bindings_free.
+ *
+ * Returns HED_OK or HED_NO_MEMORY. */
+hed_status hed_bindings_init(hed_bindings *bindings);
+
+/* Frees what the bindings own, and leaves HED_BINDINGS_NONE. If there are none, it does nothing, so it may be called twice. */
+void hed_bindings_free(hed_bindings *bindings);
+
+/* Sets the value of a chord of count presses, 1 to HED_CHORD_MOST, in place of the one that it has, if any. The presses are those that
+ * hed_key_read reads, or that hed_parser_press tells, and are copied. Every other chord keeps its value, also one that begins with this one.
+ *
+ * Returns HED_OK, HED_NO_MEMORY, HED_BAD_NUMBER if the numbers of a press are those of none, or count isn't 1 to HED_CHORD_MOST, or
+ * HED_NOT_INITIALIZED. */
+hed_status hed_bindings_bind(hed_bindings *bindings, const hed_key_press *keys, size_t count, uint64_t value);
+
+/* Sets the value of the chord that has this name, text_len bytes of UTF-8, as hed_key_read reads it:
+ *
+ *     hed_bindings_bind_name(&bindings, HED_TEXT("C-x C-s"), SAVE, &at);
+ *
+ * Returns HED_OK, what hed_key_read returns of a text that is no name, HED_NO_MEMORY or HED_NOT_INITIALIZED. *at is the byte at which the wrong part
+ * of the text starts, and 0 with HED_OK, HED_NO_MEMORY and HED_NOT_INITIALIZED. */
+hed_status hed_bindings_bind_name(hed_bindings *bindings, const uint8_t *text, size_t text_len, uint64_t value, size_t *at);
+
+/* Takes the value of a chord of count presses away. Every other chord keeps its value. No memory is needed.
+ *
+ * Returns HED_OK, and *value is the value that it had. Otherwise *value isn't written: HED_NONE if the chord has no value, HED_BAD_NUMBER or
+ * HED_NOT_INITIALIZED, as hed_bindings_bind. */
+hed_status hed_bindings_unbind(hed_bindings *bindings, const hed_key_press *keys, size_t count, uint64_t *value);
+
+/* Finds the value of a chord of count presses. A program that reads keys as chords takes a hed_matcher.
+ *
+ * Returns HED_OK, and *value is the chord's value. Otherwise *value isn't written: HED_NONE if the chord has no value, HED_BAD_NUMBER or
+ * HED_NOT_INITIALIZED, as hed_bindings_bind. */
+hed_status hed_bindings_lookup(const hed_bindings *bindings, const hed_key_press *keys, size_t count, uint64_t *value);
+
+/* Returns the number of chords that have a value, 0 if there are no bindings. */
+size_t hed_bindings_len(const hed_bindings *bindings);
+
+/* Shows the chord at a place and its value. The places are 0 up to hed_bindings_len. Chords are ordered by their presses, and a press by its
+ * key, its detail and held: one that begins another comes before it. A call that binds or unbinds moves them.
+ *
+ * Returns HED_OK: *count is the number of the chord's presses, keys has as many of them as room says, and *value is its value. A keys with room
+ * for HED_CHORD_MOST has room for all. Otherwise *count is 0, and keys and *value aren't written: HED_NONE if the place is past the last chord, or
+ * HED_NOT_INITIALIZED. */
+hed_status hed_bindings_entry(const hed_bindings *bindings, size_t place, hed_key_press *keys, size_t room, size_t *count, uint64_t *value);
+
+/* Tells which chords begin with count presses, at most HED_CHORD_MOST, and are longer, as for a menu of the keys that may follow. They stand
+ * next to each other: at the places from *first up to, but without, *end. For count 0 they are all chords.
+ *
+ * Returns HED_OK if there are such chords. Otherwise *first and *end are 0: HED_NONE if there are none, HED_BAD_NUMBER if the numbers of a press
+ * are those of none or count is above HED_CHORD_MOST, or HED_NOT_INITIALIZED. */
+hed_status hed_bindings_continuations(const hed_bindings *bindings, const hed_key_press *keys, size_t count, size_t *first, size_t *end);
+
+/* A matcher: it reads presses as chords and as single keys, and holds those that aren't decided yet. It owns no memory, and may be copied.
+ *
+ * The bindings are passed to each call. So a program may keep several, as for its modes, and change them at any time: what is pending is read
+ * by those of the call. For each key a program calls hed_matcher_press, and then hed_matcher_next until that returns HED_NONE. */
+typedef struct hed_matcher {
+  size_t count; /* the number of presses that are pending */
+  hed_key_press keys[HED_CHORD_MOST]; /* these presses; what is behind them doesn't count */
+} hed_matcher;
+
+/* The value of a hed_matcher with nothing pending: all zero. */
+#define HED_MATCHER_NONE \
+  {                      \
+    0, {                 \
+      { 0, 0, 0 }        \
+    }                    \
+  }
+
+/* The kinds of outcomes: the field kind of a hed_outcome. */
+enum hed_outcome_kind {
+  HED_OUTCOME_BOUND = 1, /* A chord was pressed. */
+  HED_OUTCOME_UNBOUND = 2 /* The first press begins no chord that was pressed. */
+};
+
+/* What the first of the pending presses do. What an outcome has no use for is 0. */
+typedef struct hed_outcome {
+  size_t keys; /* how many presses it takes: 1 with HED_OUTCOME_UNBOUND */
+  uint64_t value; /* HED_OUTCOME_BOUND: the value of the chord */
+  hed_key_press press; /* HED_OUTCOME_UNBOUND: the press, whose text a program may insert */
+  uint32_t kind; /* an enum hed_outcome_kind */
+} hed_outcome;
+
+/* Puts a press behind those that are pending. No call of a matcher needs memory.
+ *
+ * Returns HED_OK, HED_FULL if HED_CHORD_MOST are pending, which isn't so after hed_matcher_next returned HED_NONE, or HED_BAD_NUMBER if the numbers
+ * are those of no press, or the matcher has such. */
+hed_status hed_matcher_press(hed_matcher *matcher, const hed_key_press *press);
+
+/* Puts one of two presses behind those that are pending: the second if only that leads on, and else the first. A press leads on if some chord
+ * begins with what is pending and it. If neither does, the same is asked as if nothing were pending. presses has the press that
+ * hed_parser_press wrote, and behind it that of hed_parser_second, if there is one: count is 1 or 2. So Ctrl with a Cyrillic letter runs the
+ * command of the Latin letter at its place, unless it has one of its own.
+ *
+ * Returns what hed_matcher_press does, also HED_BAD_NUMBER for another count, or HED_NOT_INITIALIZED if there are no bindings. */
+hed_status hed_matcher_press_either(hed_matcher *matcher, const hed_bindings *bindings, const hed_key_press *presses, size_t count);
+
+/* Takes what comes first of the presses that are pending: the longest chord that they begin with, or else the first press. Pass maybe_more as
+ * true while more presses may come: then it waits while the presses may become a longer chord. A program whose user paused for long enough,
+ * as a hed_timer tells, gives up: it makes this call with maybe_more as false until that returns HED_NONE.
+ *
+ * Returns HED_OK, and *outcome tells which chord or which press. Otherwise *outcome isn't written: HED_NONE if nothing is pending, or it waits,
+ * HED_BAD_NUMBER if the numbers of the matcher are those of no presses, or HED_NOT_INITIALIZED if there are no bindings. */
+hed_status hed_matcher_next(hed_matcher *matcher, const hed_bindings *bindings, bool maybe_more, hed_outcome *outcome);
+
+/* Tells what giving up would decide first: what hed_matcher_next with maybe_more as false would write and return. It takes nothing. While that is
+ * HED_OUTCOME_UNBOUND, a program may prefer to wait for ever, since the press may still begin a chord. */
+hed_status hed_matcher_on_pause(const hed_matcher *matcher, const hed_bindings *bindings, hed_outcome *outcome);
+
+/* Returns whether what is pending is a mistake of several presses: no chord begins with them, and they begin with no chord. A program that
+ * takes `ctrl+x z` as one mistake, as Emacs does, asks this after hed_matcher_press, and calls hed_matcher_cancel.
+ *
+ * Returns false if the numbers of the matcher are those of no presses, or there are no bindings. */
+bool hed_matcher_is_dead_end(const hed_matcher *matcher, const hed_bindings *bindings);
+
+/* Copies the presses that are pending to keys, as many as room says, and returns how many they are: at most HED_CHORD_MOST. The rest of keys
+ * is unchanged. Returns 0 if the numbers of the matcher are those of no presses. */
+size_t hed_matcher_pending(const hed_matcher *matcher, hed_key_press *keys, size_t room);
+
+/* Does what hed_matcher_pending does, and leaves nothing pending, also if the numbers were those of no presses. */
+size_t hed_matcher_cancel(hed_matcher *matcher, hed_key_press *keys, size_t room);
+
+/* The two ages of what is pending, by which a hed_timer limits it: the field by of a hed_seen. */
+enum hed_age {
+  HED_AGE_LAST = 0, /* How long ago something was fed last. */
+  HED_AGE_FRONT = 1 /* How long ago the first of what is pending came to the front. */
+};
+
+/* What a program tells a hed_timer: what is pending now, and what happened since the last note. */
+typedef struct hed_seen {
+  int32_t limit; /* how long what is pending may wait, in milliseconds. Negative: for ever */
+  uint8_t by; /* an enum hed_age: the age that the limit is for */
+  bool fed; /* whether something was fed since the last note, as a press to a matcher */
+  bool taken; /* whether something was taken since the last note, as an outcome of a matcher */
+  bool empty; /* whether nothing is pending now */
+} hed_seen;
+
+/* A timer, by which a program keeps a limit in time of its own beside its parser's. An example is the pause of a chord, after which the
+ * presses that are pending in a hed_matcher are given up. It owns no memory, and may be copied. Its fields are the library's. */
+typedef struct hed_timer {
+  uint64_t last;
+  uint64_t front;
+  uint64_t noted;
+  uint64_t millis;
+  uint8_t by;
+  bool has_noted;
+  bool has_limit;
+  bool holds;
+} hed_timer;
+
+/* The value of a new hed_timer: all zero. */
+#define HED_TIMER_NONE \
+  { 0, 0, 0, 0, 0, false, false, false }
+
+/* Tells the timer what time it is and what was seen. Both ages grow by the time since the last note. Then HED_AGE_LAST is 0 if something was
+ * fed, and HED_AGE_FRONT is 0 if something was taken, or if nothing was pending at the last note. The pause of a chord is limited by
+ * HED_AGE_LAST: the caller notes each press, once hed_matcher_next has returned HED_NONE.
+ *
+ * now is in milliseconds, as for hed_parser_feed: if it is before the time of the last note, no time has passed.
+ *
+ * Returns HED_OK, or HED_BAD_NUMBER if by is no enum hed_age, in *seen or in *timer. */
+hed_status hed_timer_note(hed_timer *timer, uint64_t now, const hed_seen *seen);
+
+/* Returns how many milliseconds what is pending may still wait, as poll takes it: 0 if its age has reached the limit, and -1 if it may wait
+ * for ever. It is also -1 if by is no enum hed_age in *timer. The timer is unchanged.
+ *
+ * A program waits for no longer than this and hed_parser_timeout say. If no key came and this is 0, it gives up the chord: it calls
+ * hed_matcher_next with maybe_more as false. */
+int32_t hed_timer_timeout(const hed_timer *timer, uint64_t now);
 
 /* A map from byte strings to numbers, or none. Its fields are the library's, and it may be moved as a hed_parser may. A program keeps its
  * key bindings in one: the bytes of each, and the number of what it does. */
@@ -721,41 +924,47 @@ hed_status hed_keymap_lookup(const hed_keymap *map, const uint8_t *text, size_t 
 /* Returns the number of keys, 0 if there is no map. */
 size_t hed_keymap_len(const hed_keymap *map);
 
-/* Writes what a terminal sends for a key to out, and the number of these bytes to *sent_len, if the program asked for these flags of
- * Kitty's keyboard protocol: the other way from a HED_KIND_KEY. A terminal or a multiplexer calls it. The bytes are UTF-8 without a
- * final 0. There are none for a key that isn't sent, such as a release without HED_KITTY_FLAG_REPORT_EVENT_TYPES. The rules are those of
- * Kitty's page "Comprehensive keyboard handling in terminals" (https://sw.kovidgoyal.net/kitty/keyboard-protocol/), as "Keys to bytes" of
- * docs/EXTENDED.md lists them. If flags has neither HED_KITTY_FLAG_DISAMBIGUATE_ESCAPE_CODES nor
+/* ---- hedrugal_encoders(3): the bytes that a terminal sends for an event ---- */
+
+/* A terminal, a multiplexer or a test calls these. Each encoder writes bytes to out, at most len of them, and the number of all bytes to its last
+ * argument. If that is above len, call again with more room. The rest of out is unchanged. A text has no final 0. With another answer than HED_OK
+ * the number is 0, and out is unchanged. */
+
+/* Writes what a terminal sends for a key if the program asked for these flags of Kitty's keyboard protocol: the other way from a HED_KIND_KEY. The
+ * bytes are UTF-8. There are none for a key that isn't sent, such as a release without HED_KITTY_FLAG_REPORT_EVENT_TYPES. A sequence has at most
+ * 256 bytes; a key that is sent as its text alone may have more.
+ *
+ * The rules are those of Kitty's page "Comprehensive keyboard handling in terminals" (https://sw.kovidgoyal.net/kitty/keyboard-protocol/), as
+ * "Keys to bytes" of docs/EXTENDED.md lists them. With neither HED_KITTY_FLAG_DISAMBIGUATE_ESCAPE_CODES nor
  * HED_KITTY_FLAG_REPORT_ALL_KEYS_AS_ESCAPE_CODES, that is what terminals sent before the protocol: a control character for a letter with
  * HED_KITTY_MOD_CTRL, and the key's report for what has no such text.
  *
- * event is a HED_KIND_KEY as hed_parser_next writes it, and detail isn't read for a key that has none. text is what the key types, text_len
- * bytes of UTF-8, or nothing if that isn't known; a text with control characters counts as none. Of event only the fields of a key are read, and
- * text_len isn't. flags is a set of HED_KITTY_FLAG_... What no flag asks for isn't sent.
+ * event is a HED_KIND_KEY as hed_parser_next writes it. Only the fields of a key are read, text_len isn't, and detail isn't for a key that has none.
+ * text is what the key types, text_len bytes of UTF-8, or nothing if that isn't known. A text with control characters counts as none. flags is a
+ * set of HED_KITTY_FLAG_... What no flag asks for isn't sent.
  *
- * Returns HED_OK: *sent_len is the number of all these bytes, and out has as many of them as len says. If *sent_len is above len, call again with
- * more room. The rest of out is unchanged. A sequence has at most 256 bytes; a key that is sent as its text alone may have more. Otherwise
- * *sent_len is 0 and out is unchanged: HED_REFUSED_KEY if the key's report would be sent and the protocol has no number for the key;
- * HED_NO_MEMORY; HED_TOO_LONG if the sequence would have more than 256 bytes; HED_BAD_TEXT if the text isn't UTF-8; HED_BAD_NUMBER if event is no
- * HED_KIND_KEY, key_event_kind is no enum hed_key_event_kind, no key has the number, detail, shifted or base is no Unicode scalar value, a
- * function key's number is above 255, or a bit of flags has no name. */
+ * Returns HED_OK, HED_NO_MEMORY, or one of these:
+ *
+ * - HED_REFUSED_KEY if the key's report would be sent and the protocol has no number for the key.
+ * - HED_TOO_LONG if the sequence would have more than 256 bytes.
+ * - HED_BAD_TEXT if the text isn't UTF-8.
+ * - HED_BAD_NUMBER if event is no HED_KIND_KEY, or a number names nothing: no key has it, a function key's is above 255, detail, shifted or base is
+ *   no Unicode scalar value, key_event_kind no enum hed_key_event_kind, or a bit of flags has no name. */
 hed_status hed_encode_kitty(const hed_event *event, const uint8_t *text, size_t text_len, uint8_t flags, uint8_t *out, size_t len,
                             size_t *sent_len);
 
-/* Writes what a terminal sends for a pasted text to out, and the number of these bytes to *sent_len: the other way from a HED_KIND_PASTE.
- * A terminal or a multiplexer calls it. text is any text_len bytes, read as UTF-8, with U+FFFD for each piece that is none. The text is made
- * safe. LF, and CR LF as one, become CR, which Enter sends. HT and CR stay. Any other control character becomes a character that does nothing:
- * those below U+0020 and U+007F their pictures, and U+0080 to U+009F U+FFFD. If bracketed is true, the program turned bracketed paste mode on
- * (mode 2004): ESC [200~ comes before the text, and ESC [201~ after it. Since no ESC is left in the text, no text can end its paste. The bytes
- * are UTF-8 without a final 0, at most three for each byte of the text and twelve more.
+/* Writes what a terminal sends for a pasted text: the other way from a HED_KIND_PASTE. text is any text_len bytes, read as UTF-8, with U+FFFD for
+ * each piece that is none. The bytes are UTF-8, at most three for each byte of the text and twelve more.
  *
- * Returns HED_OK: *sent_len is the number of all these bytes, and out has as many of them as len says. If *sent_len is above len, call again with
- * more room. The rest of out is unchanged. The only other answer is HED_NO_MEMORY. Then *sent_len is 0 and out is unchanged. */
+ * The text is made safe. LF, and CR LF as one, become CR, which Enter sends. HT and CR stay. Any other control character becomes a character that
+ * does nothing: those below U+0020 and U+007F their pictures, and U+0080 to U+009F U+FFFD. If bracketed is true, the program turned bracketed paste
+ * mode on (mode 2004): ESC [200~ comes before the text, and ESC [201~ after it. Since no ESC is left in the text, no text can end its paste.
+ *
+ * Returns HED_OK or HED_NO_MEMORY. */
 hed_status hed_encode_paste(const uint8_t *text, size_t text_len, bool bracketed, uint8_t *out, size_t len, size_t *sent_len);
 
 /* What a mouse report that is sent says: the field button of a hed_sent_mouse. */
 enum hed_mouse {
-  /* numbers.txt: mouse c */
   HED_MOUSE_NONE = 0, /* The mouse was moved while no button was down. */
   HED_MOUSE_BUTTON1_PRESS = 1, /* The left button was pressed. */
   HED_MOUSE_BUTTON2_PRESS = 2, /* The middle button was pressed. */
@@ -774,26 +983,21 @@ enum hed_mouse {
   HED_MOUSE_BUTTON1_DRAG = 15, /* The mouse was moved while the left button was down. */
   HED_MOUSE_BUTTON2_DRAG = 16, /* The mouse was moved while the middle button was down. */
   HED_MOUSE_BUTTON3_DRAG = 17 /* The mouse was moved while the right button was down. */
-  /* numbers.txt: end */
 };
 
 /* The mouse reports that a program asked for, by xterm's modes: what hed_encode_mouse is given. */
 enum hed_mouse_tracking {
-  /* numbers.txt: mouse_tracking c */
   HED_MOUSE_TRACKING_X10 = 0, /* Mode 9: presses, of wheels too, without modifiers. */
   HED_MOUSE_TRACKING_NORMAL = 1, /* Mode 1000: presses and releases. */
   HED_MOUSE_TRACKING_BUTTON = 2, /* Mode 1002: also moves while a button is down. */
   HED_MOUSE_TRACKING_ANY = 3 /* Mode 1003: also moves while none is. */
-  /* numbers.txt: end */
 };
 
 /* How mouse reports are written: what hed_encode_mouse is given. */
 enum hed_mouse_encoding {
-  /* numbers.txt: mouse_encoding c */
   HED_MOUSE_ENCODING_DEFAULT = 0, /* ESC [M and three bytes, which can't tell a place above 223. */
   HED_MOUSE_ENCODING_URXVT = 1, /* Mode 1015, from urxvt: the same in decimal numbers. */
   HED_MOUSE_ENCODING_SGR = 2 /* Mode 1006, and 1016 with a place in pixels: decimal numbers, and a release tells its button. */
-  /* numbers.txt: end */
 };
 
 /* A mouse report that is sent. */
@@ -804,290 +1008,105 @@ typedef struct hed_sent_mouse {
   uint8_t button; /* an enum hed_mouse */
 } hed_sent_mouse;
 
-/* Writes what a terminal sends for a mouse report to out, and the number of these bytes to *sent_len: the other way from a HED_KIND_MOUSE.
- * tracking, an enum hed_mouse_tracking, is which reports the program asked for: there are no bytes for one that it doesn't get. encoding is
- * an enum hed_mouse_encoding. Of the modifiers HED_KITTY_MOD_SHIFT, ALT and CTRL are sent, and with HED_MOUSE_TRACKING_X10 none. Without
- * HED_MOUSE_ENCODING_SGR the report of a release doesn't tell its button.
+/* Writes what a terminal sends for a mouse report: the other way from a HED_KIND_MOUSE. tracking, an enum hed_mouse_tracking, is which reports the
+ * program asked for: there are no bytes for one that it doesn't get. encoding is an enum hed_mouse_encoding. Of the modifiers HED_KITTY_MOD_SHIFT,
+ * ALT and CTRL are sent, and with HED_MOUSE_TRACKING_X10 none. Without HED_MOUSE_ENCODING_SGR the report of a release doesn't tell its button.
  *
- * Returns HED_OK: *sent_len is the number of all these bytes, and out has as many of them as len says. If *sent_len is above len, call again with
- * more room. The rest of out is unchanged. Otherwise *sent_len is 0 and out is unchanged: HED_TOO_FAR if the program gets the report, and x or y
- * is above 223 with HED_MOUSE_ENCODING_DEFAULT; HED_NO_MEMORY; HED_BAD_NUMBER if button, tracking or encoding names nothing, or modifiers has
- * another bit. */
+ * Returns HED_OK; HED_TOO_FAR if the program gets the report, and x or y is above 223 with HED_MOUSE_ENCODING_DEFAULT; HED_NO_MEMORY; or
+ * HED_BAD_NUMBER if button, tracking or encoding names nothing, or modifiers has another bit. */
 hed_status hed_encode_mouse(const hed_sent_mouse *report, uint32_t tracking, uint32_t encoding, uint8_t *out, size_t len, size_t *sent_len);
 
-/* Writes the bytes that the parser reads as the event to out, and the number of these bytes to *sent_len: the other way from
- * hed_parser_next, whatever the terminal sent. A multiplexer passes replies on by it, and a test or a recorder writes what it feeds
- * to a parser. event and text, text_len bytes, are as hed_parser_next and hed_parser_text give them. Of event only the fields are read that
- * its kind has, and text is read for a paste, a key, a control sequence and a string. The parser says how the bytes are read, by its
- * reading and its sequence table. It is unchanged, and what it has buffered doesn't matter.
+/* Writes bytes that the parser reads as the event: the other way from hed_parser_next, whatever the terminal sent. A multiplexer passes replies on
+ * by it, and a test or a recorder writes what it feeds to a parser.
+ *
+ * event and text, text_len bytes, are as hed_parser_next and hed_parser_text give them. Only the fields are read that the event's kind has, and the
+ * text for a paste, a key, a control sequence and a string. The parser says how bytes are read, by its reading and its sequence table. It is
+ * unchanged, and what it has buffered doesn't matter.
  *
  * With no more to come the bytes are that event alone, and nothing stays buffered. That is so with more to come too, but for seven texts that
  * may begin a sequence: ESC, ESC ESC, and ESC with [, O, P, ] or _. A key is written as hed_encode does, as its character, as a row of the
  * sequence table, or in the form of Kitty's protocol: the first of these that is read as this very event. A mouse report is written in SGR's
  * form. But a release that names no button is written in urxvt's, since SGR's always names one.
  *
- * Returns HED_OK: *sent_len is the number of all these bytes, and out has as many of them as len says. If *sent_len is above len, call again with
- * more room. The rest of out is unchanged. Otherwise *sent_len is 0 and out is unchanged:
+ * Returns HED_OK, HED_NOT_INITIALIZED, HED_NO_MEMORY, or one of these:
  *
  * - HED_NO_TEXT if no bytes are read as the event. Such are HED_KIND_STRING_PART, HED_KIND_STRING_CUT, and a paste that has ESC [201~
  *   in it. Such is also an event that no parser makes, as a position with a 0.
- * - HED_NOT_INITIALIZED.
  * - HED_TOO_LONG if the sequence would have more than 256 bytes, or the string 65535 before its end.
  * - HED_BAD_TEXT if the text of a paste or a key isn't UTF-8.
- * - HED_NO_MEMORY.
  * - HED_BAD_NUMBER if a number names nothing, as the kind HED_KIND_PASTE_PART does here, or a mouse report has modifiers but SHIFT, ALT, CTRL and
  *   SUPER. */
 hed_status hed_encode_event(const hed_event *event, const uint8_t *text, size_t text_len, const hed_parser *parser, uint8_t *out,
                             size_t len, size_t *sent_len);
 
-/* Writes what a terminal replies to a question for the position of its cursor to out, and the number of these bytes to *sent_len: ESC [, the
- * row, a semicolon, the column and R. private_reply says that the question was ESC [?6n, not ESC [6n: then ? comes before the row. The first row
- * and the first column are 1: a parser reads a reply with a 0 as a HED_KIND_CSI. Without the ? a reply for row 1 and the columns 1 to 256 has
- * the bytes of F3 with modifiers.
- *
- * Returns HED_OK or HED_NO_MEMORY, as hed_encode_paste does. */
-hed_status hed_encode_cursor_position(uint16_t row, uint16_t column, bool private_reply, uint8_t *out, size_t len, size_t *sent_len);
-
-/* Writes what a terminal sends when its colours change, and replies to ESC [?996n, to out, and the number of these bytes to *sent_len:
- * ESC [?997;1n if its colours are dark, and else ESC [?997;2n.
- *
- * Returns HED_OK or HED_NO_MEMORY, as hed_encode_paste does. */
-hed_status hed_encode_colour_scheme(bool dark, uint8_t *out, size_t len, size_t *sent_len);
-
-/* Writes what a terminal replies to the question for its attributes (ESC [c) to out, and the number of these bytes to *sent_len: ESC [?, the
- * count numbers parted by semicolons, and c. The first number is the terminal's class, such as 62.
- *
- * Returns HED_OK or HED_NO_MEMORY, as hed_encode_paste does, and HED_TOO_LONG if the reply would have more than 256 bytes. */
-hed_status hed_encode_device_attributes(const uint16_t *numbers, size_t count, uint8_t *out, size_t len, size_t *sent_len);
-
-/* The press of a key: the key and the modifiers held with it, the same however the terminal reports the key. A program compares presses,
- * field by field, and looks up by them what a key does.
- *
- * Letters, digits and signs are the characters that they type: Shift with a is HED_KEY_CHAR with 'A'. Where CTRL, SUPER, HYPER or META is
- * held too, a letter that has a capital keeps HED_KITTY_MOD_SHIFT. So does a digit, or any other character, of which the terminal doesn't tell
- * what it types with Shift. A sign such as ! never has it. The keypad and the arrows in application mode are the keys of the main block. A
- * control character is its key, or a character with HED_KITTY_MOD_CTRL: U+0008 is ctrl+h, and U+000A ctrl+j. U+007F is ctrl+backspace. */
-typedef struct hed_key_press {
-  uint16_t key; /* an enum hed_key, or 0 for a key that has no name there */
-  uint8_t held; /* a set of HED_KITTY_MOD_.., without the locks */
-  uint32_t detail; /* as in a hed_event; 0 for a key that has none */
-} hed_key_press;
-
-/* Writes the press of the event that hed_parser_next told last to *press. event is that event. A repeat counts as a press. Only programs that ask
- * pay for it. Ask before hed_parser_drop_text, since the press is by the text that the key types.
- *
- * A program that turns Kitty's protocol on asks for HED_KITTY_FLAG_DISAMBIGUATE_ESCAPE_CODES and HED_KITTY_FLAG_REPORT_ALTERNATE_KEYS, and
- * with HED_KITTY_FLAG_REPORT_ALL_KEYS_AS_ESCAPE_CODES for HED_KITTY_FLAG_REPORT_ASSOCIATED_TEXT too. Otherwise Ctrl, Shift and 1 is 1 with
- * HED_KITTY_MOD_CTRL and HED_KITTY_MOD_SHIFT, and not !.
- *
- * Returns HED_OK. Otherwise *press isn't written: HED_NONE if the event has none, since it is no HED_KIND_KEY or a release, its key is a modifier or
- * a lock by itself, the mark of a paste or no key of Kitty's table, or it types several characters, which a program inserts as it inserts a paste;
- * HED_BAD_NUMBER if a number names nothing; HED_BAD_TEXT if its text isn't UTF-8, which the parser's own is; or HED_NOT_INITIALIZED. */
-hed_status hed_parser_press(const hed_parser *parser, const hed_event *event, hed_key_press *press);
-
-/* Writes a second press of that event to *press, for a program in which the first one leads nowhere. It is the first of these:
- *
- * - With ALT, CTRL, SUPER, HYPER or META, a character that isn't of ASCII, and base told: the key at the same place of a PC-101 keyboard, with
- *   the same modifiers. So Ctrl with a Cyrillic letter is tried as Ctrl with a Latin one.
- * - With one of these and Shift, a digit or another character that keeps Shift if nothing is told, and another one told as shifted: the press
- *   with Shift. So Ctrl with ! is tried as Ctrl, Shift and 1.
- * - U+0008 and U+000A, which are the bytes 8 and 10: Backspace with CTRL, and Enter, with what else is held. Some terminals send these keys so.
- *
- * Returns what hed_parser_press does, HED_NONE if there is none. Call it for an event that has a press. */
-hed_status hed_parser_second(const hed_parser *parser, const hed_event *event, hed_key_press *press);
-
-/* Writes the press of any event to *press, such as one that hed_parser_next_events wrote. text is what the key types, text_len bytes of UTF-8; a
- * text with control characters counts as none.
- *
- * Returns what hed_parser_press does. No memory is needed, here and in the next three calls. */
-hed_status hed_event_press(const hed_event *event, const uint8_t *text, size_t text_len, hed_key_press *press);
-
-/* Writes the second press of any event to *press, as hed_parser_second does. */
-hed_status hed_event_second(const hed_event *event, hed_key_press *press);
-
-/* Copies the character that a press types to out, at most len bytes of it: in UTF-8, which has 1 to 4 bytes. If a byte more fits, a final 0 follows.
- * The rest of out is unchanged. A program inserts it if the press does nothing else. A press types one if nothing is held, or HED_KITTY_MOD_SHIFT
- * with the space alone. Enter and Tab type none.
- *
- * Returns the number of its bytes without the 0. For a press that types none, or numbers that are those of no press, it returns 0, and out is
- * unchanged. */
-size_t hed_press_text(const hed_key_press *press, uint8_t *out, size_t len);
-
-/* Writes the name of a press to out, and its length to *name_len: what hed_key_print writes for a chord of it alone. If a byte more fits, a final 0
- * follows, so with 64 bytes every name is a string.
- *
- * Returns what hed_key_print does. */
-hed_status hed_press_print(const hed_key_press *press, uint8_t *out, size_t len, size_t *name_len);
-
-/* The most presses that a chord has: a list of presses, to which a program binds a command, as Ctrl-X and then Ctrl-S. */
-#define HED_CHORD_MOST 32
-
-/* The bytes and the length of a string literal, for the calls that take both: hed_key_read(HED_TEXT("ctrl+x"), ..). */
-#define HED_TEXT(literal) (const uint8_t *)("" literal), sizeof(literal) - 1
-
-/* Reads the name of a chord: 1 to HED_CHORD_MOST keys, parted by spaces and tabs, in text_len bytes of UTF-8. A key is a character, a word
- * as up, f5, pageup or space, or a number as U+0441. Modifiers stand before it, in any of three ways, and words in any case:
- *
- * ctrl+x, Ctrl-Shift-Up: ctrl or control, alt or option, shift, super, cmd or win, hyper, meta, each with + or - behind it
- * C-x, C-M-<f5>: Emacs's letters, C ctrl, M or A alt, S shift, s super, H hyper
- * <C-W>, <c-s-Up>: Vim's letters, c ctrl, s shift, m or a alt, d super, t meta
- *
- * The presses are those that hed_parser_press tells, whichever way they are written. With CTRL a letter is the same in any case, as in
- * Emacs and Vim. "Names" of crates/termwiz_bindings/README.md has all words and rules.
- *
- * Returns HED_OK: *count is the number of the presses, keys has as many of them as room says, and *at is 0. A keys with room for HED_CHORD_MOST has
- * room for all. Otherwise it is one of HED_NAME_.., or HED_BAD_TEXT if the text isn't UTF-8. Then *count is 0, keys is unchanged, and *at is the
- * byte of the text at which the part that is wrong starts, for a message to the user. No memory is needed. */
-hed_status hed_key_read(const uint8_t *text, size_t text_len, hed_key_press *keys, size_t room, size_t *count, size_t *at);
-
-/* Writes the name of a chord to out, and its length to *name_len: of count presses, 1 to HED_CHORD_MOST, as the calls above write them. The
- * name is UTF-8 without a final 0. Its keys are parted by a space, and their modifiers are in the order super+, hyper+, meta+, ctrl+, alt+,
- * shift+: ctrl+x ctrl+s, alt+<, shift+f5, U+200B. hed_key_read reads the same presses from it.
- *
- * Returns HED_OK: *name_len is the length of the whole name, and out has as many of its bytes as len says. If *name_len is above len, call again
- * with more room. The rest of out is unchanged. Otherwise *name_len is 0 and out is unchanged: HED_NO_MEMORY, or HED_BAD_NUMBER if the numbers of a
- * key are those of no press, or count isn't 1 to HED_CHORD_MOST. */
-hed_status hed_key_print(const hed_key_press *keys, size_t count, uint8_t *out, size_t len, size_t *name_len);
-
-/* Bindings, or none: a map from chords to numbers, by which a program tells what it does at which keys. One chord may begin another one. Its
- * fields are the library's, and it may be moved as a hed_parser may. */
-typedef struct hed_bindings {
-  bool live;
-  void *state;
-} hed_bindings;
-
-/* The value of a hed_bindings that is none. */
-#define HED_BINDINGS_NONE \
-  { false, NULL }
-
-/* Makes bindings of no chord. If there were some, they are freed. The caller owes a hed_bindings_free.
+/* Writes what a terminal replies to a question for the position of its cursor: ESC [, the row, a semicolon, the column and R. private_reply says
+ * that the question was ESC [?6n, not ESC [6n: then ? comes before the row. The first row and the first column are 1: a parser reads a reply with a
+ * 0 as a HED_KIND_CSI. Without the ? a reply for row 1 and the columns 1 to 256 has the bytes of F3 with modifiers.
  *
  * Returns HED_OK or HED_NO_MEMORY. */
-hed_status hed_bindings_init(hed_bindings *bindings);
+hed_status hed_encode_cursor_position(uint16_t row, uint16_t column, bool private_reply, uint8_t *out, size_t len, size_t *sent_len);
 
-/* Frees what the bindings own, and leaves HED_BINDINGS_NONE. If there are none, it does nothing, so it may be called twice. */
-void hed_bindings_free(hed_bindings *bindings);
-
-/* Sets the value of a chord of count presses, 1 to HED_CHORD_MOST, in place of the one that it has, if any. The presses are those that
- * hed_key_read reads, or that hed_parser_press tells, and are copied. Every other chord keeps its value, also one that begins with this one.
+/* Writes what a terminal sends when its colours change, and replies to ESC [?996n: ESC [?997;1n if its colours are dark, and else ESC [?997;2n.
  *
- * Returns HED_OK, HED_NO_MEMORY, HED_BAD_NUMBER if the numbers of a press are those of none, or count isn't 1 to HED_CHORD_MOST, or
- * HED_NOT_INITIALIZED. */
-hed_status hed_bindings_bind(hed_bindings *bindings, const hed_key_press *keys, size_t count, uint64_t value);
+ * Returns HED_OK or HED_NO_MEMORY. */
+hed_status hed_encode_colour_scheme(bool dark, uint8_t *out, size_t len, size_t *sent_len);
 
-/* Sets the value of the chord that has this name, text_len bytes of UTF-8, as hed_key_read reads it:
- * hed_bindings_bind_name(&bindings, HED_TEXT("ctrl+x ctrl+s"), SAVE, &at).
+/* Writes what a terminal replies to the question for its attributes (ESC [c): ESC [?, the count numbers parted by semicolons, and c. The first
+ * number is the terminal's class, such as 62.
  *
- * Returns HED_OK, and *at is 0. Otherwise the bindings are unchanged: what hed_key_read returns of the text, which *at then belongs to; HED_NO_MEMORY
- * or HED_NOT_INITIALIZED, with *at 0. */
-hed_status hed_bindings_bind_name(hed_bindings *bindings, const uint8_t *text, size_t text_len, uint64_t value, size_t *at);
+ * Returns HED_OK, HED_NO_MEMORY, or HED_TOO_LONG if the reply would have more than 256 bytes. */
+hed_status hed_encode_device_attributes(const uint16_t *numbers, size_t count, uint8_t *out, size_t len, size_t *sent_len);
 
-/* Takes the value of a chord away. Every other chord keeps its value. No memory is needed, here and in the next four calls.
- *
- * Returns HED_OK, and *value is the value that it had. Otherwise *value isn't written: HED_NONE if the chord has no value, HED_BAD_NUMBER and
- * HED_NOT_INITIALIZED as above. */
-hed_status hed_bindings_unbind(hed_bindings *bindings, const hed_key_press *keys, size_t count, uint64_t *value);
-
-/* Finds the value of a chord. A program that reads keys as chords takes a hed_matcher.
- *
- * Returns HED_OK, and *value is the chord's value. Otherwise *value isn't written: HED_NONE if the chord has no value, HED_BAD_NUMBER and
- * HED_NOT_INITIALIZED as above. */
-hed_status hed_bindings_lookup(const hed_bindings *bindings, const hed_key_press *keys, size_t count, uint64_t *value);
-
-/* Returns the number of chords that have a value, 0 if there are no bindings. */
-size_t hed_bindings_len(const hed_bindings *bindings);
-
-/* Shows the chord at a place and its value. The places are 0 up to hed_bindings_len. Chords are ordered by their presses, and a press by its
- * key, its detail and held: one that begins another comes before it. A call that binds or unbinds moves them.
- *
- * Returns HED_OK: *count is the number of the chord's presses, keys has as many of them as room says, and *value is its value. A keys with room
- * for HED_CHORD_MOST has room for all. Otherwise *count is 0, and keys and *value aren't written: HED_NONE if the place is past the last chord, or
- * HED_NOT_INITIALIZED. */
-hed_status hed_bindings_entry(const hed_bindings *bindings, size_t place, hed_key_press *keys, size_t room, size_t *count, uint64_t *value);
-
-/* Tells which chords begin with count presses, at most HED_CHORD_MOST, and are longer, as for a menu of the keys that may follow. They stand
- * next to each other: at the places from *first up to, but without, *end. For count 0 they are all chords.
- *
- * Returns HED_OK if there are such chords. Otherwise *first and *end are 0: HED_NONE if there are none, HED_BAD_NUMBER if the numbers of a press
- * are those of none, or there are more, or HED_NOT_INITIALIZED. */
-hed_status hed_bindings_continuations(const hed_bindings *bindings, const hed_key_press *keys, size_t count, size_t *first, size_t *end);
-
-/* A matcher: it reads presses as chords and as single keys, and holds those that aren't decided yet. All zero, as HED_MATCHER_NONE, it holds
- * none. It owns no memory, and may be copied.
- *
- * The bindings are passed to each call. So a program may keep several, as for its modes, and change them at any time: what is pending is read
- * by those of the call. For each key a program calls hed_matcher_press, and then hed_matcher_next until that returns HED_NONE. */
-typedef struct hed_matcher {
-  size_t count; /* the number of presses that are pending */
-  hed_key_press keys[HED_CHORD_MOST]; /* these presses; what is behind them doesn't count */
-} hed_matcher;
-
-/* The value of a hed_matcher with nothing pending. */
-#define HED_MATCHER_NONE \
-  {                      \
-    0, {                 \
-      { 0, 0, 0 }        \
-    }                    \
-  }
-
-/* The kinds of outcomes: the field kind of a hed_outcome. */
-enum hed_outcome_kind {
-  /* numbers.txt: outcome c */
-  HED_OUTCOME_BOUND = 1, /* A chord was pressed. */
-  HED_OUTCOME_UNBOUND = 2 /* The first press begins no chord that was pressed. */
-  /* numbers.txt: end */
+/* The encodings of keys: the field encoding of a hed_modes. */
+enum hed_encoding {
+  HED_ENCODING_XTERM = 0, /* The characters themselves, and xterm's control sequences. */
+  HED_ENCODING_CSI_U = 1, /* The same, but a character with modifiers that it can't show is sent as ESC [ c ; m u (fixterms). */
+  HED_ENCODING_WIN32 = 2, /* Records of the Windows console. Keys are encoded as with XTERM. */
+  HED_ENCODING_KITTY = 3 /* kitty's keyboard protocol. Keys are encoded as with XTERM. */
 };
 
-/* What the first of the pending presses do. What an outcome has no use for is 0. */
-typedef struct hed_outcome {
-  size_t keys; /* how many presses it takes: 1 with HED_OUTCOME_UNBOUND */
-  uint64_t value; /* HED_OUTCOME_BOUND: the value of the chord */
-  hed_key_press press; /* HED_OUTCOME_UNBOUND: the press, whose text a program may insert */
-  uint32_t kind; /* an enum hed_outcome_kind */
-} hed_outcome;
+/* The modifiers by termwiz's bits, as a set: what hed_encode is given. Everything else has those of enum hed_kitty_mod. */
+enum hed_termwiz_mod {
+  HED_TERMWIZ_MOD_NONE = 0, /* No modifier. */
+  HED_TERMWIZ_MOD_SHIFT = 2, /* Shift. */
+  HED_TERMWIZ_MOD_ALT = 4, /* Alt. */
+  HED_TERMWIZ_MOD_CTRL = 8, /* Ctrl. */
+  HED_TERMWIZ_MOD_SUPER = 16, /* Super: the key with the Windows logo, or Command. */
+  HED_TERMWIZ_MOD_LEFT_ALT = 32, /* The left Alt key. */
+  HED_TERMWIZ_MOD_RIGHT_ALT = 64, /* The right Alt key. */
+  HED_TERMWIZ_MOD_LEADER = 128, /* A leader key, for programs that define one. */
+  HED_TERMWIZ_MOD_LEFT_CTRL = 256, /* The left Ctrl key. */
+  HED_TERMWIZ_MOD_RIGHT_CTRL = 512, /* The right Ctrl key. */
+  HED_TERMWIZ_MOD_LEFT_SHIFT = 1024, /* The left Shift key. */
+  HED_TERMWIZ_MOD_RIGHT_SHIFT = 2048 /* The right Shift key. */
+};
 
-/* Puts a press behind those that are pending. No memory is needed, here and in all calls of a matcher.
+/* The modes of a terminal that change the text of a key: what hed_encode is given. All zero is xterm with every mode off. */
+typedef struct hed_modes {
+  int64_t modify_other_keys; /* the level of xterm's modifyOtherKeys; not read if has_modify_other_keys is false */
+  uint8_t encoding; /* an enum hed_encoding */
+  uint8_t kitty_flags; /* a set of HED_KITTY_FLAG_..; read only with HED_ENCODING_KITTY */
+  bool application_cursor_keys; /* the arrows, Home and End send ESC O in place of ESC [ (DECCKM) */
+  bool newline_mode; /* Enter sends a line feed after the carriage return (LNM) */
+  bool has_modify_other_keys; /* modifyOtherKeys is on, at the level above */
+} hed_modes;
+
+/* Writes the text that a terminal in these modes sends for a key, as termwiz does. The text is UTF-8. It is empty for a key that sends nothing, and
+ * for every key that is up (is_down is false), which needs no memory.
  *
- * Returns HED_OK, HED_FULL if HED_CHORD_MOST are pending, which isn't so after hed_matcher_next returned HED_NONE, or HED_BAD_NUMBER if the numbers
- * are those of no press, or the matcher has such. */
-hed_status hed_matcher_press(hed_matcher *matcher, const hed_key_press *press);
-
-/* Puts one of two presses behind those that are pending: the second if only that leads on, and else the first. A press leads on if some chord
- * begins with what is pending and it. If neither does, the same is asked as if nothing were pending. presses has the press that
- * hed_parser_press wrote, and behind it that of hed_parser_second, if there is one: count is 1 or 2. So Ctrl with a Cyrillic letter runs the
- * command of the Latin letter at its place, unless it has one of its own.
+ * key is an enum hed_key. detail is its code point if it is HED_KEY_CHAR, its number if it is HED_KEY_FUNCTION, and isn't read for other keys.
+ * modifiers is a set of HED_TERMWIZ_MOD_...
  *
- * Returns what hed_matcher_press does, also HED_BAD_NUMBER for another count, or HED_NOT_INITIALIZED if there are no bindings. */
-hed_status hed_matcher_press_either(hed_matcher *matcher, const hed_bindings *bindings, const hed_key_press *presses, size_t count);
+ * Returns HED_OK, HED_NO_MEMORY, HED_REFUSED_KEY for a function key, down, that isn't one of F1 to F24, or HED_BAD_NUMBER if a number names
+ * nothing. So it is if no key has the number, detail is no Unicode scalar value, or a function key's number is above 255. So it is too if modifiers,
+ * encoding or, with HED_ENCODING_KITTY, kitty_flags have a value or a bit without a name. */
+hed_status hed_encode(uint16_t key, uint32_t detail, uint16_t modifiers, bool is_down, const hed_modes *modes, uint8_t *out, size_t len,
+                      size_t *text_len);
 
-/* Takes what comes first of the presses that are pending: the longest chord that they begin with, or else the first press. Pass maybe_more as
- * true while more presses may come: then it waits while the presses may become a longer chord. A program whose user paused for long enough,
- * as a hed_timer tells, gives up: it calls it with false until it returns HED_NONE.
- *
- * Returns HED_OK, and *outcome tells which chord or which press. Otherwise *outcome isn't written: HED_NONE if nothing is pending, or it waits,
- * HED_BAD_NUMBER if the numbers of the matcher are those of no presses, or HED_NOT_INITIALIZED if there are no bindings. */
-hed_status hed_matcher_next(hed_matcher *matcher, const hed_bindings *bindings, bool maybe_more, hed_outcome *outcome);
-
-/* Tells what giving up would decide first: what hed_matcher_next without maybe_more would write and return. It takes nothing. While that is
- * HED_OUTCOME_UNBOUND, a program may prefer to wait for ever, since the press may still begin a chord. */
-hed_status hed_matcher_on_pause(const hed_matcher *matcher, const hed_bindings *bindings, hed_outcome *outcome);
-
-/* Returns whether what is pending is a mistake of several presses: no chord begins with them, and they begin with no chord. A program that
- * takes ctrl+x z as one mistake, as Emacs does, asks this after hed_matcher_press, and calls hed_matcher_cancel.
- *
- * Returns false if the numbers of the matcher are those of no presses, or there are no bindings. */
-bool hed_matcher_is_dead_end(const hed_matcher *matcher, const hed_bindings *bindings);
-
-/* Copies the presses that are pending to keys, as many as room says, and returns how many they are: at most HED_CHORD_MOST. The rest of keys
- * is unchanged. Returns 0 if the numbers of the matcher are those of no presses. */
-size_t hed_matcher_pending(const hed_matcher *matcher, hed_key_press *keys, size_t room);
-
-/* Does what hed_matcher_pending does, and leaves nothing pending, also if the numbers were those of no presses. */
-size_t hed_matcher_cancel(hed_matcher *matcher, hed_key_press *keys, size_t room);
+/* ---- hedrugal_replies(3): replies of a terminal, and the questions that they answer ---- */
 
 /* The kinds of replies: the field kind of a hed_reply. */
 enum hed_reply_kind {
-  /* numbers.txt: reply c */
   HED_REPLY_DEVICE_ATTRIBUTES = 1, /* The terminal's attributes (DA1, DA2, DA3): some numbers. */
   HED_REPLY_MODE = 2, /* The state of a mode (DECRPM). */
   HED_REPLY_COLOUR = 3, /* A colour (OSC 4, 10, 11 and 12). */
@@ -1095,45 +1114,36 @@ enum hed_reply_kind {
   HED_REPLY_WINDOW_SIZE = 5, /* The size of the window in characters. */
   HED_REPLY_COLOUR_SCHEME = 6, /* The preferred colour scheme. */
   HED_REPLY_CLIPBOARD = 7 /* What is in the clipboard or in a selection (OSC 52): some bytes. */
-  /* numbers.txt: end */
 };
 
 /* Which report of a terminal's attributes it is: the field report of a hed_reply. */
 enum hed_device_attributes {
-  /* numbers.txt: device_attributes c */
   HED_DEVICE_ATTRIBUTES_PRIMARY = 1, /* DA1: the class of the terminal, such as 62 for a VT220, and what it can do, such as 4 for sixels. */
   HED_DEVICE_ATTRIBUTES_SECONDARY = 2, /* DA2: the type of the terminal, its version, and 0. */
   HED_DEVICE_ATTRIBUTES_TERTIARY = 3 /* DA3: the bytes of the unit's number, mostly four. */
-  /* numbers.txt: end */
 };
 
 /* The states of a mode: the field state of a hed_reply. */
 enum hed_mode_state {
-  /* numbers.txt: mode_state c */
   HED_MODE_STATE_NOT_RECOGNIZED = 0, /* The terminal doesn't know the mode. */
   HED_MODE_STATE_SET = 1, /* The mode is on. */
   HED_MODE_STATE_RESET = 2, /* The mode is off. */
   HED_MODE_STATE_PERMANENTLY_SET = 3, /* The mode is on and can't be switched off. */
   HED_MODE_STATE_PERMANENTLY_RESET = 4 /* The mode is off and can't be switched on. */
-  /* numbers.txt: end */
 };
 
 /* The colours that a terminal is asked for: the field name of a hed_reply. */
 enum hed_colour_name {
-  /* numbers.txt: colour_name c */
   HED_COLOUR_NAME_PALETTE = 4, /* A colour of the palette, by its index. */
   HED_COLOUR_NAME_FOREGROUND = 10, /* The colour of text. */
   HED_COLOUR_NAME_BACKGROUND = 11, /* The colour behind text. */
   HED_COLOUR_NAME_CURSOR = 12 /* The colour of the cursor. */
-  /* numbers.txt: end */
 };
 
 /* The colour schemes: the field scheme of a hed_reply. */
 enum hed_colour_scheme {
-  /* numbers.txt: colour_scheme c */
   HED_COLOUR_SCHEME_DARK = 1, /* Bright text on a dark background. */
   HED_COLOUR_SCHEME_LIGHT = 2 /* Dark text on a bright background. */
-  /* numbers.txt: end */
 };
 
 /* What a terminal's reply says. What its kind has no use for is 0. */
@@ -1169,10 +1179,7 @@ typedef struct hed_reply {
 hed_status hed_read_reply(uint8_t kind, const uint8_t *bytes, size_t len, hed_reply *reply, uint32_t *numbers, size_t numbers_capacity,
                           uint8_t *out, size_t capacity);
 
-/* The most questions that are open at once. */
-#define HED_QUESTIONS_MOST 16
-
-/* A question that is open: what one call of hed_questions_ask told, until its last reply. */
+/* A question that is open: what one call of hed_questions_ask told, until its last reply. Times are those that the calls were given. */
 typedef struct hed_question {
   uint64_t number; /* its number, as hed_questions_ask wrote it */
   uint64_t asked; /* when it was asked */
@@ -1180,8 +1187,11 @@ typedef struct hed_question {
   uint32_t positions; /* how many positions of the cursor are still to come for it */
 } hed_question;
 
+/* The most questions that are open at once. */
+#define HED_QUESTIONS_MOST 16
+
 /* The questions that a program has asked its terminal. A program keeps one beside its parser, HED_QUESTIONS_NONE at first. It owns no memory, and
- * may be copied. Its fields may be read; the calls below write them. */
+ * may be copied. Its fields may be read; the calls write them. */
 typedef struct hed_questions {
   uint64_t asked; /* the number of the question that was asked last, 0 before the first */
   uint64_t answered; /* the number of the question that was answered last, 0 if none was */
@@ -1190,7 +1200,7 @@ typedef struct hed_questions {
   hed_question open[HED_QUESTIONS_MOST]; /* those, the oldest first. What is behind them says nothing */
 } hed_questions;
 
-/* The questions before the first is asked. */
+/* The questions before the first is asked: all zero. */
 #define HED_QUESTIONS_NONE \
   {                        \
     0, 0, 0, 0, {          \
@@ -1219,8 +1229,8 @@ hed_status hed_questions_ask(hed_questions *questions, hed_parser *parser, uint6
 hed_status hed_questions_note(hed_questions *questions, hed_parser *parser, uint64_t now, const hed_event *event, const uint8_t *text,
                               size_t text_len, uint64_t *number);
 
-/* Ends the questions that are overdue by now. The parser expects the positions of those that are still open, and no other: so the caller makes this
- * call after hed_parser_interrupted too, if a question was asked meanwhile.
+/* Ends the questions that are overdue by now. A program calls it with hed_parser_idle. The parser expects the positions of the questions that are
+ * still open, and no other: so the program makes this call after hed_parser_interrupted too, if a question was asked meanwhile.
  *
  * Returns HED_OK, HED_BAD_NUMBER or HED_NOT_INITIALIZED, as hed_questions_note. */
 hed_status hed_questions_expire(hed_questions *questions, hed_parser *parser, uint64_t now);
@@ -1232,9 +1242,6 @@ void hed_questions_forget(hed_questions *questions, hed_parser *parser);
 /* Returns how many milliseconds are left until hed_questions_expire ends a question, as poll takes it: -1 if none is open, or count is above
  * HED_QUESTIONS_MOST. A program waits for the shorter of this time and hed_parser_timeout. */
 int32_t hed_questions_timeout(const hed_questions *questions, uint64_t now);
-
-/* Returns the version of the library that is linked, as HED_VERSION_NUMBER has that of the header. */
-uint32_t hed_version(void);
 
 /* The layouts that the library was proved with. A line that doesn't compile says that this machine has others. */
 #define HED_IS(name, holds) typedef char hed_is_##name[(holds) ? 1 : -1]

@@ -1,19 +1,19 @@
 #include "names.h"
 
 const flag button_flags[] = {
-  /* numbers.txt: button table */
+  /* hedrugal.h: button table */
   { HED_BUTTON_LEFT, "LEFT", NULL },
   { HED_BUTTON_RIGHT, "RIGHT", NULL },
   { HED_BUTTON_MIDDLE, "MIDDLE", NULL },
   { HED_BUTTON_VERT_WHEEL, "VERT_WHEEL", NULL },
   { HED_BUTTON_HORZ_WHEEL, "HORZ_WHEEL", NULL },
   { HED_BUTTON_WHEEL_POSITIVE, "WHEEL_POSITIVE", NULL },
-  /* numbers.txt: end */
+  /* hedrugal.h: end */
   { 0, NULL, NULL },
 };
 
 const flag modifier_flags[] = {
-  /* numbers.txt: kitty_mod table */
+  /* hedrugal.h: kitty_mod table */
   { HED_KITTY_MOD_SHIFT, "SHIFT", "Shift-" },
   { HED_KITTY_MOD_ALT, "ALT", "Alt-" },
   { HED_KITTY_MOD_CTRL, "CTRL", "Ctrl-" },
@@ -22,7 +22,7 @@ const flag modifier_flags[] = {
   { HED_KITTY_MOD_META, "META", "Meta-" },
   { HED_KITTY_MOD_CAPS_LOCK, "CAPS_LOCK", "CapsLock-" },
   { HED_KITTY_MOD_NUM_LOCK, "NUM_LOCK", "NumLock-" },
-  /* numbers.txt: end */
+  /* hedrugal.h: end */
   { 0, NULL, NULL },
 };
 

@@ -2,8 +2,19 @@
 #ifndef KEYS_OPTIONS_H
 #define KEYS_OPTIONS_H
 
-#include "modes.h"
 #include "text.h"
+#include <stdbool.h>
+
+/* The modes of the terminal that the program can switch on. */
+enum { MODE_COUNT = 7 };
+
+typedef struct mode {
+  const char *word; /* that asks for it */
+  const char *on, *off;
+  bool wants_extended; /* whether HED_DIALECT_EXTENDED is to read the input */
+} mode;
+
+extern const mode all_modes[MODE_COUNT];
 
 typedef struct options {
   bool is_hex, is_json;

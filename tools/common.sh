@@ -2,10 +2,11 @@
 # What the scripts of this folder share. They read it by `.`.
 script=$(basename "$0" .sh)
 
-# Prints the comment at the head of the script.
-show_help() {
+# With --help a script prints the comment at its head.
+if [ "${1-}" = --help ]; then
     awk 'NR > 1 { if (!sub(/^# ?/, "")) exit; print }' "$0"
-}
+    exit
+fi
 
 # Ends the script over a word that it doesn't know.
 refuse_word() { # word
@@ -49,6 +50,11 @@ library_calls() {
     sed -nE 's/^[a-z].*[ *](hed_[a-z_]+)\(.*$/\1/p' c/hedrugal.h
 }
 
+# Prints the calls that the manual pages describe, each behind its page, as 'hedrugal_parser hed_parser_next'.
+page_calls() {
+    awk '/^\.Ss Ft / { page = FILENAME; gsub(/.*\/|\.3$/, "", page); sub(/.* Fn /, ""); print page, $1 }' docs/man/*.3
+}
+
 # Runs a command, and shows what it prints only if it fails.
 run_quietly() { # words..
     local log status=0
@@ -77,7 +83,7 @@ enter() {
 start_cases() { # words of the script
     set -u
     export LC_ALL=C.UTF-8
-    [ $# = 0 ] || { [ "$1" = --help ] && show_help && exit; refuse_word "$1"; }
+    [ $# = 0 ] || refuse_word "$1"
     enter
 }
 
@@ -114,7 +120,8 @@ find_view() { # folders..
 
 # The longest tests in Rust, as words for cargo test. They are left out where a program takes ten times as long.
 # shellcheck disable=SC2034
-longest_in_rust=(--skip streams --skip recorded --skip generated --skip undecided --skip long::reads --skip compared --skip names::texts)
+longest_in_rust=(--skip streams --skip recorded --skip generated --skip undecided --skip long::reads --skip compared --skip names::texts --skip twins
+    --skip terminals::)
 
 passed=0 failed=0
 # Runs a case, and counts it. What it prints is shown only if it fails.
@@ -130,8 +137,9 @@ check() { # name words..
     fi
 }
 
-# Prints how many cases passed and failed. The status is 1 if one failed.
+# Prints how many cases passed and failed. The status is 1 if one failed, or if none was run.
 print_counts() {
+    [ $((passed + failed)) != 0 ] || echo "$script: no case was run" >&2
     echo "$passed passed, $failed failed"
-    [ "$failed" = 0 ]
+    [ "$failed" = 0 ] && [ "$passed" != 0 ]
 }

@@ -3,15 +3,15 @@
 # HEDRUGAL_LIBRARY names the library's folder, else it is out/lib; KEYSHOW names the program, else it is out/bin/keyshow.
 #
 # Programs are built by pkg-config, with the shared library and with the archive, where the files were installed and after the prefix was
-# moved. The shared library has to export the calls of the header alone, and to be linked as the Makefile says. The manual page has to
-# have each call as the header declares it. Each file has to be gone once it is uninstalled, and no other. The folders of /usr/local have to
-# stay; they are an empty file system's, if the system lets a program have such a view. The last line is 'N passed, N failed', the status 1
-# if a case failed.
+# moved. The shared library has to export the calls of the header alone, and to be linked as the Makefile says. The manual pages have to
+# have each call as the headers declare it, and man to find it by its name. Each file has to be gone once it is uninstalled, and no other.
+# The folders of /usr/local have to stay; they are an empty file system's, if the system lets a program have such a view. The last line is
+# 'N passed, N failed', the status 1 if a case failed.
 . "$(dirname "$0")/common.sh"
 start_cases "$@"
 want_keyshow
 
-page=docs/man/hedrugal.3
+headers=(c/hedrugal.h c/hedrugal_terminal.h)
 stage=$work/stage/usr/local
 # Beside the source the header of these sources would be found first.
 cp c/events.c c/live.c "$work/"
@@ -35,8 +35,8 @@ lib/pkgconfig/hedrugal.pc 644
 share/hedrugal/hedrugal_terminal.c 644
 share/man/man1/hedrugal-keys.1 644
 share/man/man1/keyshow.1 644
-share/man/man3/hedrugal.3 644
-$(library_calls | sed 's|.*|share/man/man3/&.3 -> hedrugal.3|')
+$(cd docs/man && printf 'share/man/man3/%s 644\n' *.3)
+$(page_calls | sed 's|\(.*\) \(.*\)|share/man/man3/\2.3 -> \1.3|')
 END
 }
 
@@ -104,47 +104,56 @@ check_refused() { # option for the compiler
         grep -F '#error "hedrugal.h: the library is built for Linux on x86-64' "$work/words"
 }
 
-# The calls as the header declares them, each on a line.
+# The calls as the headers declare them, each on a line.
 declared() {
     awk '/^[a-z].*[ *]hed_[a-z_]+\(/ { inside = 1; text = "" }
          inside { sub(/^ +/, " "); text = text $0 }
-         inside && /;$/ { print text; inside = 0 }' c/hedrugal.h
+         inside && /;$/ { print text; inside = 0 }' "${headers[@]}" | sort
 }
 
-# The calls as the manual page's synopsis has them.
+# The calls as the headings of the manual pages have them.
 documented() {
-    awk '/^\.Sh/ { inside = $2 == "SYNOPSIS" }
-         !inside { next }
-         $1 == ".Ft" { type = $2 }
-         $1 == ".Fn" || $1 == ".Fo" { name = $2; words = "" }
-         $1 == ".Fn" || $1 == ".Fa" {
-             count = split($0, parts, "\"")
-             for (i = 2; i <= count; i += 2) words = words (words == "" ? "" : ", ") parts[i]
-         }
-         $1 == ".Fn" || $1 == ".Fc" { print type " " name "(" words ");" }' $page
+    sed -nE '/^\.Ss Ft /{s/^\.Ss Ft (.*) Fn (\w+) "(.*)"$/\1 \2(\3);/; s/" "/, /g; s/\\~/ /g; p}' docs/man/*.3 | sort
 }
 
-# The fields of the structs that are open to the caller.
-fields() { # file
-    local name
-    for name in event modes entries match; do sed -nE "/^typedef struct hed_$name \\{\$/,/^\\}/{/^ +\\*/d;s| */\\*.*||;p}" "$1"; done
+# The names of the calls in the headings of the manual pages.
+named() {
+    sed -n 's/^\.Nm [a-z_]* , //p' docs/man/*.3 | sed 's/ , /\n/g' | sort
 }
 
-# The page has each call in its name, its synopsis and its description, and no name that the header hasn't.
-check_calls_page() {
-    diff <(declared) <(documented) && diff <(fields c/hedrugal.h) <(fields $page) &&
-        diff <(library_calls) <(sed -n '/^\.Sh NAME/,/^\.Nd/s/^\.Nm \(hed_[a-z_]*\).*/\1/p' $page) &&
-        diff <(library_calls | sort) <(sed -n 's/^\.It Fn //p' $page | sort) &&
-        grep -oE '\b(hed|HED)_[A-Za-z_0-9]*[A-Za-z0-9]\b' $page | sort -u | while read -r name; do
-            grep -qw "$name" c/hedrugal.h || { echo "the header has no $name"; exit 1; }
-        done
+# The fields that have comments, in the headers and in the manual pages.
+fields() {
+    sed -nE '/^typedef struct/,/^\}/s|^  ([^;]*); /\*.*|\1|p' "${headers[@]}" | sort
 }
 
-# The page's program.
+documented_fields() {
+    sed -nE '/^\.It Vt /{s/ Ta .*//; s/^\.It Vt (.*) Fa /\1 /; s/ , /, /g; p}' docs/man/*.3 | sort
+}
+
+# The names that start so in some files, but for those of the header's last lines, which compare layouts.
+names() { # files..
+    grep -ohE '\b(hed|HED)_[A-Za-z_0-9]*[A-Za-z0-9]\b' "$@" | grep -vx 'HED_IS' | sort -u
+}
+
+# The pages have each call in their names and with its synopsis, each field, and the names of the headers.
+check_calls_pages() {
+    diff <(declared) <(documented) && diff <(page_calls | cut -d ' ' -f 2 | sort) <(named) &&
+        diff <(fields) <(documented_fields) && diff <(names "${headers[@]}") <(names docs/man/*.3)
+}
+
+# The first page's program.
 check_example() {
-    sed -n '/^\.Sh EXAMPLES/,/^\.Ed/p' $page | sed '1,/^\.Bd/d;/^\.Ed/d' > "$work/example.c"
+    sed -n '/^\.Bd/,/^\.Ed/{/^\./d;p}' docs/man/hedrugal.3 > "$work/example.c"
     build "$work/example.c" "$stage" lib &&
         printf 'a\033[1;5A\033' | LD_LIBRARY_PATH=$stage/lib "$work/events" | diff - <(printf '%s\n' Char 'UpArrow with Ctrl' Escape)
+}
+
+# man finds the page of each call by its name, and there is the call's heading.
+check_by_name() {
+    local calls
+    mapfile -t calls < <(page_calls | cut -d ' ' -f 2)
+    diff <(man -M "$stage/share/man" -w 3 "${calls[@]}") <(page_calls | sed "s|\(.*\) .*|$stage/share/man/man3/\1.3|") &&
+        man -M "$stage/share/man" 3 hed_parser_next | grep -xE ' +hed_status hed_parser_next\(.*\)'
 }
 
 check_by_man() {
@@ -221,9 +230,10 @@ check 'program on a terminal' check_terminal "$stage" lib
 check 'keyshow, as its manual page shows it' check_program keyshow '\033[1;5Az\033'
 check 'hedrugal-keys, as its manual page shows it' check_keys
 for option in -m32 -mx32 -U__linux__ -D__AARCH64EB__; do check "header with $option" check_refused $option; done
-check 'calls in the manual page' check_calls_page
+check 'calls in the manual pages' check_calls_pages
 check 'example of the manual page' check_example
 check 'manual pages by man' check_by_man
+check 'manual pages by the names of calls' check_by_name
 ! command -v mandoc > /dev/null || check 'manual pages by mandoc' mandoc -T lint -W warning docs/man/*
 mkdir "$work/elsewhere"
 check 'move of the prefix' mv "$stage" "$work/elsewhere/moved"

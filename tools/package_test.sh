@@ -92,9 +92,9 @@ expected_files() { # package
             echo "$libdir/libhedrugal.so -> libhedrugal.so.$version"
             echo "$libdir/pkgconfig/hedrugal.pc 644"
             printf "usr/share/doc/$1/%s.md.gz 644\n" BINDINGS EXTENDED GRAMMAR SENDERS c
-            printf "usr/share/doc/$1/examples/%s 644\n" {ask,edit,events,list,live,many,prompt,server}.c edit.keys name_errors.h numbers.txt
-            echo 'usr/share/man/man3/hedrugal.3.gz 644'
-            library_calls | sed 's|.*|usr/share/man/man3/&.3.gz -> hedrugal.3.gz|' ;;
+            printf "usr/share/doc/$1/examples/%s 644\n" {ask,edit,events,list,live,many,prompt,server}.c edit.keys name_errors.h
+            (cd docs/man && printf 'usr/share/man/man3/%s.gz 644\n' *.3)
+            page_calls | sed 's|\(.*\) \(.*\)|usr/share/man/man3/\2.3.gz -> \1.3.gz|' ;;
         libhedrugal0)
             echo "$libdir/libhedrugal.so.$major -> libhedrugal.so.$version"
             echo "$libdir/libhedrugal.so.$version 644" ;;

@@ -45,149 +45,24 @@ package's folder, and then where the system has its libraries. The import raises
 library is found, or if it is older than the module, or of another major version."""
 __version__ = "0.1.0"
 
-from .bindings import Bindings, Bound, Matcher, Unbound
-from .encoders import (
-    KeyboardEncoding,
-    KeyCodeEncodeModes,
-    MouseButton,
-    MouseEncoding,
-    MouseTracking,
-    SentMouse,
-    encode,
-    encode_colour_scheme,
-    encode_cursor_position,
-    encode_device_attributes,
-    encode_event,
-    encode_paste,
-)
-from .events import (
-    Apc,
-    Csi,
-    CursorPosition,
-    Dcs,
-    Event,
-    FocusGained,
-    FocusLost,
-    KeyboardFlags,
-    KeyEventKind,
-    KeyReport,
-    KittyKeyboardFlags,
-    MouseButtons,
-    MouseKind,
-    MouseReport,
-    Osc,
-    Paste,
-    PastePart,
-    Resized,
-    Size,
-    StringCut,
-    StringKind,
-    StringPart,
-)
-from .keymap import Ambiguous, Exact, Found, KeyMap, NeedData, Nothing
-from .keys import EncodeError, Function, Key, KeyCode, KittyModifiers, Modifiers, ReportedKey
-from .names import Chord, KeyNameError, KeyNameErrorKind, KeyPress, typed_text
-from .parser import Completions, Entry, ParseError, Parser, Waiting
-from .reading import Dialect, EraseByte, NewlineByte, Reading
-from .replies import (
-    ClipboardReply,
-    Colour,
-    ColourName,
-    ColourReply,
-    ColourScheme,
-    ColourSchemeReply,
-    DeviceAttributes,
-    DeviceAttributesReply,
-    ModeReply,
-    ModeState,
-    Reply,
-    VersionReply,
-    WindowSizeReply,
-    reply,
-)
-from .timer import Age, Policy, Timer
+import typing as _typing
 
-__all__ = [
-    "Age",
-    "Ambiguous",
-    "Apc",
-    "Bindings",
-    "Bound",
-    "Chord",
-    "ClipboardReply",
-    "Colour",
-    "ColourName",
-    "ColourReply",
-    "ColourScheme",
-    "ColourSchemeReply",
-    "Completions",
-    "Csi",
-    "CursorPosition",
-    "Dcs",
-    "DeviceAttributes",
-    "DeviceAttributesReply",
-    "Dialect",
-    "encode",
-    "encode_colour_scheme",
-    "encode_cursor_position",
-    "encode_device_attributes",
-    "encode_event",
-    "encode_paste",
-    "EncodeError",
-    "Entry",
-    "EraseByte",
-    "Event",
-    "Exact",
-    "FocusGained",
-    "FocusLost",
-    "Found",
-    "Function",
-    "Key",
-    "KeyboardEncoding",
-    "KeyboardFlags",
-    "KeyCode",
-    "KeyCodeEncodeModes",
-    "KeyEventKind",
-    "KeyMap",
-    "KeyNameError",
-    "KeyNameErrorKind",
-    "KeyPress",
-    "KeyReport",
-    "KittyKeyboardFlags",
-    "KittyModifiers",
-    "Matcher",
-    "ModeReply",
-    "ModeState",
-    "Modifiers",
-    "MouseButton",
-    "MouseButtons",
-    "MouseEncoding",
-    "MouseKind",
-    "MouseReport",
-    "MouseTracking",
-    "NeedData",
-    "NewlineByte",
-    "Nothing",
-    "Osc",
-    "ParseError",
-    "Parser",
-    "Paste",
-    "PastePart",
-    "Policy",
-    "Reading",
-    "Reply",
-    "reply",
-    "ReportedKey",
-    "Resized",
-    "SentMouse",
-    "Size",
-    "StringCut",
-    "StringKind",
-    "StringPart",
-    "Timer",
-    "typed_text",
-    "Unbound",
-    "VersionReply",
-    "Waiting",
-    "WindowSizeReply",
-]
+from . import bindings, encoders, events, keymap, keys, names, parser, reading, replies, timer
+from .bindings import *
+from .encoders import *
+from .events import *
+from .keymap import *
+from .keys import *
+from .names import *
+from .parser import *
+from .reading import *
+from .replies import *
+from .timer import *
+
+# Checkers of types know what these imports bring, and not this sum.
+if not _typing.TYPE_CHECKING:
+    __all__ = [
+        name
+        for it in (bindings, encoders, events, keymap, keys, names, parser, reading, replies, timer)
+        for name in it.__all__
+    ]

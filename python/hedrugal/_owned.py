@@ -5,8 +5,8 @@ import threading
 import weakref
 from typing import Any, Callable, Iterator, NoReturn, Optional, TypeVar
 
-from ._library import RawHandle, closed, refused
-from ._numbers import STATUS_OK
+from ._calls import STATUS_OK, RawHandle
+from ._library import closed, refused
 
 _Self = TypeVar("_Self", bound="Owned")
 _Item = TypeVar("_Item")

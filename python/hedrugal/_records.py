@@ -6,8 +6,9 @@ import functools
 import struct
 from typing import Any, Callable, Dict, Optional, Tuple, Union
 
-from . import _numbers as numbers
-from ._library import NO_CODE, RawEvent, fault
+from . import _calls as numbers
+from ._calls import NO_CODE, RawEvent
+from ._library import fault
 from .events import (
     Apc,
     Csi,

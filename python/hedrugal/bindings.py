@@ -20,20 +20,23 @@ from typing import (
     cast,
 )
 
-from ._library import (
+from ._calls import (
     CHORD_MOST,
+    OUTCOME_BOUND,
+    OUTCOME_UNBOUND,
+    STATUS_BAD_NUMBER,
+    STATUS_FULL,
+    STATUS_OK,
     RawHandle,
     RawMatcher,
     RawOutcome,
     RawPress,
-    closed,
-    fault,
-    is_ok,
-    library,
 )
-from ._numbers import OUTCOME_BOUND, OUTCOME_UNBOUND, STATUS_BAD_NUMBER, STATUS_FULL, STATUS_OK
+from ._library import closed, fault, is_ok, library
 from ._owned import Owned
 from .names import Chord, KeyPress, Keys, one_press, press_of, printed, raw_chord, raw_press
+
+__all__ = ["Bindings", "Bound", "Matcher", "Unbound"]
 
 Value = TypeVar("Value")
 

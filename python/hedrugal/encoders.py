@@ -13,16 +13,17 @@ import ctypes
 from dataclasses import dataclass
 from typing import Any, Optional, Sequence
 
-from ._library import Bytes, RawModes, RawSentMouse, borrowed, library
-from ._numbers import (
+from ._calls import (
     STATUS_BAD_NUMBER,
     STATUS_NO_TEXT,
     STATUS_REFUSED_KEY,
     STATUS_TOO_FAR,
     STATUS_TOO_LONG,
-    Named,
-    numbered,
+    RawModes,
+    RawSentMouse,
 )
+from ._enums import Named, numbered
+from ._library import Bytes, borrowed, library
 from .events import Event, KittyKeyboardFlags, PastePart, bytes_of, raw_event
 from .keys import (
     Key,
@@ -35,11 +36,26 @@ from .keys import (
 from .parser import Parser
 from .replies import ColourScheme
 
+__all__ = [
+    "encode",
+    "encode_colour_scheme",
+    "encode_cursor_position",
+    "encode_device_attributes",
+    "encode_event",
+    "encode_paste",
+    "KeyboardEncoding",
+    "KeyCodeEncodeModes",
+    "MouseButton",
+    "MouseEncoding",
+    "MouseTracking",
+    "SentMouse",
+]
+
 
 class KeyboardEncoding(Named):
     """How a terminal encodes the keys that it sends."""
 
-    # numbers.txt: encoding member
+    # hedrugal.h: encoding member
     XTERM = numbered(0, "The characters themselves, and xterm's control sequences.")
     CSI_U = numbered(
         1,
@@ -48,7 +64,7 @@ class KeyboardEncoding(Named):
     )
     WIN32 = numbered(2, "Records of the Windows console. Keys are encoded as with XTERM.")
     KITTY = numbered(3, "kitty's keyboard protocol. Keys are encoded as with XTERM.")
-    # numbers.txt: end
+    # hedrugal.h: end
 
 
 @dataclass(frozen=True)
@@ -115,7 +131,7 @@ def encode(
 class MouseButton(Named):
     """What happened to which button of the mouse, in a SentMouse."""
 
-    # numbers.txt: mouse member
+    # hedrugal.h: mouse member
     NONE = numbered(0, "The mouse was moved while no button was down.")
     BUTTON1_PRESS = numbered(1, "The left button was pressed.")
     BUTTON2_PRESS = numbered(2, "The middle button was pressed.")
@@ -134,24 +150,24 @@ class MouseButton(Named):
     BUTTON1_DRAG = numbered(15, "The mouse was moved while the left button was down.")
     BUTTON2_DRAG = numbered(16, "The mouse was moved while the middle button was down.")
     BUTTON3_DRAG = numbered(17, "The mouse was moved while the right button was down.")
-    # numbers.txt: end
+    # hedrugal.h: end
 
 
 class MouseTracking(Named):
     """Which mouse reports a program asked for, by xterm's modes."""
 
-    # numbers.txt: mouse_tracking member
+    # hedrugal.h: mouse_tracking member
     X10 = numbered(0, "Mode 9: presses, of wheels too, without modifiers.")
     NORMAL = numbered(1, "Mode 1000: presses and releases.")
     BUTTON = numbered(2, "Mode 1002: also moves while a button is down.")
     ANY = numbered(3, "Mode 1003: also moves while none is.")
-    # numbers.txt: end
+    # hedrugal.h: end
 
 
 class MouseEncoding(Named):
     """How mouse reports are written."""
 
-    # numbers.txt: mouse_encoding member
+    # hedrugal.h: mouse_encoding member
     DEFAULT = numbered(0, "ESC [M and three bytes, which can't tell a place above 223.")
     URXVT = numbered(1, "Mode 1015, from urxvt: the same in decimal numbers.")
     SGR = numbered(
@@ -159,7 +175,7 @@ class MouseEncoding(Named):
         "Mode 1006, and 1016 with a place in pixels: decimal numbers, and a release tells its "
         "button.",
     )
-    # numbers.txt: end
+    # hedrugal.h: end
 
 
 def encode_paste(data: Bytes, bracketed: bool) -> bytes:

@@ -5,9 +5,10 @@ import ctypes
 from dataclasses import dataclass, fields
 from typing import Any, Dict, NamedTuple, Optional, Union
 
-from . import _numbers as numbers
-from ._library import NO_CODE, RawEvent, borrowed_text, library
-from ._numbers import Flags, Named, numbered
+from . import _calls as numbers
+from ._calls import NO_CODE, RawEvent
+from ._enums import Flags, Named, numbered
+from ._library import borrowed_text, library
 from .keys import (
     HELD,
     EncodeError,
@@ -21,11 +22,36 @@ from .keys import (
     whole,
 )
 
+__all__ = [
+    "Apc",
+    "Csi",
+    "CursorPosition",
+    "Dcs",
+    "Event",
+    "FocusGained",
+    "FocusLost",
+    "KeyboardFlags",
+    "KeyEventKind",
+    "KeyReport",
+    "KittyKeyboardFlags",
+    "MouseButtons",
+    "MouseKind",
+    "MouseReport",
+    "Osc",
+    "Paste",
+    "PastePart",
+    "Resized",
+    "Size",
+    "StringCut",
+    "StringKind",
+    "StringPart",
+]
+
 
 class MouseButtons(Flags):
     """A set of buttons and wheels of the mouse."""
 
-    # numbers.txt: button member
+    # hedrugal.h: button member
     NONE = numbered(0, "No button and no wheel.")
     LEFT = numbered(2, "The left button.")
     RIGHT = numbered(4, "The right button.")
@@ -41,13 +67,13 @@ class MouseButtons(Flags):
         "and right if not.",
     )
     WHEEL_POSITIVE = numbered(64, "Set with a wheel that was turned up or left.")
-    # numbers.txt: end
+    # hedrugal.h: end
 
 
 class KittyKeyboardFlags(Flags):
     """A set of flags of kitty's keyboard protocol."""
 
-    # numbers.txt: kitty_flag member
+    # hedrugal.h: kitty_flag member
     NONE = numbered(0, "Nothing is asked for.")
     DISAMBIGUATE_ESCAPE_CODES = numbered(
         1,
@@ -66,17 +92,17 @@ class KittyKeyboardFlags(Flags):
         "Keys that make text are reported as escape codes too.",
     )
     REPORT_ASSOCIATED_TEXT = numbered(16, "A key that makes text is reported with that text.")
-    # numbers.txt: end
+    # hedrugal.h: end
 
 
 class KeyEventKind(Named):
     """What happened to a key."""
 
-    # numbers.txt: key_event_kind member
+    # hedrugal.h: key_event_kind member
     PRESS = numbered(1, "It was pressed.")
     REPEAT = numbered(2, "It was held down so long that it repeats.")
     RELEASE = numbered(3, "It was released.")
-    # numbers.txt: end
+    # hedrugal.h: end
 
 
 @dataclass(frozen=True)
@@ -140,13 +166,13 @@ class KeyReport:
 class MouseKind(Named):
     """What happened to the mouse."""
 
-    # numbers.txt: mouse_kind member
+    # hedrugal.h: mouse_kind member
     PRESS = numbered(1, "A button was pressed.")
     RELEASE = numbered(2, "A button was released. Only SGR reports (mode 1006) tell which.")
     DRAG = numbered(3, "The mouse was moved while a button was down.")
     MOVE = numbered(4, "The mouse was moved, and no button is down.")
     WHEEL = numbered(5, "A wheel was turned.")
-    # numbers.txt: end
+    # hedrugal.h: end
 
 
 @dataclass(frozen=True)

@@ -15,9 +15,11 @@ from typing import (
     cast,
 )
 
-from ._library import Bytes, RawHandle, RawMatch, borrowed, is_ok, library, refused
-from ._numbers import STATUS_AMBIGUOUS, STATUS_NEED_DATA, STATUS_OK
+from ._calls import STATUS_AMBIGUOUS, STATUS_NEED_DATA, STATUS_OK, RawHandle, RawMatch
+from ._library import Bytes, borrowed, is_ok, library, refused
 from ._owned import Owned
+
+__all__ = ["Ambiguous", "Exact", "Found", "KeyMap", "NeedData", "Nothing"]
 
 
 Value = TypeVar("Value")

@@ -5,17 +5,19 @@ import ctypes
 from dataclasses import dataclass
 from typing import Any, Callable, Mapping, Tuple, Union
 
+from ._calls import KEY_CHAR, KEY_FUNCTION, STATUS_BAD_NUMBER, STATUS_BAD_TEXT, STATUS_OK
+from ._enums import Flags, Named, numbered
 from ._library import borrowed, fault, is_ok
-from ._numbers import (
-    KEY_CHAR,
-    KEY_FUNCTION,
-    STATUS_BAD_NUMBER,
-    STATUS_BAD_TEXT,
-    STATUS_OK,
-    Flags,
-    Named,
-    numbered,
-)
+
+__all__ = [
+    "EncodeError",
+    "Function",
+    "Key",
+    "KeyCode",
+    "KittyModifiers",
+    "Modifiers",
+    "ReportedKey",
+]
 
 # More bytes than most keys have.
 _ROOM = 64
@@ -24,7 +26,7 @@ _ROOM = 64
 class Modifiers(Flags):
     """A set of modifier keys."""
 
-    # numbers.txt: termwiz_mod member
+    # hedrugal.h: termwiz_mod member
     NONE = numbered(0, "No modifier.")
     SHIFT = numbered(2, "Shift.")
     ALT = numbered(4, "Alt.")
@@ -37,14 +39,14 @@ class Modifiers(Flags):
     RIGHT_CTRL = numbered(512, "The right Ctrl key.")
     LEFT_SHIFT = numbered(1024, "The left Shift key.")
     RIGHT_SHIFT = numbered(2048, "The right Shift key.")
-    # numbers.txt: end
+    # hedrugal.h: end
 
 
 class KittyModifiers(Flags):
     """A set of modifiers, as Kitty's keyboard protocol reports them: keys that are held, and locks
     that are on."""
 
-    # numbers.txt: kitty_mod member
+    # hedrugal.h: kitty_mod member
     NONE = numbered(0, "No modifier.")
     SHIFT = numbered(1, "Shift.")
     ALT = numbered(2, "Alt.")
@@ -54,13 +56,13 @@ class KittyModifiers(Flags):
     META = numbered(32, "Meta.")
     CAPS_LOCK = numbered(64, "Caps Lock is on.")
     NUM_LOCK = numbered(128, "Num Lock is on.")
-    # numbers.txt: end
+    # hedrugal.h: end
 
 
 class KeyCode(Named):
     """A key that types no character and is no function key."""
 
-    # numbers.txt: key member
+    # hedrugal.h: key member
     HYPER = numbered(2, "Hyper, a modifier key.")
     SUPER = numbered(
         3,
@@ -174,7 +176,7 @@ class KeyCode(Named):
         "The start of a bracketed paste. No event carries it: the paste comes as one event.",
     )
     INTERNAL_PASTE_END = numbered(90, "The end of a bracketed paste, where none was started.")
-    # numbers.txt: end
+    # hedrugal.h: end
 
 
 @dataclass(frozen=True)

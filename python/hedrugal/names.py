@@ -6,11 +6,14 @@ import functools
 from dataclasses import dataclass
 from typing import Any, Callable, Iterable, Iterator, Optional, Tuple, Union
 
-from . import _numbers as numbers
-from ._library import CHORD_MOST, RawPress, borrowed, borrowed_text, fault, is_ok, library
-from ._numbers import Named, numbered
+from . import _calls as numbers
+from ._calls import CHORD_MOST, RawPress
+from ._enums import Named, numbered
+from ._library import borrowed, borrowed_text, fault, is_ok, library
 from .events import KeyReport, raw_report
 from .keys import KittyModifiers, ReportedKey, key_of, numbers_of_reported
+
+__all__ = ["Chord", "KeyNameError", "KeyNameErrorKind", "KeyPress", "typed_text"]
 
 # More bytes than the name of a press has.
 _NAME_ROOM = 64

@@ -7,33 +7,27 @@ import sys
 from dataclasses import dataclass
 from typing import Any, Iterator, List, Optional, cast
 
-from ._library import (
+from ._calls import (
+    KIND_KEY,
     NO_PARTS,
-    Bytes,
+    STATUS_BUSY,
+    STATUS_NONE,
+    STATUS_OK,
     RawEntries,
     RawEvent,
     RawHandle,
     RawReading,
-    borrowed,
-    fault,
-    is_ok,
-    library,
-    refused,
 )
-from ._numbers import (
-    KIND_KEY,
-    STATUS_BUSY,
-    STATUS_NONE,
-    STATUS_OK,
-    Named,
-    numbered,
-)
+from ._enums import Named, numbered
+from ._library import Bytes, borrowed, fault, is_ok, library, refused
 from ._owned import Owned, UntilNone
 from ._records import RECORD, BringsText, Events, event_of, records, text_lengths
 from .events import Event
 from .keys import Key, Modifiers, key_of
 from .reading import Dialect, Reading, number_of, raw_reading, reading_of
 from .timer import Policy, millis_of_now, raw_policy, wait_of
+
+__all__ = ["Completions", "Entry", "ParseError", "Parser", "Waiting"]
 
 # How many structs the library writes at once, and how many bytes that their events bring.
 _ROOM, _TEXT_ROOM = 72, 512
@@ -51,7 +45,7 @@ _events = Events()
 class Waiting(Named):
     """What stays buffered: see `Parser.waiting`."""
 
-    # numbers.txt: waiting member
+    # hedrugal.h: waiting member
     NOTHING = numbered(0, "Nothing is buffered.")
     ESCAPE = numbered(
         1,
@@ -61,7 +55,7 @@ class Waiting(Named):
     CHARACTER = numbered(3, "A prefix of a character in UTF-8, after an ESC or not.")
     PASTE = numbered(4, "An open paste: its start, and its text so far.")
     STRING = numbered(5, "An open string: its opening, and its bytes so far.")
-    # numbers.txt: end
+    # hedrugal.h: end
 
 
 @dataclass(frozen=True)
@@ -266,8 +260,8 @@ class Parser(Owned):
 
             >>> with Parser() as parser:
             ...     parser.policy = Policy(paste=10)
-            ...     parser.policy
-            Policy(escape=0.05, alt_key=0.1, sequence=1.0, string=5.0, character=None, paste=10)
+            ...     parser.policy.paste
+            10
 
         To assign raises TypeError or ValueError for what is no number of seconds from 0 on. The
         limits are those from before then."""

@@ -28,7 +28,8 @@ from prompt_toolkit.input.vt100_parser import Vt100Parser
 from prompt_toolkit.key_binding import KeyPress
 from prompt_toolkit.keys import KEY_ALIASES, Keys
 
-from ._library import RawEvent, is_ok, library
+from ._calls import RawEvent
+from ._library import is_ok, library
 from ._records import Events
 from .events import Csi, CursorPosition, Event, KeyReport, MouseReport, Paste, PastePart
 from .keys import Function, KeyCode, KittyModifiers

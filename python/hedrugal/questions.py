@@ -4,8 +4,8 @@ from __future__ import annotations
 import ctypes
 from typing import Optional
 
-from ._library import RawEvent, RawQuestions, borrowed, is_ok, library
-from ._numbers import STATUS_FULL
+from ._calls import STATUS_FULL, RawEvent, RawQuestions
+from ._library import borrowed, is_ok, library
 from .events import KINDS, Csi, Event
 from .parser import Parser
 from .timer import millis, millis_of_now, wait_of

@@ -5,44 +5,47 @@ import operator
 from dataclasses import dataclass
 from typing import Type, cast
 
-from ._library import RawReading, fault
-from ._numbers import Named, numbered
+from ._calls import RawReading
+from ._enums import Named, numbered
+from ._library import fault
+
+__all__ = ["Dialect", "EraseByte", "NewlineByte", "Reading"]
 
 
 class Dialect(Named):
     """By which grammar a Parser reads."""
 
-    # numbers.txt: dialect member
+    # hedrugal.h: dialect member
     EXTENDED = numbered(0, "What terminals send in any mode. For every program.")
     TERMWIZ = numbered(
         1,
         "What termwiz reads, and nothing else: the other fields of a reading say nothing then.",
     )
-    # numbers.txt: end
+    # hedrugal.h: end
 
 
 class EraseByte(Named):
     """Which byte the Backspace key sends, of 8 and 127. The other one is typed with Ctrl. A program
     takes it from its terminal's settings, the character VERASE of termios."""
 
-    # numbers.txt: erase member
+    # hedrugal.h: erase member
     DELETE = numbered(0, "127, as most terminals send it. Byte 8 is Ctrl-H.")
     BACKSPACE = numbered(1, "8. Byte 127 is Ctrl-Backspace.")
-    # numbers.txt: end
+    # hedrugal.h: end
 
 
 class NewlineByte(Named):
     """What byte 10 is. A program takes it from its terminal's settings: whether they turn CR into
     byte 10, the flag ICRNL of termios. In raw mode they don't."""
 
-    # numbers.txt: newline member
+    # hedrugal.h: newline member
     CTRL_J = numbered(0, "Ctrl-J. The Enter key sends the byte 13.")
     ENTER = numbered(
         1,
         "The Enter key: the terminal's settings turn CR into it (ICRNL), or the input is no "
         "terminal.",
     )
-    # numbers.txt: end
+    # hedrugal.h: end
 
 
 @dataclass(frozen=True)

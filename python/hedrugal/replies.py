@@ -16,8 +16,7 @@ import ctypes
 from dataclasses import dataclass
 from typing import Any, Optional, Tuple, Union
 
-from ._library import RawReply, borrowed, fault, is_ok, library
-from ._numbers import (
+from ._calls import (
     REPLY_CLIPBOARD,
     REPLY_COLOUR,
     REPLY_COLOUR_SCHEME,
@@ -25,16 +24,34 @@ from ._numbers import (
     REPLY_MODE,
     REPLY_VERSION,
     REPLY_WINDOW_SIZE,
-    Named,
-    numbered,
+    RawReply,
 )
+from ._enums import Named, numbered
+from ._library import borrowed, fault, is_ok, library
 from .events import KINDS, Csi, Dcs, Event, Osc
+
+__all__ = [
+    "ClipboardReply",
+    "Colour",
+    "ColourName",
+    "ColourReply",
+    "ColourScheme",
+    "ColourSchemeReply",
+    "DeviceAttributes",
+    "DeviceAttributesReply",
+    "ModeReply",
+    "ModeState",
+    "Reply",
+    "reply",
+    "VersionReply",
+    "WindowSizeReply",
+]
 
 
 class DeviceAttributes(Named):
     """Which report of a terminal's attributes it is."""
 
-    # numbers.txt: device_attributes member
+    # hedrugal.h: device_attributes member
     PRIMARY = numbered(
         1,
         "DA1: the class of the terminal, such as 62 for a VT220, and what it can do, such as 4 "
@@ -42,39 +59,39 @@ class DeviceAttributes(Named):
     )
     SECONDARY = numbered(2, "DA2: the type of the terminal, its version, and 0.")
     TERTIARY = numbered(3, "DA3: the bytes of the unit's number, mostly four.")
-    # numbers.txt: end
+    # hedrugal.h: end
 
 
 class ModeState(Named):
     """The state of a mode."""
 
-    # numbers.txt: mode_state member
+    # hedrugal.h: mode_state member
     NOT_RECOGNIZED = numbered(0, "The terminal doesn't know the mode.")
     SET = numbered(1, "The mode is on.")
     RESET = numbered(2, "The mode is off.")
     PERMANENTLY_SET = numbered(3, "The mode is on and can't be switched off.")
     PERMANENTLY_RESET = numbered(4, "The mode is off and can't be switched on.")
-    # numbers.txt: end
+    # hedrugal.h: end
 
 
 class ColourName(Named):
     """Which colour a reply is about."""
 
-    # numbers.txt: colour_name member
+    # hedrugal.h: colour_name member
     PALETTE = numbered(4, "A colour of the palette, by its index.")
     FOREGROUND = numbered(10, "The colour of text.")
     BACKGROUND = numbered(11, "The colour behind text.")
     CURSOR = numbered(12, "The colour of the cursor.")
-    # numbers.txt: end
+    # hedrugal.h: end
 
 
 class ColourScheme(Named):
     """The colour scheme that the terminal's user prefers."""
 
-    # numbers.txt: colour_scheme member
+    # hedrugal.h: colour_scheme member
     DARK = numbered(1, "Bright text on a dark background.")
     LIGHT = numbered(2, "Dark text on a bright background.")
-    # numbers.txt: end
+    # hedrugal.h: end
 
 
 @dataclass(frozen=True)

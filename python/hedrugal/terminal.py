@@ -113,7 +113,8 @@ class Terminal:
     brings a Resized. This is so if the main thread enters the block, for each of these signals that
     isn't ignored and has no handler. So Ctrl-C from another process still raises KeyboardInterrupt,
     and a handler of the program's own is left alone. If a process is forked, only the parent
-    restores the terminal.
+    restores the terminal. Reads, waits and writes go on after EINTR, and after EAGAIN where another
+    program set the terminal not to wait.
 
     After another program had the terminal, half a sequence from before is forgotten. A paste or a
     string that was open goes on, so that its rest isn't typed. Once no byte of it came for a

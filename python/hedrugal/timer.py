@@ -5,12 +5,11 @@ import enum
 import time
 from typing import NamedTuple, Optional
 
-from ._library import RawPolicy, RawSeen, RawTimer, is_ok, library
-from ._numbers import Named, numbered
+from ._calls import LIMIT_MOST, RawPolicy, RawSeen, RawTimer
+from ._enums import Named, numbered
+from ._library import is_ok, library
 
-
-# The longest limit in time.
-MOST_MILLIS = 2**31 - 65537
+__all__ = ["Age", "Policy", "Timer"]
 
 
 def millis(seconds: float, most: int) -> int:
@@ -63,17 +62,17 @@ class Policy(NamedTuple):
 class Age(Named, enum.IntEnum):
     """One of the two ages of what is pending, by which a Timer limits it."""
 
-    # numbers.txt: age member
+    # hedrugal.h: age member
     LAST = numbered(0, "How long ago something was fed last.")
     FRONT = numbered(1, "How long ago the first of what is pending came to the front.")
-    # numbers.txt: end
+    # hedrugal.h: end
 
 
 def raw_policy(policy: Policy) -> RawPolicy:
     """The limits in milliseconds."""
     if not isinstance(policy, Policy):
         raise TypeError(f"a Policy is required, not {type(policy).__name__}")
-    return RawPolicy(*(limit_millis(limit, MOST_MILLIS) or 1 for limit in policy))
+    return RawPolicy(*(limit_millis(limit, LIMIT_MOST) or 1 for limit in policy))
 
 
 class Timer:

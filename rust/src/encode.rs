@@ -1,6 +1,6 @@
 // Key reports to the bytes that a terminal sends for them.
 use crate::error::FAULT;
-use crate::{raw, KeyEventKind, KeyReport, KittyKeyboardFlags};
+use crate::{raw, KeyReport, KittyKeyboardFlags};
 use std::{error, fmt};
 
 /// Why [`KeyReport::try_encode`] made no text.
@@ -138,11 +138,7 @@ impl KeyReport {
         let (key, detail) = self.key.numbers();
         raw::Event {
             kind: raw::KIND_KEY,
-            key_event_kind: match self.kind {
-                KeyEventKind::Press => raw::KEY_EVENT_KIND_PRESS,
-                KeyEventKind::Repeat => raw::KEY_EVENT_KIND_REPEAT,
-                KeyEventKind::Release => raw::KEY_EVENT_KIND_RELEASE,
-            },
+            key_event_kind: self.kind.number(),
             modifiers: self.modifiers.bits(),
             key,
             detail,

@@ -5,6 +5,31 @@ use std::{error, fmt, io};
 // What is said if the library answers otherwise than its header says.
 pub(crate) const FAULT: &str = "the library answers as c/hedrugal.h says";
 
+// The numbers that the library has for the variants of an enum.
+macro_rules! numbered {
+    ($name:ident $number:ty: $($variant:ident $raw:ident,)*) => {
+        impl $name {
+            // The number of the library.
+            #[inline]
+            pub(crate) fn number(self) -> $number {
+                match self {
+                    $($name::$variant => crate::raw::$raw,)*
+                }
+            }
+
+            // What the library's number stands for.
+            #[inline]
+            pub(crate) fn of(number: $number) -> $name {
+                match number {
+                    $(crate::raw::$raw => $name::$variant,)*
+                    _ => unreachable!("{}", crate::error::FAULT),
+                }
+            }
+        }
+    };
+}
+pub(crate) use numbered;
+
 /// Memory was refused. Nothing is lost: the call may be made again.
 ///
 /// ```

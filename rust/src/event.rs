@@ -1,5 +1,5 @@
 // What happens at a terminal, and what it replies.
-use crate::error::FAULT;
+use crate::error::{numbered, FAULT};
 use crate::{raw, KeyCode, KeyPress, KittyKeyboardFlags, KittyModifiers, Modifiers, MouseButtons};
 
 /// What happened to a key.
@@ -319,19 +319,14 @@ fn of_kind(kind: u8) -> raw::Event {
         ..raw::Event::default()
     }
 }
-impl MouseKind {
-    // What happened, by the number of the library.
-    fn of(number: u8) -> MouseKind {
-        match number {
-            raw::MOUSE_KIND_PRESS => MouseKind::Press,
-            raw::MOUSE_KIND_RELEASE => MouseKind::Release,
-            raw::MOUSE_KIND_DRAG => MouseKind::Drag,
-            raw::MOUSE_KIND_MOVE => MouseKind::Move,
-            raw::MOUSE_KIND_WHEEL => MouseKind::Wheel,
-            _ => unreachable!("{FAULT}"),
-        }
-    }
-}
+
+numbered!(MouseKind u8:
+    Press MOUSE_KIND_PRESS,
+    Release MOUSE_KIND_RELEASE,
+    Drag MOUSE_KIND_DRAG,
+    Move MOUSE_KIND_MOVE,
+    Wheel MOUSE_KIND_WHEEL,
+);
 
 impl MouseReport {
     // A report of the library.
@@ -350,13 +345,7 @@ impl MouseReport {
     fn raw(&self) -> raw::Event {
         raw::Event {
             kind: raw::KIND_MOUSE,
-            mouse_kind: match self.kind {
-                MouseKind::Press => raw::MOUSE_KIND_PRESS,
-                MouseKind::Release => raw::MOUSE_KIND_RELEASE,
-                MouseKind::Drag => raw::MOUSE_KIND_DRAG,
-                MouseKind::Move => raw::MOUSE_KIND_MOVE,
-                MouseKind::Wheel => raw::MOUSE_KIND_WHEEL,
-            },
+            mouse_kind: self.kind.number(),
             button: self.button.unwrap_or(0),
             buttons: self.buttons.bits(),
             modifiers: self.modifiers.kitty().0,
@@ -367,26 +356,13 @@ impl MouseReport {
     }
 }
 
-impl StringKind {
-    // The kind of a string of the library, by that of its event.
-    fn of(kind: u8) -> StringKind {
-        match kind {
-            raw::KIND_OSC => StringKind::Osc,
-            raw::KIND_DCS => StringKind::Dcs,
-            raw::KIND_APC => StringKind::Apc,
-            _ => unreachable!("{FAULT}"),
-        }
-    }
+numbered!(StringKind u8: Osc KIND_OSC, Dcs KIND_DCS, Apc KIND_APC,);
 
-    // The number that the library has for the kind.
-    fn number(self) -> u8 {
-        match self {
-            StringKind::Osc => raw::KIND_OSC,
-            StringKind::Dcs => raw::KIND_DCS,
-            StringKind::Apc => raw::KIND_APC,
-        }
-    }
-}
+numbered!(KeyEventKind u8:
+    Press KEY_EVENT_KIND_PRESS,
+    Repeat KEY_EVENT_KIND_REPEAT,
+    Release KEY_EVENT_KIND_RELEASE,
+);
 
 impl ReportedKey {
     // The key of a number of the library and what it carries.
@@ -412,12 +388,7 @@ impl KeyReport {
         KeyReport {
             key: ReportedKey::of(report.key, report.detail),
             modifiers: KittyModifiers::from_bits(report.modifiers).expect(FAULT),
-            kind: match report.key_event_kind {
-                raw::KEY_EVENT_KIND_PRESS => KeyEventKind::Press,
-                raw::KEY_EVENT_KIND_REPEAT => KeyEventKind::Repeat,
-                raw::KEY_EVENT_KIND_RELEASE => KeyEventKind::Release,
-                _ => unreachable!("{FAULT}"),
-            },
+            kind: KeyEventKind::of(report.key_event_kind),
             // NO_CODE is no character.
             shifted: char::from_u32(report.shifted),
             base: char::from_u32(report.base),

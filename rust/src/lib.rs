@@ -51,9 +51,8 @@
 //! Behind the package is a library whose calls are proved against their contracts. The proof ends at
 //! those calls; this crate is tested.
 //!
-//! A build finds the installed library by pkg-config, and without one takes the prebuilt one of the
-//! repository. `HEDRUGAL_LIBRARY` comes first: it names the file of a library, or the folder that
-//! has it, absolute or from where cargo runs. The library is for Linux on x86-64 and on 64-bit ARM.
+//! docs/rust.md of the repository says which library a build finds. It is for Linux on x86-64 and on
+//! 64-bit ARM.
 //!
 //! What names other crates are the features of the manifest in `rust/with`, which has these sources:
 //! `use_serde`, serde's derives for keys, events and flags; `tokio`, `mio` and `crossterm`. So a
@@ -110,28 +109,21 @@ mod timer;
 mod times;
 mod written;
 
-pub use bindings::{BindError, BindErrorKind, Bindings, Iter};
-pub use chord::{Chord, Presses};
-pub use encode::KittyEncodeError;
-pub use entries::{Completions, EntryBytes};
-pub use error::{AllocError, FeedError};
-pub use event::{
-    Event, KeyEventKind, KeyReport, MouseKind, MouseReport, ReportedKey, Size, StringKind,
-};
+pub use bindings::*;
+pub use chord::*;
+pub use encode::*;
+pub use entries::*;
+pub use error::*;
+pub use event::*;
 pub use input::flags::KittyModifiers;
 pub use input::{KeyCode, KittyKeyboardFlags, Modifiers, MouseButtons};
-pub use matcher::{Matcher, Outcome, Outcomes};
-pub use names::{KeyNameError, KeyNameErrorKind};
-pub use parser::{Parser, Waiting};
-pub use policy::Policy;
-pub use press::{typed_text, KeyPress};
-pub use reading::{Dialect, EraseByte, NewlineByte, Reading};
-pub use replies::{Colour, ColourName, ColourScheme, DeviceAttributes, ModeState, Reply};
-pub use sending::{
-    encode_paste, try_encode_paste, MouseButton, MouseEncoding, MouseError, MouseTracking,
-    SentMouse,
-};
-pub use timer::{Age, Seen, Timer};
-pub use written::{
-    encode_colour_scheme, encode_cursor_position, encode_device_attributes, EncodeEventError,
-};
+pub use matcher::*;
+pub use names::*;
+pub use parser::*;
+pub use policy::*;
+pub use press::*;
+pub use reading::*;
+pub use replies::*;
+pub use sending::*;
+pub use timer::*;
+pub use written::*;

@@ -41,6 +41,19 @@ impl Policy {
         }
     }
 
+    /// Returns the limits of bytes that wait for more, or for a flush, however long that takes.
+    #[must_use]
+    pub const fn never() -> Policy {
+        Policy {
+            escape: None,
+            alt_key: None,
+            sequence: None,
+            string: None,
+            character: None,
+            paste: None,
+        }
+    }
+
     // The policy, as the library has it.
     pub(crate) fn raw(&self) -> raw::Policy {
         raw::Policy {

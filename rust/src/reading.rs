@@ -1,5 +1,5 @@
 // How a parser reads.
-use crate::error::FAULT;
+use crate::error::numbered;
 use crate::raw;
 
 /// By which grammar a [`Parser`](crate::Parser) reads.
@@ -13,24 +13,7 @@ pub enum Dialect {
     Termwiz,
 }
 
-impl Dialect {
-    // The number of the library.
-    pub(crate) fn number(self) -> u32 {
-        match self {
-            Dialect::Extended => raw::DIALECT_EXTENDED,
-            Dialect::Termwiz => raw::DIALECT_TERMWIZ,
-        }
-    }
-
-    // What the library's number stands for.
-    fn of(number: u32) -> Dialect {
-        match number {
-            raw::DIALECT_EXTENDED => Dialect::Extended,
-            raw::DIALECT_TERMWIZ => Dialect::Termwiz,
-            _ => unreachable!("{FAULT}"),
-        }
-    }
-}
+numbered!(Dialect u32: Extended DIALECT_EXTENDED, Termwiz DIALECT_TERMWIZ,);
 
 /// Which byte the Backspace key sends. Of 8 and 127, the other one is typed with Ctrl. A program
 /// takes it from its terminal's settings (VERASE), as a [`Terminal`](crate::terminal::Terminal)
@@ -44,24 +27,7 @@ pub enum EraseByte {
     Backspace,
 }
 
-impl EraseByte {
-    // The number of the library.
-    fn number(self) -> u32 {
-        match self {
-            EraseByte::Delete => raw::ERASE_DELETE,
-            EraseByte::Backspace => raw::ERASE_BACKSPACE,
-        }
-    }
-
-    // What the library's number stands for.
-    fn of(number: u32) -> EraseByte {
-        match number {
-            raw::ERASE_DELETE => EraseByte::Delete,
-            raw::ERASE_BACKSPACE => EraseByte::Backspace,
-            _ => unreachable!("{FAULT}"),
-        }
-    }
-}
+numbered!(EraseByte u32: Delete ERASE_DELETE, Backspace ERASE_BACKSPACE,);
 
 /// What byte 10 is.
 #[derive(Debug, Clone, Copy, PartialEq, Eq, Hash, Default)]
@@ -73,24 +39,7 @@ pub enum NewlineByte {
     Enter,
 }
 
-impl NewlineByte {
-    // The number of the library.
-    fn number(self) -> u32 {
-        match self {
-            NewlineByte::CtrlJ => raw::NEWLINE_CTRL_J,
-            NewlineByte::Enter => raw::NEWLINE_ENTER,
-        }
-    }
-
-    // What the library's number stands for.
-    fn of(number: u32) -> NewlineByte {
-        match number {
-            raw::NEWLINE_CTRL_J => NewlineByte::CtrlJ,
-            raw::NEWLINE_ENTER => NewlineByte::Enter,
-            _ => unreachable!("{FAULT}"),
-        }
-    }
-}
+numbered!(NewlineByte u32: CtrlJ NEWLINE_CTRL_J, Enter NEWLINE_ENTER,);
 
 /// How a [`Parser`](crate::Parser) reads. A program may change it between any two calls.
 ///

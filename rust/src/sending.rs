@@ -1,6 +1,6 @@
 // What a terminal sends that is no key: pasted texts and mouse reports.
 use crate::error::FAULT;
-use crate::{raw, AllocError, Modifiers};
+use crate::{raw, AllocError, Modifiers, MouseKind, MouseReport};
 use std::{error, fmt};
 
 /// Returns what a terminal sends for a pasted text, made safe: the other way from
@@ -57,6 +57,7 @@ pub fn try_encode_paste(text: &[u8], bracketed: bool) -> Result<String, AllocErr
 #[derive(Debug, Clone, Copy, PartialEq, Eq, Hash)]
 #[repr(u8)]
 pub enum MouseButton {
+    // hedrugal.h: mouse raw
     /// The mouse was moved while no button was down.
     None = raw::MOUSE_NONE,
     /// The left button was pressed.
@@ -93,6 +94,7 @@ pub enum MouseButton {
     Button2Drag = raw::MOUSE_BUTTON2_DRAG,
     /// The mouse was moved while the right button was down.
     Button3Drag = raw::MOUSE_BUTTON3_DRAG,
+    // hedrugal.h: end
 }
 
 /// Which mouse reports a program asked for, by xterm's modes.
@@ -175,6 +177,55 @@ pub struct SentMouse {
 }
 
 impl SentMouse {
+    /// Returns what sends a report on, as a program between two terminals does. There is none for a
+    /// side button, nor for a release that doesn't tell its button.
+    ///
+    /// ```
+    /// use hedrugal::{Dialect, Event, MouseButton, Parser, SentMouse};
+    /// use std::time::Instant;
+    ///
+    /// let mut parser = Parser::new(Dialect::Extended);
+    /// parser.feed(Instant::now(), b"\x1b[<2;80;24m\x1b[<128;80;24M");
+    /// let mut sent = parser.map(|event| match event {
+    ///     Event::Mouse(report) => SentMouse::of(&report).map(|sent| sent.button),
+    ///     _ => None,
+    /// });
+    /// assert_eq!(sent.next(), Some(Some(MouseButton::Button3Release)));
+    /// assert_eq!(sent.next(), Some(None));
+    /// ```
+    #[must_use]
+    pub fn of(report: &MouseReport) -> Option<SentMouse> {
+        use MouseButton as Button;
+        use MouseKind::{Drag, Move, Press, Release, Wheel};
+        let button = match (report.kind, report.button) {
+            (Move, _) => Button::None,
+            (Press, Some(1)) => Button::Button1Press,
+            (Press, Some(2)) => Button::Button2Press,
+            (Press, Some(3)) => Button::Button3Press,
+            (Wheel, Some(4)) => Button::Button4Press,
+            (Wheel, Some(5)) => Button::Button5Press,
+            (Wheel, Some(6)) => Button::Button6Press,
+            (Wheel, Some(7)) => Button::Button7Press,
+            (Release, Some(1)) => Button::Button1Release,
+            (Release, Some(2)) => Button::Button2Release,
+            (Release, Some(3)) => Button::Button3Release,
+            (Release, Some(4)) => Button::Button4Release,
+            (Release, Some(5)) => Button::Button5Release,
+            (Release, Some(6)) => Button::Button6Release,
+            (Release, Some(7)) => Button::Button7Release,
+            (Drag, Some(1)) => Button::Button1Drag,
+            (Drag, Some(2)) => Button::Button2Drag,
+            (Drag, Some(3)) => Button::Button3Drag,
+            _ => return None,
+        };
+        Some(SentMouse {
+            x: report.x,
+            y: report.y,
+            button,
+            modifiers: report.modifiers,
+        })
+    }
+
     /// Returns what a terminal sends for the report: the other way from
     /// [`Event::Mouse`](crate::Event::Mouse). There are no bytes for a report that
     /// the program doesn't get.

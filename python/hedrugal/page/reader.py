@@ -5,8 +5,8 @@ import ctypes
 from typing import Callable, Dict, Iterator, List, Optional, Sequence, Tuple
 
 from hedrugal import Dialect, Event, Parser, StringKind, StringPart, Waiting
-from hedrugal._library import RawEvent, borrowed, library
-from hedrugal._numbers import KIND_STRING_PART, STATUS_OK
+from hedrugal._calls import KIND_STRING_PART, STATUS_OK, RawEvent
+from hedrugal._library import borrowed, library
 from hedrugal._records import event_of
 
 # How the bytes are read: by the sequence table alone, as termwiz reads them, or all that terminals

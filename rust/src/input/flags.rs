@@ -468,7 +468,7 @@ flags! {
     "use hedrugal::input::Modifiers as Flags;\nlet (a, b) = (Flags::SHIFT, Flags::CTRL);"
     /// A set of modifier keys, such as those held while another key is pressed.
     Modifiers: u16 {
-        // numbers.txt: termwiz_mod flag
+        // hedrugal.h: termwiz_mod flag
         /// No modifier.
         const NONE = 0;
         /// Shift.
@@ -493,7 +493,7 @@ flags! {
         const LEFT_SHIFT = 1024;
         /// The right Shift key.
         const RIGHT_SHIFT = 2048;
-        // numbers.txt: end
+        // hedrugal.h: end
     }
     also named {
         "META" => ALT,
@@ -560,7 +560,7 @@ flags! {
     "use hedrugal::input::MouseButtons as Flags;\nlet (a, b) = (Flags::LEFT, Flags::VERT_WHEEL);"
     /// A set of mouse buttons and wheels.
     MouseButtons: u8 {
-        // numbers.txt: button flag
+        // hedrugal.h: button flag
         /// No button and no wheel.
         const NONE = 0;
         /// The left button.
@@ -575,7 +575,7 @@ flags! {
         const HORZ_WHEEL = 32;
         /// Set with a wheel that was turned up or left.
         const WHEEL_POSITIVE = 64;
-        // numbers.txt: end
+        // hedrugal.h: end
     }
     also named {}
 }
@@ -585,7 +585,7 @@ flags! {
      let (a, b) = (Flags::DISAMBIGUATE_ESCAPE_CODES, Flags::REPORT_EVENT_TYPES);"
     /// What a program asks of a terminal in kitty's keyboard protocol.
     KittyKeyboardFlags: u16 {
-        // numbers.txt: kitty_flag flag
+        // hedrugal.h: kitty_flag flag
         /// Nothing is asked for.
         const NONE = 0;
         /// Keys whose plain text is ambiguous, as that of Escape, are reported as escape codes.
@@ -598,7 +598,7 @@ flags! {
         const REPORT_ALL_KEYS_AS_ESCAPE_CODES = 8;
         /// A key that makes text is reported with that text.
         const REPORT_ASSOCIATED_TEXT = 16;
-        // numbers.txt: end
+        // hedrugal.h: end
     }
     also named {}
 }
@@ -608,7 +608,7 @@ flags! {
     /// A set of modifiers, as Kitty's keyboard protocol reports them: keys that are held, and locks
     /// that are on.
     KittyModifiers: u8 {
-        // numbers.txt: kitty_mod flag
+        // hedrugal.h: kitty_mod flag
         /// No modifier.
         const NONE = 0;
         /// Shift.
@@ -627,7 +627,7 @@ flags! {
         const CAPS_LOCK = 64;
         /// Num Lock is on.
         const NUM_LOCK = 128;
-        // numbers.txt: end
+        // hedrugal.h: end
     }
     also named {}
 }

@@ -24,7 +24,7 @@
 #[derive(Debug, Clone, Copy, PartialEq, Eq, PartialOrd, Ord, Hash)]
 #[cfg_attr(feature = "use_serde", derive(serde::Serialize, serde::Deserialize))]
 pub enum KeyCode {
-    // numbers.txt: key variant
+    // hedrugal.h: key variant
     /// A key that types a character: `A` is what Shift-A types, and Ctrl-C is `c` with CTRL.
     Char(char),
     /// Hyper, a modifier key.
@@ -205,14 +205,14 @@ pub enum KeyCode {
     InternalPasteStart,
     /// The end of a bracketed paste, where none was started.
     InternalPasteEnd,
-    // numbers.txt: end
+    // hedrugal.h: end
 }
 
 impl KeyCode {
     // The number of the key in the C library.
     pub(crate) fn number(self) -> u16 {
         match self {
-            // numbers.txt: key number
+            // hedrugal.h: key number
             KeyCode::Char(_) => 1,
             KeyCode::Hyper => 2,
             KeyCode::Super => 3,
@@ -303,7 +303,7 @@ impl KeyCode {
             KeyCode::KeyPadBegin => 88,
             KeyCode::InternalPasteStart => 89,
             KeyCode::InternalPasteEnd => 90,
-            // numbers.txt: end
+            // hedrugal.h: end
         }
     }
 
@@ -319,7 +319,7 @@ impl KeyCode {
     // The key of a number and what it carries, or `None` if there is no such key.
     pub(crate) fn of(number: u16, detail: u32) -> Option<KeyCode> {
         Some(match number {
-            // numbers.txt: key of
+            // hedrugal.h: key of
             1 => KeyCode::Char(char::from_u32(detail)?),
             2 => KeyCode::Hyper,
             3 => KeyCode::Super,
@@ -410,7 +410,7 @@ impl KeyCode {
             88 => KeyCode::KeyPadBegin,
             89 => KeyCode::InternalPasteStart,
             90 => KeyCode::InternalPasteEnd,
-            // numbers.txt: end
+            // hedrugal.h: end
             _ => return None,
         })
     }

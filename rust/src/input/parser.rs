@@ -3,16 +3,6 @@ use super::InputEvent;
 use crate::{AllocError, Dialect, FeedError, Parser, Policy};
 use std::{error, fmt};
 
-// What is buffered waits for more bytes or for a flush.
-const FOREVER: Policy = Policy {
-    escape: None,
-    alt_key: None,
-    sequence: None,
-    string: None,
-    character: None,
-    paste: None,
-};
-
 /// [`InputParser::try_parse`] was refused memory. The parser may be used again.
 #[derive(Debug, Clone, Copy, PartialEq, Eq)]
 pub enum ParseError {
@@ -89,7 +79,7 @@ impl InputParser {
     /// If memory is refused.
     pub fn try_new() -> Result<InputParser, AllocError> {
         let mut parser = Parser::try_new(Dialect::Termwiz)?;
-        parser.set_policy(FOREVER);
+        parser.set_policy(Policy::never());
         Ok(InputParser { parser })
     }
 

@@ -56,14 +56,6 @@ impl EventDecoder {
     /// Makes a decoder for a terminal that is read so. A server for SSH takes `erase` from the modes
     /// of the client's terminal (VERASE). A paste above a megabyte comes in parts.
     ///
-    /// ```
-    /// use hedrugal::terminal::EventDecoder;
-    /// use hedrugal::{Dialect, Reading};
-    ///
-    /// let decoder = EventDecoder::new(Reading::new(Dialect::Extended))?;
-    /// # Ok::<(), std::io::Error>(())
-    /// ```
-    ///
     /// # Errors
     ///
     /// With `OutOfMemory`.
@@ -75,15 +67,6 @@ impl EventDecoder {
     }
 
     /// Returns the parser, for its limits in time and above how many bytes a paste comes in parts.
-    ///
-    /// ```
-    /// use hedrugal::terminal::EventDecoder;
-    /// use hedrugal::Reading;
-    ///
-    /// let mut decoder = EventDecoder::new(Reading::default())?;
-    /// decoder.parser().set_parts(Some(4096));
-    /// # Ok::<(), std::io::Error>(())
-    /// ```
     #[must_use]
     pub fn parser(&mut self) -> &mut Parser {
         &mut self.parser

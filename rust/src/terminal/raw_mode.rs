@@ -336,14 +336,6 @@ fn terminal_of(standard: impl AsFd + IsTerminal) -> io::Result<File> {
 }
 
 /// What [`RawMode::heed`] found.
-///
-/// ```no_run
-/// use hedrugal::terminal::{Heeded, Modes, RawMode};
-///
-/// let mut guard = RawMode::noting(Modes::default())?;
-/// let is_over = guard.heed()? == Heeded::Ending;
-/// # Ok::<(), std::io::Error>(())
-/// ```
 #[derive(Debug, Clone, Copy, PartialEq, Eq)]
 pub enum Heeded {
     /// No signal that asks for anything.
@@ -394,14 +386,6 @@ impl RawMode {
     /// Sets the terminal to raw mode. It is that of standard input, or `/dev/tty` if standard input
     /// is none. What turns modes on and off is written to standard output if that is a terminal, or
     /// else to `/dev/tty`.
-    ///
-    /// ```no_run
-    /// use hedrugal::terminal::{Modes, RawMode};
-    ///
-    /// let guard = RawMode::new(Modes { focus: true, ..Modes::default() })?;
-    /// let size = guard.size()?;
-    /// # Ok::<(), std::io::Error>(())
-    /// ```
     ///
     /// # Errors
     ///
@@ -466,13 +450,6 @@ impl RawMode {
 
     /// Returns the terminal's size. What the terminal doesn't know of it is 0.
     ///
-    /// ```no_run
-    /// use hedrugal::terminal::{Modes, RawMode};
-    ///
-    /// let size = RawMode::new(Modes::default())?.size()?;
-    /// # Ok::<(), std::io::Error>(())
-    /// ```
-    ///
     /// # Errors
     ///
     /// If the terminal is gone.
@@ -504,30 +481,12 @@ impl RawMode {
 
     /// Returns the terminal to read from. A program reads it by [`Read`] of `&File`, or by its
     /// descriptor.
-    ///
-    /// ```no_run
-    /// use hedrugal::terminal::{Modes, RawMode};
-    /// use std::io::Read;
-    ///
-    /// let guard = RawMode::new(Modes::default())?;
-    /// let count = guard.input().read(&mut [0; 4096])?;
-    /// # Ok::<(), std::io::Error>(())
-    /// ```
     #[must_use]
     pub fn input(&self) -> &File {
         &self.entered().input
     }
 
     /// Returns the terminal to write to, also if standard output is none.
-    ///
-    /// ```no_run
-    /// use hedrugal::terminal::{Modes, RawMode};
-    /// use std::io::Write;
-    ///
-    /// let guard = RawMode::new(Modes::default())?;
-    /// writeln!(guard.output(), "q ends")?;
-    /// # Ok::<(), std::io::Error>(())
-    /// ```
     #[must_use]
     pub fn output(&self) -> &File {
         &self.entered().output
@@ -535,15 +494,6 @@ impl RawMode {
 
     /// Returns what can be read once a signal was noted, for a loop that waits for several
     /// descriptors. The loop then calls [`RawMode::heed`], and reads nothing of it.
-    ///
-    /// ```no_run
-    /// use hedrugal::terminal::{Modes, RawMode};
-    /// use std::os::fd::AsRawFd;
-    ///
-    /// let guard = RawMode::noting(Modes::default())?;
-    /// println!("{}", guard.wake().as_raw_fd());
-    /// # Ok::<(), std::io::Error>(())
-    /// ```
     #[must_use]
     pub fn wake(&self) -> BorrowedFd<'_> {
         self.wake.as_fd()
@@ -590,14 +540,6 @@ impl RawMode {
     }
 
     /// Returns the signal that ends the program, if one was noted.
-    ///
-    /// ```no_run
-    /// use hedrugal::terminal::{Modes, RawMode};
-    ///
-    /// let guard = RawMode::noting(Modes::default())?;
-    /// assert_eq!(guard.ending(), None);
-    /// # Ok::<(), std::io::Error>(())
-    /// ```
     #[must_use]
     pub fn ending(&self) -> Option<i32> {
         Some(ENDING.load(SeqCst)).filter(|number| *number != 0)
@@ -605,14 +547,6 @@ impl RawMode {
 
     /// Returns whether SIGTSTP was noted, so that [`RawMode::heed`] is going to stop the program.
     /// What has to be written before that is written now.
-    ///
-    /// ```no_run
-    /// use hedrugal::terminal::{Modes, RawMode};
-    ///
-    /// let guard = RawMode::noting(Modes::default())?;
-    /// assert!(!guard.is_stopping());
-    /// # Ok::<(), std::io::Error>(())
-    /// ```
     #[must_use]
     pub fn is_stopping(&self) -> bool {
         STOPPING.load(SeqCst) && self.ending().is_none()

@@ -54,7 +54,11 @@ struct Told {
 /// the signal again, which ends the program.
 ///
 /// When the terminal is left, replies that it still owes are read first, so that a shell doesn't get
-/// them. That takes a second at most. What was typed before such a reply is lost.
+/// them. They are awaited for twice as long as the slowest took, between 200 ms and a second. What was
+/// typed before such a reply is lost.
+///
+/// Reads, waits and writes go on after EINTR, and after EAGAIN where another program set the terminal
+/// not to wait.
 ///
 /// ```no_run
 /// use hedrugal::terminal::{Modes, Terminal};
@@ -83,14 +87,6 @@ pub struct Terminal {
 impl Terminal {
     /// Sets the program's terminal to raw mode with bracketed paste.
     ///
-    /// ```no_run
-    /// use hedrugal::terminal::Terminal;
-    ///
-    /// let mut terminal = Terminal::open()?;
-    /// println!("{:?}", terminal.read()?);
-    /// # Ok::<(), std::io::Error>(())
-    /// ```
-    ///
     /// # Errors
     ///
     /// Those of [`RawMode::new`], or `OutOfMemory`.
@@ -99,13 +95,6 @@ impl Terminal {
     }
 
     /// Sets the program's terminal to raw mode with these modes.
-    ///
-    /// ```no_run
-    /// use hedrugal::terminal::{Modes, Terminal};
-    ///
-    /// let terminal = Terminal::open_with(Modes { focus: true, ..Modes::default() })?;
-    /// # Ok::<(), std::io::Error>(())
-    /// ```
     ///
     /// # Errors
     ///
@@ -150,16 +139,6 @@ impl Terminal {
 
     /// Waits for an event. Returns `None` at the end of the input, where the terminal is gone, and
     /// where a signal ends the program.
-    ///
-    /// ```no_run
-    /// use hedrugal::terminal::Terminal;
-    ///
-    /// let mut terminal = Terminal::open()?;
-    /// while let Some(event) = terminal.read()? {
-    ///     println!("{event:?}");
-    /// }
-    /// # Ok::<(), std::io::Error>(())
-    /// ```
     ///
     /// # Errors
     ///
@@ -312,14 +291,6 @@ impl Terminal {
 
     /// Returns the terminal's size. What the terminal doesn't know of it is 0.
     ///
-    /// ```no_run
-    /// use hedrugal::terminal::Terminal;
-    ///
-    /// let size = Terminal::open()?.size()?;
-    /// println!("{} x {}", size.columns, size.rows);
-    /// # Ok::<(), std::io::Error>(())
-    /// ```
-    ///
     /// # Errors
     ///
     /// If the terminal is gone.
@@ -328,14 +299,6 @@ impl Terminal {
     }
 
     /// Returns the signal that ends the program, if one came.
-    ///
-    /// ```no_run
-    /// use hedrugal::terminal::Terminal;
-    ///
-    /// let mut terminal = Terminal::open()?;
-    /// assert_eq!(terminal.ending(), None);
-    /// # Ok::<(), std::io::Error>(())
-    /// ```
     #[must_use]
     pub fn ending(&self) -> Option<i32> {
         self.raw_mode.ending()
@@ -382,14 +345,6 @@ impl Terminal {
     }
 
     /// Returns what a loop of the program's own waits for: the terminal, and the signals that came.
-    ///
-    /// ```no_run
-    /// use hedrugal::terminal::Terminal;
-    ///
-    /// let mut terminal = Terminal::open()?;
-    /// let [input, signals] = terminal.descriptors();
-    /// # Ok::<(), std::io::Error>(())
-    /// ```
     #[must_use]
     pub fn descriptors(&self) -> [BorrowedFd<'_>; 2] {
         [self.raw_mode.input().as_fd(), self.raw_mode.wake()]

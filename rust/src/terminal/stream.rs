@@ -42,16 +42,6 @@ pub struct EventStream {
 impl EventStream {
     /// Has the runtime watch the terminal.
     ///
-    /// ```no_run
-    /// use hedrugal::terminal::{EventStream, Terminal};
-    ///
-    /// # async fn run() -> std::io::Result<()> {
-    /// let mut events = EventStream::new(Terminal::open()?)?;
-    /// println!("{:?}", events.next().await);
-    /// # Ok(())
-    /// # }
-    /// ```
-    ///
     /// # Errors
     ///
     /// If the system can't watch it.
@@ -71,34 +61,12 @@ impl EventStream {
 
     /// Returns the terminal, as for its size, or to lend it. What it reads meanwhile is no longer in
     /// this stream.
-    ///
-    /// ```no_run
-    /// use hedrugal::terminal::{EventStream, Terminal};
-    ///
-    /// # async fn run() -> std::io::Result<()> {
-    /// let mut events = EventStream::new(Terminal::open()?)?;
-    /// let size = events.terminal().size()?;
-    /// # Ok(())
-    /// # }
-    /// ```
     #[must_use]
     pub fn terminal(&mut self) -> &mut Terminal {
         &mut self.terminal
     }
 
     /// Waits for the next event.
-    ///
-    /// ```no_run
-    /// use hedrugal::terminal::{EventStream, Terminal};
-    ///
-    /// # async fn run() -> std::io::Result<()> {
-    /// let mut events = EventStream::new(Terminal::open()?)?;
-    /// while let Some(event) = events.next().await {
-    ///     println!("{:?}", event?);
-    /// }
-    /// # Ok(())
-    /// # }
-    /// ```
     pub async fn next(&mut self) -> Option<io::Result<Event>> {
         poll_fn(|context| Pin::new(&mut *self).poll_next(context)).await
     }
