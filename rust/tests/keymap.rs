@@ -1,17 +1,14 @@
 // The key map: termwiz's own cases, worked examples, and lookups in generated maps against a plain
 // map.
-use hedrugal::keymap::{Found, KeyMap};
+mod numbers;
+
+use hedrugal::keymap::Found::{self, Ambiguous, Exact, NeedData};
+use hedrugal::keymap::KeyMap;
+use numbers::Draws;
 use std::collections::BTreeMap;
 use std::fmt::Debug;
 use std::ops::Bound::{Excluded, Unbounded};
 use std::rc::Rc;
-
-// Entries that are inserted one after another, and what lookups then return: the text, whether more
-// of it may follow, and the answer.
-struct Case<'a, Key> {
-    entries: &'a [(Key, bool)],
-    lookups: &'a [(Key, bool, Found<bool>)],
-}
 
 // Three keys of which each is a prefix of the next, and one that is apart.
 const NESTED: &[(&str, bool)] = &[
@@ -32,111 +29,96 @@ fn filled<'a, Key: AsRef<[u8]> + 'a>(
     map
 }
 
-// Checks a case whose keys are all different in a map, in a clone of it, and in a map whose keys
-// were inserted in reverse order.
-fn check<Key: AsRef<[u8]>>(case: &Case<Key>) {
-    let map = filled(case.entries.iter());
-    for map in [&map, &map.clone(), &filled(case.entries.iter().rev())] {
-        for (text, maybe_more, answer) in case.lookups {
-            let shown = text.as_ref().escape_ascii();
-            assert_eq!(
-                map.lookup(text, *maybe_more),
-                *answer,
-                "{shown} {maybe_more}"
-            );
+// Entries whose keys are all different, in a map, in a clone of it, and in a map into which they were
+// inserted in reverse order; and what lookups return: the text, whether more of it may follow, and
+// the answer.
+fn check<Key: AsRef<[u8]>>(entries: &[(Key, bool)], lookups: &[(Key, bool, Found<bool>)]) {
+    let map = filled(entries.iter());
+    for map in [&map, &map.clone(), &filled(entries.iter().rev())] {
+        for (text, maybe_more, answer) in lookups {
+            let (shown, found) = (text.as_ref().escape_ascii(), map.lookup(text, *maybe_more));
+            assert_eq!(found, *answer, "{shown} {maybe_more}");
         }
     }
 }
 
 #[test]
 fn lookup_empty() {
-    check(&Case {
-        entries: &[],
-        lookups: &[("boo", true, Found::None), ("boo", false, Found::None)],
-    });
+    check(
+        &[],
+        &[("boo", true, Found::None), ("boo", false, Found::None)],
+    );
 }
 
 #[test]
 fn lookup() {
-    check(&Case {
-        entries: &[("boa", true), ("boo", true), ("boom", false)],
-        lookups: &[
-            ("b", true, Found::NeedData),
-            ("bo", true, Found::NeedData),
-            ("boa", true, Found::Exact(3, true)),
-            ("boo", true, Found::Ambiguous(3, true)),
-            ("boom", true, Found::Exact(4, false)),
-            ("boom!", true, Found::Exact(4, false)),
+    check(
+        &[("boa", true), ("boo", true), ("boom", false)],
+        &[
+            ("b", true, NeedData),
+            ("bo", true, NeedData),
+            ("boa", true, Exact(3, true)),
+            ("boo", true, Ambiguous(3, true)),
+            ("boom", true, Exact(4, false)),
+            ("boom!", true, Exact(4, false)),
         ],
-    });
+    );
 }
 
 #[test]
 fn lookup_with_multiple_ambiguous_matches_without_additional_input() {
-    check(&Case {
-        entries: NESTED,
-        lookups: &[("boom!", false, Found::Exact(4, true))],
-    });
+    check(NESTED, &[("boom!", false, Exact(4, true))]);
 }
 
 #[test]
 fn lookup_with_multiple_ambiguous_matches_with_potential_additional_input() {
-    check(&Case {
-        entries: NESTED,
-        lookups: &[("boom!", true, Found::Ambiguous(4, true))],
-    });
+    check(NESTED, &[("boom!", true, Ambiguous(4, true))]);
 }
 
 #[test]
 fn sequence() {
-    check(&Case {
-        entries: &[("\x03", true), ("\x27", true), ("\x03XYZ", true)],
-        lookups: &[
-            ("\x03", true, Found::Ambiguous(1, true)),
-            ("\x03foo", true, Found::Exact(1, true)),
-            ("\x03X", true, Found::Ambiguous(1, true)),
+    check(
+        &[("\x03", true), ("\x27", true), ("\x03XYZ", true)],
+        &[
+            ("\x03", true, Ambiguous(1, true)),
+            ("\x03foo", true, Exact(1, true)),
+            ("\x03X", true, Ambiguous(1, true)),
         ],
-    });
+    );
 }
 
 #[test]
 fn lookup_past_dead_ends() {
-    check(&Case {
-        entries: NESTED,
-        lookups: &[
+    check(
+        NESTED,
+        &[
             ("bz", true, Found::None),
-            ("boom!x", true, Found::Exact(4, true)),
-            ("boo", false, Found::Exact(3, false)),
-            ("bo", false, Found::NeedData),
-            ("", true, Found::NeedData),
+            ("boom!x", true, Exact(4, true)),
+            ("boo", false, Exact(3, false)),
+            ("bo", false, NeedData),
+            ("", true, NeedData),
         ],
-    });
-    check(&Case {
-        entries: &[("boa", true), ("boo", true), ("boom", true)],
-        lookups: &[("bz", true, Found::None), ("bo", true, Found::NeedData)],
-    });
+    );
+    check(
+        &[("boa", true), ("boo", true), ("boom", true)],
+        &[("bz", true, Found::None), ("bo", true, NeedData)],
+    );
 }
 
 #[test]
 fn lookup_of_the_empty_key() {
-    check(&Case {
-        entries: &[],
-        lookups: &[("", true, Found::None)],
-    });
-    check(&Case {
-        entries: &[("", true)],
-        lookups: &[("x", true, Found::Exact(0, true))],
-    });
-    check(&Case {
-        entries: &[("", true), ("ab", false)],
-        lookups: &[
-            ("x", true, Found::Exact(0, true)),
-            ("", true, Found::Ambiguous(0, true)),
-            ("", false, Found::Exact(0, true)),
-            ("a", true, Found::Ambiguous(0, true)),
-            ("ab", true, Found::Exact(2, false)),
+    check(&[], &[("", true, Found::None)]);
+    check(&[("", true)], &[("x", true, Exact(0, true))]);
+    check(
+        &[("", true), ("ab", false)],
+        &[
+            ("x", true, Exact(0, true)),
+            ("", true, Ambiguous(0, true)),
+            ("", false, Exact(0, true)),
+            ("a", true, Ambiguous(0, true)),
+            ("ab", true, Exact(2, false)),
         ],
-    });
+    );
 }
 
 // The first bytes of a text that doesn't repeat before 251 of them.
@@ -147,16 +129,16 @@ fn long_text(len: usize) -> Vec<u8> {
 // A key of 300 bytes, and one of 100 bytes that is a prefix of it.
 #[test]
 fn lookup_of_long_keys() {
-    check(&Case {
-        entries: &[(long_text(300), true), (long_text(100), false)],
-        lookups: &[
-            (long_text(99), true, Found::NeedData),
-            (long_text(100), true, Found::Ambiguous(100, false)),
-            (long_text(299), true, Found::Ambiguous(100, false)),
-            (long_text(300), true, Found::Exact(300, true)),
-            (long_text(301), true, Found::Exact(300, true)),
+    check(
+        &[(long_text(300), true), (long_text(100), false)],
+        &[
+            (long_text(99), true, NeedData),
+            (long_text(100), true, Ambiguous(100, false)),
+            (long_text(299), true, Ambiguous(100, false)),
+            (long_text(300), true, Exact(300, true)),
+            (long_text(301), true, Exact(300, true)),
         ],
-    });
+    );
 }
 
 #[test]
@@ -164,8 +146,8 @@ fn later_insert_wins() {
     let mut map = KeyMap::new();
     map.insert("ab", 1);
     map.insert("ab", 2);
-    assert_eq!(map.lookup("ab", true), Found::Exact(2, 2));
-    assert_eq!(map.clone().lookup("ab", true), Found::Exact(2, 2));
+    assert_eq!(map.lookup("ab", true), Exact(2, 2));
+    assert_eq!(map.clone().lookup("ab", true), Exact(2, 2));
 }
 
 // Numbers under their two bytes, in the order in which they are inserted.
@@ -180,10 +162,8 @@ fn numbered(numbers: impl Iterator<Item = u16>) -> KeyMap<u16> {
 // The map has the numbers below a limit, and no other.
 fn check_numbers(map: &KeyMap<u16>, limit: u16) {
     for number in 0..limit {
-        assert_eq!(
-            map.lookup(number.to_be_bytes(), true),
-            Found::Exact(2, number)
-        );
+        let found = map.lookup(number.to_be_bytes(), true);
+        assert_eq!(found, Exact(2, number));
     }
     assert_eq!(map.lookup(limit.to_be_bytes(), true), Found::None);
 }
@@ -212,10 +192,10 @@ fn accepts_every_form_of_bytes() {
     map.insert(b"b", 2);
     map.insert(vec![b'c', 0, 0xff], 3);
     map.insert(String::from("d"), 4);
-    assert_eq!(map.lookup(String::from("a"), false), Found::Exact(1, 1));
-    assert_eq!(map.lookup([b'b'], false), Found::Exact(1, 2));
-    assert_eq!(map.lookup(b"c\x00\xff", false), Found::Exact(3, 3));
-    assert_eq!(map.lookup("d", false), Found::Exact(1, 4));
+    assert_eq!(map.lookup(String::from("a"), false), Exact(1, 1));
+    assert_eq!(map.lookup([b'b'], false), Exact(1, 2));
+    assert_eq!(map.lookup(b"c\x00\xff", false), Exact(3, 3));
+    assert_eq!(map.lookup("d", false), Exact(1, 4));
 }
 
 #[test]
@@ -240,33 +220,18 @@ fn is_shared_between_threads() {
     std::thread::scope(|scope| {
         for _ in 0..2 {
             scope.spawn(|| {
-                (0..1000)
-                    .for_each(|_| assert_eq!(map.lookup("boom!", true), Found::Ambiguous(4, true)))
+                (0..1000).for_each(|_| assert_eq!(map.lookup("boom!", true), Ambiguous(4, true)))
             });
         }
     });
     let moved = std::thread::spawn(move || map.lookup("boa", true)).join();
-    assert_eq!(moved.ok(), Some(Found::Exact(3, false)));
+    assert_eq!(moved.ok(), Some(Exact(3, false)));
 }
 
-// A linear congruential generator.
-struct Draws(u64);
-
 impl Draws {
-    // A number below a limit.
-    fn below(&mut self, limit: usize) -> usize {
-        self.0 = self
-            .0
-            .wrapping_mul(6364136223846793005)
-            .wrapping_add(1442695040888963407);
-        (self.0 >> 33) as usize % limit
-    }
-
     // Up to `len` of these bytes.
     fn bytes(&mut self, len: usize, of: &[u8]) -> Vec<u8> {
-        (0..self.below(len + 1))
-            .map(|_| of[self.below(of.len())])
-            .collect()
+        (0..self.below(len + 1)).map(|_| *self.one_of(of)).collect()
     }
 
     // A text of at most six bytes, of three different ones.
@@ -320,9 +285,9 @@ fn plain_lookup(map: &BTreeMap<Vec<u8>, u32>, text: &[u8], maybe_more: bool) -> 
     let mut later = map.range::<[u8], _>((Excluded(text), Unbounded));
     let is_extended = later.next().is_some_and(|(key, _)| key.starts_with(text));
     match longest {
-        Some((len, value)) if is_extended && maybe_more => Found::Ambiguous(len, value),
-        Some((len, value)) => Found::Exact(len, value),
-        None if is_extended => Found::NeedData,
+        Some((len, value)) if is_extended && maybe_more => Ambiguous(len, value),
+        Some((len, value)) => Exact(len, value),
+        None if is_extended => NeedData,
         None => Found::None,
     }
 }
@@ -335,9 +300,9 @@ struct Counted(u32, #[allow(dead_code)] Rc<()>);
 fn number(found: Found<Counted>) -> Found<u32> {
     match found {
         Found::None => Found::None,
-        Found::Exact(len, value) => Found::Exact(len, value.0),
-        Found::Ambiguous(len, value) => Found::Ambiguous(len, value.0),
-        Found::NeedData => Found::NeedData,
+        Exact(len, value) => Exact(len, value.0),
+        Ambiguous(len, value) => Ambiguous(len, value.0),
+        NeedData => NeedData,
     }
 }
 
@@ -366,11 +331,8 @@ impl Plain {
         let answer = plain_lookup(&self.map, text, maybe_more);
         self.answers[place_of(&answer)] += 1;
         let shown = text.escape_ascii();
-        assert_eq!(
-            number(map.lookup(text, maybe_more)),
-            answer,
-            "{shown} {maybe_more}"
-        );
+        let found = number(map.lookup(text, maybe_more));
+        assert_eq!(found, answer, "{shown} {maybe_more}");
     }
 
     // Looks texts of a kind up in both.
@@ -386,16 +348,16 @@ impl Plain {
 fn place_of(found: &Found<u32>) -> usize {
     match found {
         Found::None => 0,
-        Found::Exact(..) => 1,
-        Found::Ambiguous(..) => 2,
-        Found::NeedData => 3,
+        Exact(..) => 1,
+        Ambiguous(..) => 2,
+        NeedData => 3,
     }
 }
 
 // Every second map has no empty key, which is a prefix of each text.
 #[test]
 fn agrees_with_a_plain_map() {
-    let mut draws = Draws(1);
+    let mut draws = Draws::new(1);
     let mut answers = [0; 4];
     for round in 0..30 {
         let mut plain = Plain::default();
@@ -434,8 +396,8 @@ fn check_clone(mut map: KeyMap<Counted>, plain: &mut Plain, draws: &mut Draws) {
     map.insert("", plain.counted(100));
     map.insert("a new key", plain.counted(101));
     plain.check(&copy, draws, Draws::text, 100);
-    assert_ne!(number(copy.lookup("", false)), Found::Exact(0, 100));
-    assert_eq!(number(map.lookup("a new key", false)), Found::Exact(9, 101));
+    assert_ne!(number(copy.lookup("", false)), Exact(0, 100));
+    assert_eq!(number(map.lookup("a new key", false)), Exact(9, 101));
     drop(map);
     plain.check(&copy, draws, Draws::text, 100);
 }
@@ -456,7 +418,7 @@ fn check_kind(draws: &mut Draws, kind: Kind) {
 // tests/test_rattle.py draws such texts for a map that remembers ranges.
 #[test]
 fn agrees_with_a_plain_map_on_each_kind_of_texts() {
-    let mut draws = Draws(1);
+    let mut draws = Draws::new(1);
     for _ in 0..8 {
         for kind in [Draws::letters, Draws::nested, Draws::five] {
             check_kind(&mut draws, kind);
@@ -489,7 +451,7 @@ fn has_values_of_every_type() {
     fn check<Value: Debug + Clone + PartialEq>(value: Value) {
         let mut map = KeyMap::new();
         map.insert("a", value.clone());
-        assert_eq!(map.lookup("a", true), Found::Exact(1, value));
+        assert_eq!(map.lookup("a", true), Exact(1, value));
     }
     check(());
     check([u64::MAX; 100]);

@@ -21,6 +21,27 @@ use std::time::{Duration, Instant};
 const STREAM: &[u8] =
     b"q\x1b[A\x1b[<0;12;3M\xc3\xa9\x1b[200~hello w\xc3\xb6rld, and some more text that needs memory\x1b[201~\x1b[1;5Dx\x1b[200~again\xff\x1b[201~\x1b";
 
+// Makes a call with each request refused in turn, until it makes no such request. Returns how many
+// there were. The call returns how many were refused.
+fn each_refused(mut call: impl FnMut(usize) -> usize) -> usize {
+    (1..).take_while(|number| call(*number) > 0).count()
+}
+
+// The same of a call that tells each refusal, and succeeds when it is made again.
+fn each_told<T: PartialEq + Debug, E: PartialEq + Debug>(
+    call: impl Fn() -> Result<T, E>,
+    error: &E,
+    wanted: &T,
+) -> usize {
+    each_refused(|number| {
+        let (told, refused) = refusing(number, &call);
+        let answers = [Ok(wanted), Err(error)];
+        assert_eq!(told.as_ref(), answers[refused]);
+        assert_eq!(call().as_ref(), Ok(wanted));
+        refused
+    })
+}
+
 // A list with room for all events, so that storing one asks for nothing.
 fn room() -> Vec<InputEvent> {
     Vec::with_capacity(64)
@@ -92,16 +113,12 @@ fn check(give: Give) {
     for piece in [1, 4, 13, 40, STREAM.len()] {
         let (whole, none) = read(give, piece, 0);
         assert_eq!((whole.len(), none), (9, 0));
-        let mut number = 0;
-        loop {
-            number += 1;
+        let requests = each_refused(|number| {
             let (events, refused) = read(give, piece, number);
             assert_eq!(events, whole, "pieces of {piece}, request {number}");
-            if refused == 0 {
-                break;
-            }
-        }
-        assert!(number > 2);
+            refused
+        });
+        assert!(requests > 1);
     }
 }
 
@@ -187,13 +204,12 @@ fn goes_on_with_a_parser() {
             Event::Paste("\x1b[20".to_string()),
         ];
         assert_eq!((&whole[whole.len() - 3..], none), (&rest[..], 0));
-        let mut number = 1;
-        while read_replies(piece, number).1 > 0 {
-            let events = read_replies(piece, number).0;
+        let requests = each_refused(|number| {
+            let (events, refused) = read_replies(piece, number);
             assert_eq!(events, whole, "pieces of {piece}, request {number}");
-            number += 1;
-        }
-        assert!(number > 8);
+            refused
+        });
+        assert!(requests > 7);
     }
 }
 
@@ -256,7 +272,7 @@ fn forgets_a_refused_event() {
 #[test]
 fn answers_each_question_once_after_a_refusal() {
     let bytes = b"\x1b[1;5R\x1b]4;\x07\x1b[1;5R\x1b[?1;5c\x1b[1;5R";
-    for number in 1.. {
+    let requests = each_refused(|number| {
         let (mut parser, now) = (Parser::new(Dialect::Extended), Instant::now());
         parser.expect_position();
         parser.expect_position();
@@ -269,11 +285,9 @@ fn answers_each_question_once_after_a_refusal() {
         let is_position: Vec<bool> = events.iter().map(|event| *event == position).collect();
         assert_eq!(is_position, [true, false, true, false, false]);
         assert_eq!(parser.reading(), Reading::new(Dialect::Extended));
-        if refused == 0 {
-            assert!(number > 3);
-            break;
-        }
-    }
+        refused
+    });
+    assert!(requests > 2);
 }
 
 #[test]
@@ -308,16 +322,7 @@ fn reads_replies_after_a_refusal() {
     ] {
         let whole = event.reply();
         assert!(whole.is_some());
-        for number in 1.. {
-            let (told, refused) = refusing(number, || event.try_reply());
-            if refused == 0 {
-                assert_eq!(told.as_ref(), Ok(&whole));
-                assert!(number > 1, "{event:?}");
-                break;
-            }
-            assert_eq!((told, refused), (Err(AllocError), 1), "{event:?}");
-            assert_eq!(event.try_reply().as_ref(), Ok(&whole));
-        }
+        assert!(each_told(|| event.try_reply(), &AllocError, &whole) > 0);
     }
 }
 
@@ -327,16 +332,15 @@ fn prints_names_after_a_refusal() {
     let name = "super+hyper+meta+ctrl+alt+shift+up U+10FFFF";
     let (chord, refused) = refusing(1, || name.parse::<Chord>().unwrap());
     assert_eq!(refused, 0);
-    for number in 1.. {
+    let requests = each_refused(|number| {
         let mut text = String::with_capacity(64);
         let (told, refused) = refusing(number, || write!(text, "{chord}"));
         assert_eq!((told.is_err(), text.is_empty()), (refused > 0, refused > 0));
-        if refused == 0 {
-            assert!(number > 1 && text == name);
-            break;
-        }
-        assert_eq!((refused, chord.to_string().as_str()), (1, name));
-    }
+        assert!(refused > 0 || text == name);
+        assert_eq!((refused / 2, chord.to_string().as_str()), (0, name));
+        refused
+    });
+    assert!(requests > 0);
 }
 
 // Makes bindings of some chords with one request refused, and makes a refused call again. A chord
@@ -378,8 +382,7 @@ fn binds_after_a_refusal() {
     let names = ["g g", "ctrl+x 4 f", "z", "a", "g", "ctrl+x 4 4 f", "b"];
     let chords = names.map(|name| name.parse::<Chord>().unwrap());
     assert_eq!(bind_all(&chords, 0), 0);
-    let granted = (1..).find(|number| bind_all(&chords, *number) == 0);
-    assert!(granted > Some(5), "{granted:?}");
+    assert!(each_refused(|number| bind_all(&chords, number)) > 4);
 }
 
 // Reads a paste of more than 64 MB in pieces of 4096 bytes, in parts, or skipped after each read.
@@ -451,14 +454,14 @@ fn tells_time_without_memory() {
 // Makes parsers once the table is there: tests/table.rs has the first one.
 fn check_new<Made>(make: fn() -> Result<Made, AllocError>) {
     assert!(make().is_ok());
-    let mut number = 1;
-    while refusing(number, make).1 > 0 {
+    let requests = each_refused(|number| {
         let before = in_use();
-        assert_eq!(refusing(number, make).0.err(), Some(AllocError));
+        let (made, refused) = refusing(number, make);
+        assert_eq!(made.err(), (refused > 0).then_some(AllocError));
         assert_eq!(in_use(), before);
-        number += 1;
-    }
-    assert!(number > 1);
+        refused
+    });
+    assert!(requests > 0);
 }
 
 #[test]
@@ -476,13 +479,8 @@ fn encodes_after_a_refusal() {
         modify_other_keys: None,
     };
     let encode = || KeyCode::LeftArrow.try_encode(Modifiers::ALT, modes, true);
-    let mut number = 1;
-    while refusing(number, encode).1 > 0 {
-        assert_eq!(refusing(number, encode).0, Err(EncodeError::Memory));
-        number += 1;
-    }
-    assert!(number > 2);
-    assert_eq!(encode().as_deref(), Ok("\x1b[1;3D"));
+    let wanted = "\x1b[1;3D".to_string();
+    assert!(each_told(encode, &EncodeError::Memory, &wanted) > 1);
 }
 
 #[test]
@@ -504,40 +502,17 @@ fn encodes_reports_after_a_refusal() {
         (&long, KittyKeyboardFlags::NONE, &long.text[..]),
     ] {
         let encode = || report.try_encode(flags);
-        let mut number = 1;
-        while refusing(number, encode).1 > 0 {
-            assert_eq!(refusing(number, encode).0, Err(KittyEncodeError::Memory));
-            number += 1;
-        }
-        assert!(number > 2);
-        assert_eq!(encode().as_deref(), Ok(wanted));
+        let wanted = wanted.to_string();
+        assert!(each_told(encode, &KittyEncodeError::Memory, &wanted) > 1);
     }
-}
-
-// What is sent of a call that refusals are asked of.
-fn sends_after_a_refusal<T: PartialEq + Debug, E: PartialEq + Debug>(
-    send: impl Fn() -> Result<T, E>,
-    refused: &E,
-    wanted: &T,
-) {
-    let mut number = 1;
-    while refusing(number, &send).1 > 0 {
-        assert_eq!(refusing(number, &send).0.as_ref(), Err(refused));
-        number += 1;
-    }
-    assert!(number > 2);
-    assert_eq!(send().as_ref().ok(), Some(wanted));
 }
 
 #[test]
 fn sends_pastes_and_mouse_reports_after_a_refusal() {
     for text in ["text", &"long ".repeat(100)] {
         let wanted = format!("\x1b[200~{text}\x1b[201~");
-        sends_after_a_refusal(
-            || try_encode_paste(text.as_bytes(), true),
-            &AllocError,
-            &wanted,
-        );
+        let encode = || try_encode_paste(text.as_bytes(), true);
+        assert!(each_told(encode, &AllocError, &wanted) > 1);
     }
     let report = SentMouse {
         x: 1,
@@ -546,7 +521,8 @@ fn sends_pastes_and_mouse_reports_after_a_refusal() {
         modifiers: Modifiers::NONE,
     };
     let send = || report.try_encode(MouseTracking::Any, MouseEncoding::Sgr);
-    sends_after_a_refusal(send, &MouseError::Memory, &b"\x1b[<0;1;1M".to_vec());
+    let wanted = b"\x1b[<0;1;1M".to_vec();
+    assert!(each_told(send, &MouseError::Memory, &wanted) > 1);
 }
 
 #[test]
@@ -561,7 +537,7 @@ fn writes_events_after_a_refusal() {
         parser.feed(Instant::now(), written);
         let event = parser.next().expect("an event");
         let write = || event.try_encode(&parser);
-        sends_after_a_refusal(write, &EncodeEventError::Memory, &written.to_vec());
+        assert!(each_told(write, &EncodeEventError::Memory, &written.to_vec()) > 1);
     }
 }
 

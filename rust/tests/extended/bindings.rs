@@ -149,6 +149,13 @@ fn threads_share_bindings() {
     });
 }
 
+#[test]
+fn binds_20000_chords() {
+    let all = '\u{4e00}'..'\u{9c20}';
+    let bindings: Bindings<char> = all.map(|it| (read_chord(&it.to_string()), it)).collect();
+    assert_eq!(bindings.len(), 20_000);
+}
+
 // A drawn list of presses, of few different keys.
 fn drawn_presses(draws: &mut Draws, most: usize) -> Vec<KeyPress> {
     let keys = ["a", "b", "ctrl+a", "up"].map(|name| name.parse().unwrap());

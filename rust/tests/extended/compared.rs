@@ -1,10 +1,10 @@
-// Texts that `Parser` reads as the plain reader does.
-use crate::calls::Calls;
+// Texts that `Parser` reads as the plain reader does, and keys that have the presses of the rules.
+use crate::calls::{Calls, BOTH, LAST, MORE};
 use crate::draws::Draws;
-use crate::examples::{Step, BOTH, LAST, MORE};
 use crate::generated::any_text;
 use crate::plain::PlainReader;
-use hedrugal::{Dialect, Parser, Reading};
+use crate::presses::check_presses;
+use hedrugal::{Dialect, EraseByte, Event, NewlineByte, Parser, Reading};
 
 // The end of a paste.
 const END: &[u8] = b"\x1b[201~";
@@ -92,6 +92,7 @@ impl Comparison {
         let (events, rest) = self.reader.read(&text, more);
         let parsed = self.parser.read(bytes, more);
         assert_eq!(parsed, events, "{}, {more}", text.escape_ascii());
+        parsed.iter().filter_map(Event::key).for_each(check_presses);
         assert_eq!(
             self.parser.waiting_len(),
             rest.len(),
@@ -103,22 +104,13 @@ impl Comparison {
     }
 
     // What is buffered after a flush is an open paste: its end tells the text of it.
-    fn check_rest(&mut self) {
+    pub fn check_rest(&mut self) {
         self.check_call(b"", LAST);
         self.check_call(END, LAST);
     }
 
-    // The calls of an example.
-    pub fn check_steps(&mut self, steps: &[Step]) {
-        self.begin();
-        for (bytes, more, _) in steps {
-            self.check_call(bytes, *more);
-        }
-        self.check_rest();
-    }
-
     // A text whole, and in two pieces before a flush.
-    fn check_text(&mut self, text: &[u8], place: usize) {
+    pub fn check_text(&mut self, text: &[u8], place: usize) {
         let (front, last) = text.split_at(place);
         self.begin();
         self.check_call(text, LAST);
@@ -153,6 +145,32 @@ fn reads_as_the_plain_reader_1() {
 #[test]
 fn reads_as_the_plain_reader_2() {
     check_texts(4);
+}
+
+// Texts of these, which often begin as a sequence.
+#[test]
+fn reads_keys_and_positions_as_the_plain_reader() {
+    let usual = Reading::new(Dialect::Extended);
+    let (mut comparison, mut draws) = (Comparison::new(Dialect::Extended), Draws::new(7));
+    for (questions, erase, newline) in [
+        (0, EraseByte::Delete, NewlineByte::CtrlJ),
+        (1, EraseByte::Delete, NewlineByte::CtrlJ),
+        (0, EraseByte::Backspace, NewlineByte::CtrlJ),
+        (0, EraseByte::Delete, NewlineByte::Enter),
+    ] {
+        comparison.set_first(Reading {
+            questions,
+            erase,
+            newline,
+            ..usual
+        });
+        for _ in 0..3000 {
+            let count = 1 + draws.below(9);
+            let text = [draws.text(1, "beginnings"), draws.text(count, "keys")].concat();
+            let place = draws.place_in(&text);
+            comparison.check_text(&text, place);
+        }
+    }
 }
 
 // Reads with other calls between them: questions are asked and forgotten, and the reading changes,

@@ -1,23 +1,10 @@
 // Texts and readings that look random, and are the same in each run.
+use crate::port::draws::symbols;
 use hedrugal::{Dialect, EraseByte, NewlineByte, Reading};
 
-// A linear congruential generator.
-pub struct Draws(u64);
+pub use crate::port::draws::numbers::Draws;
 
 impl Draws {
-    pub fn new(seed: u64) -> Draws {
-        Draws(seed)
-    }
-
-    // A number below the limit.
-    pub fn below(&mut self, limit: usize) -> usize {
-        self.0 = self
-            .0
-            .wrapping_mul(6364136223846793005)
-            .wrapping_add(1442695040888963407);
-        (self.0 >> 33) as usize % limit
-    }
-
     // A place in the text, and 0 in an empty one.
     pub fn place_in(&mut self, text: &[u8]) -> usize {
         self.below(text.len().max(1))
@@ -34,11 +21,11 @@ impl Draws {
         }
     }
 
-    // A text of so many symbols.
-    pub fn text(&mut self, count: usize, symbols: &[&[u8]]) -> Vec<u8> {
+    // A text of so many symbols of a list.
+    pub fn text(&mut self, count: usize, list: &str) -> Vec<u8> {
+        let symbols = symbols(list);
         (0..count)
-            .flat_map(|_| symbols[self.below(symbols.len())])
-            .copied()
+            .flat_map(|_| self.one_of(symbols).clone())
             .collect()
     }
 }

@@ -1,157 +1,109 @@
 // Texts at the limits of the forms: the longest of each, and those that are a byte longer.
-use crate::cuts::read_cut;
-use crate::examples::MORE;
-use crate::parser::given;
+use crate::calls::{given, read_cut, MORE};
 use hedrugal::{Dialect, Parser};
 
-// A text, or what it gives with more to come, by its parts, each so many times.
-type Parts<Part> = &'static [(Part, usize)];
-
-pub type LongExample = (Parts<&'static [u8]>, Parts<&'static str>);
+// How often what stands in braces is repeated, a text, and what it gives with more to come.
+pub type LongExample = (usize, &'static [u8], &'static str);
 
 // The longest string of each kind, also after an ESC, and the longest text that stays buffered.
 const STRINGS: &[LongExample] = &[
+    (65530, b"\x1b]1;{x}\x07", "osc \"1;{x}\""),
+    (65530, b"\x1b]1;{x}\x1b\\", "osc \"1;{x}\""),
+    (65530, b"\x1bP>|{x}\x1b\\", "dcs \">|{x}\""),
+    (65529, b"\x1b_Gi={x}\x1b\\", "apc \"Gi={x}\""),
     (
-        &[(b"\x1b]1;", 1), (b"x", 65530), (b"\x07", 1)],
-        &[("osc 1;", 1), ("x", 65530)],
+        65530,
+        b"\x1b\x1b]1;{x}\x07",
+        "key Escape NONE, osc \"1;{x}\"",
     ),
-    (
-        &[(b"\x1b]1;", 1), (b"x", 65530), (b"\x1b\\", 1)],
-        &[("osc 1;", 1), ("x", 65530)],
-    ),
-    (
-        &[(b"\x1bP>|", 1), (b"x", 65530), (b"\x1b\\", 1)],
-        &[("dcs >|", 1), ("x", 65530)],
-    ),
-    (
-        &[(b"\x1b_Gi=", 1), (b"x", 65529), (b"\x1b\\", 1)],
-        &[("apc Gi=", 1), ("x", 65529)],
-    ),
-    (
-        &[(b"\x1b\x1b]1;", 1), (b"x", 65530), (b"\x07", 1)],
-        &[("key Escape NONE, osc 1;", 1), ("x", 65530)],
-    ),
-    (
-        &[(b"\x1b]1;", 1), (b"x", 65530), (b"\x1b", 1)],
-        &[("; 65535", 1)],
-    ),
+    (65530, b"\x1b]1;{x}\x1b", "nothing; 65535"),
 ];
 
 // Strings that are a byte longer, ended or not: a part comes first, and the opening is put back.
 const PARTS: &[LongExample] = &[
+    (65531, b"\x1b]1;{x}\x07", r#"osc part "1;{x}", osc "1;""#),
     (
-        &[(b"\x1b]1;", 1), (b"x", 65531), (b"\x07", 1)],
-        &[("osc part 1;", 1), ("x", 65531), (", osc 1;", 1)],
+        65531,
+        b"\x1b]1;{x}{x}yz\x1b\\q",
+        r#"osc part "1;{x}", osc part "1;{x}", osc "1;yz", key U+0071 NONE"#,
     ),
     (
-        &[(b"\x1b]1;", 1), (b"x", 131062), (b"yz\x1b\\q", 1)],
-        &[
-            ("osc part 1;", 1),
-            ("x", 65531),
-            (", osc part 1;", 1),
-            ("x", 65531),
-            (", osc 1;yz, key Char('q') NONE", 1),
-        ],
+        65531,
+        b"\x1bP>|{x}\x1b\x1b",
+        r#"dcs part ">|{x}", dcs cut ">|"; 1"#,
     ),
     (
-        &[(b"\x1bP>|", 1), (b"x", 65531), (b"\x1b\x1b", 1)],
-        &[("dcs part >|", 1), ("x", 65531), (", dcs cut >|; 1", 1)],
+        65530,
+        b"\x1b\x1b_Gi={x}",
+        r#"key Escape NONE, apc part "Gi={x}"; 5"#,
     ),
     (
-        &[(b"\x1b\x1b_Gi=", 1), (b"x", 65530)],
-        &[
-            ("key Escape NONE, apc part Gi=", 1),
-            ("x", 65530),
-            ("; 5", 1),
-        ],
+        65530,
+        b"\x1b]52;{A}B\x07",
+        r#"osc part "52;{A}", osc "52;B""#,
     ),
     (
-        &[(b"\x1b]52;", 1), (b"A", 65530), (b"B\x07", 1)],
-        &[("osc part 52;", 1), ("A", 65530), (", osc 52;B", 1)],
-    ),
-    (
-        &[(b"\x1b]52;", 1), (b"A", 65530), (b"\x1bOA", 1)],
-        &[
-            ("osc part 52;", 1),
-            ("A", 65530),
-            (", osc cut 52;, key ApplicationUpArrow NONE", 1),
-        ],
+        65530,
+        b"\x1b]52;{A}\x1bOA",
+        r#"osc part "52;{A}", osc cut "52;", key ApplicationUpArrow NONE"#,
     ),
 ];
 
 // The longest title that can be typed, and the shortest that can't.
 const TITLES: &[LongExample] = &[
+    (251, b"\x1b]l{t}\x1b", "nothing; 255"),
+    (251, b"\x1b]l{t}\x1b\\", "osc \"l{t}\""),
     (
-        &[(b"\x1b]l", 1), (b"t", 251), (b"\x1b", 1)],
-        &[("; 255", 1)],
+        251,
+        b"\x1b]L{t}\x1b[I",
+        "key U+005D ALT, key U+004C NONE{, key U+0074 NONE}, focus gained",
     ),
     (
-        &[(b"\x1b]l", 1), (b"t", 251), (b"\x1b\\", 1)],
-        &[("osc l", 1), ("t", 251)],
+        252,
+        b"\x1b]l{t}\r\x1b[I",
+        r#"osc cut "l{t}\r", focus gained"#,
     ),
-    (
-        &[(b"\x1b]L", 1), (b"t", 251), (b"\x1b[I", 1)],
-        &[
-            ("key Char(']') ALT, key Char('L') NONE", 1),
-            (", key Char('t') NONE", 251),
-            (", focus gained", 1),
-        ],
-    ),
-    (
-        &[(b"\x1b]l", 1), (b"t", 252), (b"\r\x1b[I", 1)],
-        &[("osc cut l", 1), ("t", 252), ("\\r, focus gained", 1)],
-    ),
-    (
-        &[(b"\x1b]l", 1), (b"t", 252), (b"\x07", 1)],
-        &[("osc l", 1), ("t", 252)],
-    ),
+    (252, b"\x1b]l{t}\x07", "osc \"l{t}\""),
 ];
 
 // The same for control sequences, whose limit is 256 bytes; the second is a key report with as long
 // a text as fits.
 const CONTROLS: &[LongExample] = &[
+    (253, b"\x1b[{1}x", "csi \"{1}x\""),
     (
-        &[(b"\x1b[", 1), (b"1", 253), (b"x", 1)],
-        &[("csi ", 1), ("1", 253), ("x", 1)],
+        82,
+        b"\x1b[97;;{65:}229u",
+        r#"key U+0061 NONE text "{A}\xc3\xa5""#,
     ),
     (
-        &[(b"\x1b[97;;", 1), (b"65:", 82), (b"229u", 1)],
-        &[("key Char('a') NONE text \"", 1), ("A", 82), ("å\"", 1)],
+        254,
+        b"\x1b[{1}x",
+        "key U+005B ALT{, key U+0031 NONE}, key U+0078 NONE",
     ),
-    (
-        &[(b"\x1b[", 1), (b"1", 254), (b"x", 1)],
-        &[
-            ("key Char('[') ALT", 1),
-            (", key Char('1') NONE", 254),
-            (", key Char('x') NONE", 1),
-        ],
-    ),
-    (&[(b"\x1b[", 1), (b"1", 253)], &[("; 255", 1)]),
-    (
-        &[(b"\x1b[", 1), (b"1", 254)],
-        &[("key Char('[') ALT", 1), (", key Char('1') NONE", 254)],
-    ),
+    (253, b"\x1b[{1}", "nothing; 255"),
+    (254, b"\x1b[{1}", "key U+005B ALT{, key U+0031 NONE}"),
 ];
 
-// The bytes of the parts.
-pub fn joined<Part: AsRef<[u8]>>(parts: Parts<Part>) -> Vec<u8> {
-    parts
-        .iter()
-        .flat_map(|(part, times)| part.as_ref().repeat(*times))
-        .collect()
+// A text in which what stands in braces is repeated.
+pub fn repeated(text: &[u8], times: usize) -> Vec<u8> {
+    let mut parts = text.split(|byte| matches!(byte, b'{' | b'}'));
+    let mut whole = parts.next().unwrap_or_default().to_vec();
+    while let (Some(part), Some(after)) = (parts.next(), parts.next()) {
+        whole.extend([&part.repeat(times), after].concat());
+    }
+    whole
 }
 
 // The parser reads the text of an example by one call, and in pieces of 64 bytes, with its last
 // byte alone or not.
-fn check(parser: &mut Parser, (parts, wanted): &LongExample) {
-    let (text, wanted) = (joined(parts), joined(wanted));
+fn check(parser: &mut Parser, (times, text, wanted): &LongExample) {
+    let shown = text.escape_ascii();
+    let [text, wanted] = [text, wanted.as_bytes()].map(|it| repeated(it, *times));
     for place in [0, text.len() - 1, text.len()] {
         parser.reset();
         let events = read_cut(parser, &text, MORE, place, 64);
-        assert!(
-            given(&events, parser).as_bytes() == wanted,
-            "{parts:?}, to {place}"
-        );
+        let given = given(&events, parser);
+        assert!(given.as_bytes() == wanted, "{shown}, to {place}");
     }
 }
 

@@ -1,40 +1,50 @@
-// Events as lines of text.
+// Events as lines of tests/cases, and texts in quotes.
+use crate::port::lines::{key_name, ESCAPED};
 use hedrugal::input::{InputEvent, KeyEvent, Modifiers, MouseEvent};
 use hedrugal::{
     Event, KeyEventKind, KeyReport, KittyModifiers, MouseReport, ReportedKey, StringKind,
 };
+use std::fmt::Display;
+
+pub use crate::port::lines::unquoted;
+
+// The names that are in a set, joined by +.
+fn joined(set: impl Display) -> String {
+    set.to_string().replace('|', "+")
+}
 
 fn mouse(report: &MouseReport) -> String {
-    let (x, y, buttons, modifiers) = (report.x, report.y, report.buttons, report.modifiers);
-    let mut line = format!("mouse {x} {y} {buttons} {modifiers} {:?}", report.kind);
-    if let Some(button) = report.button {
-        line += &format!(" {button}");
-    }
-    line
+    let (x, y, button) = (report.x, report.y, report.button.unwrap_or(0));
+    let (buttons, modifiers) = (joined(report.buttons), joined(report.modifiers));
+    let kind = format!("{:?}", report.kind).to_lowercase();
+    format!("mouse {x} {y} {buttons} {modifiers} {kind} {button}")
 }
 
 // A press is not named, nor what the terminal didn't report.
 fn report(report: &KeyReport) -> String {
-    let mut line = match report.key {
-        ReportedKey::Named(key) => format!("key {key:?} {}", report.modifiers),
-        ReportedKey::Functional(number) => format!("key {number} {}", report.modifiers),
+    let key = match report.key {
+        ReportedKey::Named(key) => key_name(key),
+        ReportedKey::Functional(number) => number.to_string(),
     };
-    if report.kind != KeyEventKind::Press {
-        line += &format!(" {:?}", report.kind);
-    }
+    let mut line = format!("key {key} {}", joined(report.modifiers));
+    line += match report.kind {
+        KeyEventKind::Press => "",
+        KeyEventKind::Repeat => " repeat",
+        KeyEventKind::Release => " release",
+    };
     for (name, character) in [("shifted", report.shifted), ("base", report.base)] {
         if let Some(character) = character {
-            line += &format!(" {name} {character:?}");
+            line += &format!(" {name} U+{:04X}", u32::from(character));
         }
     }
     if !report.text.is_empty() {
-        line += &format!(" text {:?}", report.text);
+        line += &format!(" text {}", quoted(report.text.as_bytes()));
     }
     line
 }
 
 // The name of a kind of strings.
-pub fn name_of(kind: StringKind) -> &'static str {
+fn name_of(kind: StringKind) -> &'static str {
     match kind {
         StringKind::Osc => "osc",
         StringKind::Dcs => "dcs",
@@ -42,39 +52,51 @@ pub fn name_of(kind: StringKind) -> &'static str {
     }
 }
 
-fn bytes(name: &str, bytes: &[u8]) -> String {
-    format!("{name} {}", bytes.escape_ascii())
-}
-
 // The line of an event, without its end.
 pub fn line(event: &Event) -> String {
     match event {
         Event::Key(event) => report(event),
         Event::Mouse(event) => mouse(event),
-        Event::Paste(text) => format!("paste {text:?}"),
-        Event::PastePart(text) => format!("paste part {text:?}"),
+        Event::Paste(text) => format!("paste {}", quoted(text.as_bytes())),
+        Event::PastePart(text) => format!("paste part {}", quoted(text.as_bytes())),
         Event::FocusGained => "focus gained".to_string(),
         Event::FocusLost => "focus lost".to_string(),
-        Event::CursorPosition { row, column } => format!("cursor {row} {column}"),
+        Event::CursorPosition { row, column } => format!("position {row} {column}"),
         Event::Resized(size) => format!(
-            "size {} {} {} {}",
+            "resized {} {} {} {}",
             size.rows, size.columns, size.height, size.width
         ),
         Event::KeyboardFlags(flags) => format!("flags {}", flags.bits()),
-        Event::Csi(text) => bytes("csi", text),
-        Event::Osc(text) => bytes("osc", text),
-        Event::Dcs(text) => bytes("dcs", text),
-        Event::Apc(text) => bytes("apc", text),
-        Event::StringPart { kind, bytes: part } => bytes(&format!("{} part", name_of(*kind)), part),
-        Event::StringCut { kind, bytes: cut } => bytes(&format!("{} cut", name_of(*kind)), cut),
+        Event::Csi(text) => format!("csi {}", quoted(text)),
+        Event::Osc(text) => format!("osc {}", quoted(text)),
+        Event::Dcs(text) => format!("dcs {}", quoted(text)),
+        Event::Apc(text) => format!("apc {}", quoted(text)),
+        Event::StringPart { kind, bytes } => format!("{} part {}", name_of(*kind), quoted(bytes)),
+        Event::StringCut { kind, bytes } => format!("{} cut {}", name_of(*kind), quoted(bytes)),
         Event::Resumed => "resumed".to_string(),
     }
 }
 
 // The lines of events, parted by commas.
 pub fn lines(events: &[Event]) -> String {
+    if events.is_empty() {
+        return "nothing".to_string();
+    }
     let lines: Vec<String> = events.iter().map(line).collect();
     lines.join(", ")
+}
+
+// Bytes as a word in quotes.
+pub fn quoted(bytes: &[u8]) -> String {
+    let mut word = String::from("\"");
+    for byte in bytes {
+        match (ESCAPED.iter().find(|(it, _)| it == byte), byte) {
+            (Some((_, letter)), _) => word.extend(['\\', char::from(*letter)]),
+            (None, b'!'..=b'~') => word.push(char::from(*byte)),
+            _ => word += &format!("\\x{byte:02x}"),
+        }
+    }
+    word + "\""
 }
 
 // The event of the port for a key: a press with these modifiers alone, of which nothing else is told.

@@ -1,10 +1,8 @@
 // Long texts, by each way to call the parser.
-use crate::calls::Calls;
-use crate::examples::LAST;
-use crate::limits::{check_all, joined, LongExample};
+use crate::calls::{parsed, Calls, CALLS, LAST};
+use crate::limits::{check_all, repeated, LongExample};
 use crate::lines::lines;
-use crate::parser::{parsed, CALLS};
-use hedrugal::{Dialect, Event, Parser, Waiting};
+use hedrugal::{encode_paste, Dialect, Event, Parser, Waiting};
 
 // A text of one event, by each call as a whole, and in reads of 4096 bytes.
 fn check(text: &[u8], wanted: &Event) {
@@ -29,6 +27,13 @@ fn a_paste_of_100_kb() {
     let paste = Event::Paste(text.clone());
     assert!(text.len() > 100_000);
     check(format!("\x1b[200~{text}\x1b[201~").as_bytes(), &paste);
+}
+
+#[test]
+fn a_paste_of_2_mb_at_once() {
+    let text = "x".repeat(2 << 20);
+    let sent = encode_paste(text.as_bytes(), true);
+    assert!(Parser::new(Dialect::Extended).read(sent.as_bytes(), true) == [Event::Paste(text)]);
 }
 
 #[test]
@@ -87,7 +92,7 @@ fn a_clipboard_of_100_kb() {
             let (kinds, data) = joined_string(&events, opening.len() - 2);
             assert_eq!(kinds, wanted);
             assert!(data == text, "pieces of {size}");
-            assert_eq!(lines(&parser.read(b"q", true)), "key Char('q') NONE");
+            assert_eq!(lines(&parser.read(b"q", true)), "key U+0071 NONE");
         }
     }
 }
@@ -106,27 +111,14 @@ fn events_70000_at_once() {
 
 // A key, and 2000 times 50 bytes, whose 12 events are the same under both readings of the rows.
 const MIXED: LongExample = (
-    &[
-        (b"s", 1),
-        (
-            b"a\x1bOA\x1b[I\x1b[97;5:3u\x1b]0;t\x07\xc3\xa9b\x1b[200~p\x1b[201~\x1b[<0;1;2Mcde",
-            2000,
-        ),
-    ],
-    &[
-        ("key Char('s') NONE", 1),
-        (
-            ", key Char('a') NONE, key ApplicationUpArrow NONE, focus gained, key Char('a') CTRL Release, osc 0;t, key Char('é') NONE\
-             , key Char('b') NONE, paste \"p\", mouse 1 2 LEFT NONE Press 1, key Char('c') NONE, key Char('d') NONE, key Char('e') NONE",
-            2000,
-        ),
-    ],
+    2000,
+    b"s{a\x1bOA\x1b[I\x1b[97;5:3u\x1b]0;t\x07\xc3\xa9b\x1b[200~p\x1b[201~\x1b[<0;1;2Mcde}",
+    "key U+0073 NONE\
+     {, key U+0061 NONE, key ApplicationUpArrow NONE, focus gained, key U+0061 CTRL release, osc \"0;t\", key U+00E9 NONE\
+     , key U+0062 NONE, paste \"p\", mouse 1 2 LEFT NONE press 1, key U+0063 NONE, key U+0064 NONE, key U+0065 NONE}",
 );
 
-const PASTE: LongExample = (
-    &[(b"\x1b[200~", 1), (b"x", 100_000), (b"\x1b[201~", 1)],
-    &[("paste \"", 1), ("x", 100_000), ("\"", 1)],
-);
+const PASTE: LongExample = (100_000, b"\x1b[200~{x}\x1b[201~", "paste \"{x}\"");
 
 #[test]
 fn reads_of_100000_bytes() {
@@ -136,8 +128,8 @@ fn reads_of_100000_bytes() {
 // Each way to call the parser reads many events at once.
 #[test]
 fn mixed_events_at_once() {
-    let (parts, wanted) = MIXED;
-    let (text, wanted) = (joined(parts), joined(wanted));
+    let (times, text, wanted) = MIXED;
+    let [text, wanted] = [text, wanted.as_bytes()].map(|it| repeated(it, times));
     assert_eq!(text.len(), 100_001);
     let mut parser = Parser::new(Dialect::Extended);
     for call in 0..CALLS {

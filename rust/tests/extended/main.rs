@@ -1,11 +1,12 @@
 // A parser, by the crate's public calls alone.
 mod bindings;
 mod calls;
+#[path = "../cases/mod.rs"]
+mod cases;
+mod clock;
 mod compared;
-mod cuts;
 mod draws;
 mod encode;
-mod examples;
 mod generated;
 mod kitty;
 mod limits;
@@ -19,17 +20,18 @@ mod reading;
 mod recorded;
 mod replies;
 mod rows;
-mod runs;
 mod sending;
 mod streams;
+mod terminals;
+mod twins;
 mod waiting;
-mod worked;
 mod written;
 
 // The plain reader of the port, its texts, and how recorded answers are fed. The tests of the port use more of these.
 #[allow(dead_code)]
 #[path = "../parser"]
 mod port {
+    pub mod calls;
     pub mod draws;
     pub mod feeder;
     pub mod lines;

@@ -1,195 +1,12 @@
-// `Parser` on worked examples.
+// A `Parser` and its events as values.
 use crate::calls::Calls;
-use crate::compared::Comparison;
-use crate::cuts::check_cuts;
-use crate::examples::{
-    Example, Step, BARE_KEYS, EXPECTED_POSITIONS, KEYS, KINDS_AND_MODIFIERS, MOUSE_REPORTS,
-    NAMES_AND_FIELDS, OTHERS, PASTES, REPLIES, RXVT_AND_KEYPAD_KEYS, SIDE_BUTTONS, STRINGS,
-    THIRD_FUNCTION_KEYS, X10_REPORTS,
-};
 use crate::lines::lines;
-use crate::port::feeder::at;
+use crate::plain::pressed;
 use hedrugal::input::{InputEvent, InputParser, KeyCode, KittyKeyboardFlags};
 use hedrugal::{
     Dialect, Event, KeyEventKind, KeyReport, KittyModifiers, MouseReport, Parser, Reading,
     ReportedKey, Waiting,
 };
-
-// What a call gave, and how many bytes are buffered after it.
-pub fn given(events: &[Event], parser: &Parser) -> String {
-    let mut given = lines(events);
-    if parser.waiting_len() > 0 {
-        given += &format!("; {}", parser.waiting_len());
-    }
-    if parser.is_paste_open() {
-        given += " in a paste";
-    }
-    given
-}
-
-// Forgets what is buffered, and reads so from now on.
-pub fn begin(parser: &mut Parser, reading: Reading) {
-    parser.reset();
-    parser.set_reading(reading);
-}
-
-// The events of a call, by each way to call the parser.
-pub fn parsed(call: usize, parser: &mut Parser, bytes: &[u8], more: bool) -> Vec<Event> {
-    if call == 0 {
-        return parser.read(bytes, more);
-    }
-    parser.try_feed(at(0), bytes).expect("memory is granted");
-    if !more {
-        parser.flush();
-    }
-    let next = || parser.try_next().expect("memory is granted");
-    std::iter::from_fn(next).collect()
-}
-
-// How many ways there are.
-pub const CALLS: usize = 2;
-
-fn check_steps(parser: &mut Parser, reading: Reading, steps: &[Step]) {
-    for call in 0..CALLS {
-        begin(parser, reading);
-        for (bytes, more, wanted) in steps {
-            let events = parsed(call, parser, bytes, *more);
-            assert_eq!(
-                given(&events, parser),
-                *wanted,
-                "{reading:?} {}, call {call}",
-                bytes.escape_ascii()
-            );
-        }
-    }
-}
-
-// The events of a text in pieces and what is buffered then, and then of a flush.
-fn in_pieces<'a>(
-    parser: &mut Parser,
-    reading: Reading,
-    pieces: impl IntoIterator<Item = &'a [u8]>,
-) -> [String; 2] {
-    begin(parser, reading);
-    let mut events = Vec::new();
-    for bytes in pieces {
-        events.extend(parser.read(bytes, true));
-    }
-    let before = given(&events, parser);
-    let flushed = parser.read(b"", false);
-    [before, given(&flushed, parser)]
-}
-
-// All bytes of an example, byte by byte and cut at each place, give what they give as a whole.
-fn check_pieces(parser: &mut Parser, reading: Reading, steps: &[Step]) {
-    let text: Vec<u8> = steps
-        .iter()
-        .flat_map(|(bytes, _, _)| bytes.iter().copied())
-        .collect();
-    let whole = in_pieces(parser, reading, [&text[..]]);
-    assert_eq!(
-        in_pieces(parser, reading, text.chunks(1)),
-        whole,
-        "{}",
-        text.escape_ascii()
-    );
-    for place in 0..text.len() {
-        assert_eq!(
-            in_pieces(parser, reading, [&text[..place], &text[place..]]),
-            whole,
-            "{}, cut at {place}",
-            text.escape_ascii()
-        );
-    }
-}
-
-// The examples are read by this reading.
-fn check_all_by(reading: Reading, examples: &[Example]) {
-    let mut parser = Parser::new(Dialect::Extended);
-    let mut comparison = Comparison::new(Dialect::Extended);
-    comparison.set_first(reading);
-    for steps in examples {
-        check_steps(&mut parser, reading, steps);
-        check_cuts(&mut parser, reading, steps);
-        check_pieces(&mut parser, reading, steps);
-        comparison.check_steps(steps);
-    }
-}
-
-fn check_all(examples: &[Example]) {
-    check_all_by(Reading::new(Dialect::Extended), examples);
-}
-
-#[test]
-fn replies() {
-    check_all(REPLIES);
-}
-
-#[test]
-fn strings() {
-    check_all(STRINGS);
-}
-
-#[test]
-fn keys() {
-    check_all(KEYS);
-    check_all(KINDS_AND_MODIFIERS);
-    check_all(NAMES_AND_FIELDS);
-}
-
-#[test]
-fn keys_of_other_terminals() {
-    check_all(RXVT_AND_KEYPAD_KEYS);
-    check_all(THIRD_FUNCTION_KEYS);
-    check_all(BARE_KEYS);
-}
-
-#[test]
-fn expected_positions() {
-    let asked = Reading {
-        questions: 2,
-        ..Reading::new(Dialect::Extended)
-    };
-    check_all_by(asked, EXPECTED_POSITIONS);
-}
-
-#[test]
-fn mouse_reports() {
-    check_all(MOUSE_REPORTS);
-    check_all(SIDE_BUTTONS);
-}
-
-#[test]
-fn x10_mouse_reports() {
-    let with_x10 = Reading {
-        x10_mouse: true,
-        ..Reading::new(Dialect::Extended)
-    };
-    check_all_by(with_x10, X10_REPORTS);
-    check_all_by(with_x10, SIDE_BUTTONS);
-}
-
-#[test]
-fn pastes() {
-    check_all(PASTES);
-}
-
-#[test]
-fn others() {
-    check_all(OTHERS);
-}
-
-// A press of a key.
-fn pressed(key: KeyCode, modifiers: KittyModifiers) -> KeyReport {
-    KeyReport {
-        key: ReportedKey::Named(key),
-        modifiers,
-        kind: KeyEventKind::Press,
-        shifted: None,
-        base: None,
-        text: String::new(),
-    }
-}
 
 // A key that is typed is a press, so a program needs one case for both.
 #[test]
@@ -201,25 +18,15 @@ fn finds_keys_of_events() {
     );
     let keys: Vec<Option<KeyReport>> = events.iter().map(|it| it.key().cloned()).collect();
     let held = KittyModifiers::SHIFT | KittyModifiers::ALT | KittyModifiers::CTRL;
+    let key = |key, held| pressed(ReportedKey::Named(key), held);
+    let plain = key(KeyCode::Char('a'), KittyModifiers::NONE);
+    let up = key(KeyCode::UpArrow, held);
     let released = KeyReport {
         kind: KeyEventKind::Release,
-        ..pressed(KeyCode::Char('a'), KittyModifiers::CTRL)
+        ..key(KeyCode::Char('a'), KittyModifiers::CTRL)
     };
-    let plain = pressed(KeyCode::Char('a'), KittyModifiers::NONE);
-    let up = pressed(KeyCode::UpArrow, held);
-    assert_eq!(
-        keys,
-        [
-            Some(plain),
-            Some(up),
-            None,
-            Some(released),
-            None,
-            None,
-            None,
-            None
-        ]
-    );
+    let first = [Some(plain), Some(up), None, Some(released)];
+    assert_eq!(keys, [first, [const { None }; 4]].concat());
 }
 
 // Each key is found as a report, also one with a text and a key of the port.
@@ -237,8 +44,8 @@ fn finds_keys_of_reports() {
         .collect();
     assert_eq!(
         lines(&keys),
-        "key Char('a') NONE, key Char('a') CTRL, key UpArrow SHIFT Release, key Char('a') NONE text \"A\", \
-         key Function(1) NONE"
+        "key U+0061 NONE, key U+0061 CTRL, key UpArrow SHIFT release, key U+0061 NONE text \"A\", \
+         key F1 NONE"
     );
 }
 

@@ -3,23 +3,34 @@
 // port's plain reader. A number in a comment is that of the page's sentence.
 pub mod chords;
 mod forms;
-mod keys;
+pub mod keys;
 mod meanings;
 pub mod names;
 pub mod presses;
 pub mod replies;
+pub mod sending;
 mod strings;
+pub mod timed;
+pub mod twins;
 
-use crate::port::plain::{report_of, PlainReader as PortReader};
+use crate::port::plain::{begins_character, report_of, PlainReader as PortReader};
 use forms::{is_form, is_keypad_key};
 use hedrugal::input::{InputEvent, KeyCode, KeyEvent, Modifiers};
 use hedrugal::{
     Dialect, EraseByte, Event, KeyReport, KittyModifiers, NewlineByte, Reading, ReportedKey,
+    Waiting,
 };
-use meanings::{event_of, pressed, sgr_report};
+use meanings::{event_of, sgr_report};
+use std::sync::OnceLock;
 use strings::{begins_opening, opening_of, string_at};
 
+pub use meanings::pressed;
+
 const ESC: &[u8] = b"\x1b";
+
+const START: &[u8] = b"\x1b[200~";
+
+const END: &[u8] = b"\x1b[201~";
 
 // 8: ends of forms. With one of these each text that properly begins a form is a whole one, and it
 // is no sequence of the port, since no row ends with `x`.
@@ -92,8 +103,11 @@ fn with_alt(event: Event) -> Event {
 // The reader, and how it reads.
 pub struct PlainReader {
     reading: Reading,
-    port: PortReader,
+    port: &'static PortReader,
 }
+
+// The port's reader, whose rows are made once.
+static PORT: OnceLock<PortReader> = OnceLock::new();
 
 // An event, and what its item leaves: what follows its bytes, after an opening that it put back.
 type Item = (Event, Vec<u8>);
@@ -102,7 +116,7 @@ impl PlainReader {
     pub fn new(reading: Reading) -> PlainReader {
         PlainReader {
             reading,
-            port: PortReader::new(),
+            port: PORT.get_or_init(PortReader::new),
         }
     }
 
@@ -280,15 +294,34 @@ impl PlainReader {
             .any(|text| self.is_extra_at(text) || self.begins_more(text))
     }
 
+    // The first event of a text under a flag, which is noted, and what is left.
+    pub fn next(&mut self, text: &[u8], more: bool) -> Option<(Event, Vec<u8>)> {
+        let (event, left) = self.item_at(text, more)?;
+        self.note(&event);
+        Some((event, left))
+    }
+
     // 13: the events of a text under a flag, and the rest that stays buffered. Each event is noted
     // before the next item is matched.
     pub fn read(&mut self, text: &[u8], more: bool) -> (Vec<Event>, Vec<u8>) {
         let (mut events, mut rest) = (Vec::new(), text.to_vec());
-        while let Some((event, left)) = self.item_at(&rest, more) {
-            self.note(&event);
+        while let Some((event, left)) = self.next(&rest, more) {
             events.push(event);
             rest = left;
         }
         (events, rest)
+    }
+
+    // The kind of what stays buffered with more to come.
+    pub fn kind_of(&self, rest: &[u8]) -> Waiting {
+        let is_extended = self.reading.dialect == Dialect::Extended;
+        match rest {
+            [] => Waiting::Nothing,
+            _ if rest.starts_with(START) => Waiting::Paste,
+            _ if is_extended && self.is_string(rest) => Waiting::String,
+            b"\x1b" | b"\x1b\x1b" => Waiting::Escape,
+            _ if begins_character(rest.strip_prefix(ESC).unwrap_or(rest)) => Waiting::Character,
+            _ => Waiting::Sequence,
+        }
     }
 }

@@ -1,8 +1,6 @@
 // How a parser reads: the reading that it begins with, what changes it, and what is buffered then.
-use crate::calls::Calls;
-use crate::examples::BOTH;
+use crate::calls::{given, Calls, BOTH};
 use crate::lines::lines;
-use crate::parser::given;
 use crate::port::feeder::at;
 use hedrugal::{Dialect, EraseByte, NewlineByte, Parser, Reading};
 
@@ -62,16 +60,16 @@ fn tells_the_reading() {
 #[test]
 fn expects_each_position_once() {
     let mut parser = Parser::new(Dialect::Extended);
-    let f3 = "key Function(3) CTRL";
+    let f3 = "key F3 CTRL";
     assert_eq!(read(&mut parser, b"\x1b[1;5R"), f3);
     parser.expect_position();
     parser.expect_position();
     assert_eq!(questions(&parser), 2);
-    assert_eq!(read(&mut parser, b"\x1b[1;5R"), "cursor 1 5");
+    assert_eq!(read(&mut parser, b"\x1b[1;5R"), "position 1 5");
     assert_eq!(questions(&parser), 1);
     assert_eq!(
         read(&mut parser, b"\x1b[24;80R\x1b[1;5R"),
-        format!("cursor 24 80, {f3}")
+        format!("position 24 80, {f3}")
     );
     assert_eq!(questions(&parser), 0);
 }
@@ -80,7 +78,7 @@ fn expects_each_position_once() {
 #[test]
 fn counts_from_0_to_255() {
     let mut parser = Parser::new(Dialect::Extended);
-    assert_eq!(read(&mut parser, b"\x1b[?24;80R"), "cursor 24 80");
+    assert_eq!(read(&mut parser, b"\x1b[?24;80R"), "position 24 80");
     assert_eq!(questions(&parser), 0);
     for count in 1..=300 {
         parser.expect_position();
@@ -98,13 +96,13 @@ fn forgets_positions() {
     let mut parser = Parser::new(Dialect::Extended);
     parser.expect_position();
     parser.expect_position();
-    assert_eq!(read(&mut parser, b"\x1b[1;"), "; 4");
+    assert_eq!(read(&mut parser, b"\x1b[1;"), "nothing; 4");
     parser.forget_positions();
     assert_eq!((questions(&parser), parser.waiting_len()), (0, 4));
-    assert_eq!(read(&mut parser, b"5R"), "key Function(3) CTRL");
-    assert_eq!(read(&mut parser, b"\x1b[1;"), "; 4");
+    assert_eq!(read(&mut parser, b"5R"), "key F3 CTRL");
+    assert_eq!(read(&mut parser, b"\x1b[1;"), "nothing; 4");
     parser.expect_position();
-    assert_eq!(read(&mut parser, b"5R"), "cursor 1 5");
+    assert_eq!(read(&mut parser, b"5R"), "position 1 5");
     parser.forget_positions();
     assert_eq!(questions(&parser), 0);
 }
@@ -114,12 +112,12 @@ fn forgets_positions() {
 fn keeps_questions_over_a_pause() {
     let mut parser = Parser::new(Dialect::Extended);
     parser.expect_position();
-    assert_eq!(read(&mut parser, b"\x1b"), "; 1");
+    assert_eq!(read(&mut parser, b"\x1b"), "nothing; 1");
     assert_eq!(lines(&parser.read(b"", false)), "key Escape NONE");
-    assert_eq!(read(&mut parser, b"\x1b[1;2"), "; 5");
+    assert_eq!(read(&mut parser, b"\x1b[1;2"), "nothing; 5");
     assert!(!parser.read(b"", false).is_empty());
     assert_eq!(questions(&parser), 1);
-    assert_eq!(read(&mut parser, b"\x1b[1;2R"), "cursor 1 2");
+    assert_eq!(read(&mut parser, b"\x1b[1;2R"), "position 1 2");
 }
 
 // A reset forgets questions alone of the reading.
@@ -134,12 +132,12 @@ fn resets_questions() {
         questions: 7,
         ..with_x10
     });
-    assert_eq!(read(&mut parser, b"\x1b[M!"), "; 4");
+    assert_eq!(read(&mut parser, b"\x1b[M!"), "nothing; 4");
     assert_eq!(parser.reset(), 4);
     assert_eq!(parser.reading(), with_x10);
     assert_eq!(
         read(&mut parser, b"\x1b[M !!"),
-        "mouse 1 1 LEFT NONE Press 1"
+        "mouse 1 1 LEFT NONE press 1"
     );
     parser.expect_position();
     assert_eq!(parser.reset(), 0);
@@ -158,12 +156,9 @@ fn reads_what_is_buffered_anew() {
     );
     parser.feed(at(0), b"\x1b[1;9A\x08");
     parser.set_reading(Reading::new(Dialect::Extended));
-    assert_eq!(
-        read(&mut parser, b""),
-        r"key UpArrow SUPER, key Char('\u{8}') NONE"
-    );
-    assert_eq!(read(&mut parser, b"\x1b\x1b[97;5"), "; 7");
-    assert_eq!(read(&mut parser, b"u"), "key Char('a') ALT|CTRL");
+    assert_eq!(read(&mut parser, b""), "key UpArrow SUPER, key U+0008 NONE");
+    assert_eq!(read(&mut parser, b"\x1b\x1b[97;5"), "nothing; 7");
+    assert_eq!(read(&mut parser, b"u"), "key U+0061 ALT+CTRL");
 }
 
 // Between two events of one read the reading may change too.
@@ -179,7 +174,7 @@ fn changes_between_events() {
     let newline = NewlineByte::Enter;
     assert_eq!(next(extended), "key UpArrow SUPER");
     assert_eq!(next(Reading::new(Dialect::Termwiz)), "key UpArrow ALT");
-    assert_eq!(next(extended), r"key Char('\n') NONE");
+    assert_eq!(next(extended), "key U+000A NONE");
     assert_eq!(
         next(Reading {
             newline,
@@ -187,7 +182,7 @@ fn changes_between_events() {
         }),
         "key Enter NONE"
     );
-    assert_eq!(next(extended), "");
+    assert_eq!(next(extended), "nothing");
 }
 
 // The beginning of an X10 report is decided once these are read no longer.
@@ -199,12 +194,12 @@ fn decides_the_beginning_of_a_mouse_report() {
         x10_mouse: true,
         ..without_x10
     });
-    assert_eq!(read(&mut parser, b"\x1b[M !"), "; 5");
+    assert_eq!(read(&mut parser, b"\x1b[M !"), "nothing; 5");
     parser.set_reading(without_x10);
     assert_eq!(parser.waiting_len(), 5);
     assert_eq!(
         read(&mut parser, b""),
-        "csi M, key Char(' ') NONE, key Char('!') NONE"
+        "csi \"M\", key U+0020 NONE, key U+0021 NONE"
     );
 }
 
@@ -215,11 +210,11 @@ fn keeps_pastes_and_strings() {
     for (begin, waiting, end, wanted) in [
         (
             &b"\x1b[200~\x1b[1;5R"[..],
-            "; 12 in a paste",
+            "nothing; 12 in a paste",
             &b"\x1b[201~"[..],
-            "paste \"\\u{1b}[1;5R\"",
+            "paste \"\\e[1;5R\"",
         ),
-        (b"\x1b]0;t", "; 5", b"\x07", "osc 0;t"),
+        (b"\x1b]0;t", "nothing; 5", b"\x07", "osc \"0;t\""),
     ] {
         assert_eq!(read(&mut parser, begin), waiting);
         parser.expect_position();

@@ -1,12 +1,12 @@
 // The answers in tests/recorded, and the port's on generated texts. By termwiz's dialect a
 // parser gives the same. By its own it does, but for the bytes 8, 10 and 127, and where an extra
 // sequence occurs or has begun.
+use crate::calls::Calls;
 use crate::compared::Comparison;
-use crate::cuts::read_cut;
-use crate::lines::{self, name_of, port_of};
+use crate::lines::{self, port_of};
 use crate::port::draws::Draws;
-use crate::port::feeder::{answer, at, data, feed_file, told, Counts, Feeder, Reader};
-use crate::port::lines::{bytes, hex, line};
+use crate::port::feeder::{answer, feed_file, told, Counts, Feeder, Reader};
+use crate::port::lines::{hex, line};
 use crate::port::plain::PlainReader as PortReader;
 use hedrugal::input::InputParser;
 use hedrugal::{Dialect, Event, Parser};
@@ -16,26 +16,12 @@ impl Reader for Parser {
         Parser::reset(self);
     }
 
-    fn call(&mut self, now: u64, bytes: &[u8], more: bool) -> Vec<String> {
-        self.feed(at(now), bytes);
-        if !more {
-            self.flush();
-        }
-        self.map(|event| answer_line(&event)).collect()
+    fn call(&mut self, bytes: &[u8], more: bool) -> Vec<String> {
+        self.read(bytes, more).iter().map(answer_line).collect()
     }
 
     fn waiting_len(&self) -> usize {
         Parser::waiting_len(self)
-    }
-
-    fn timeout(&mut self, now: u64) -> Option<u64> {
-        let left = Parser::timeout(self, at(now))?;
-        Some(left.as_millis() as u64)
-    }
-
-    fn idle(&mut self, now: u64) -> Vec<String> {
-        Parser::idle(self, at(now));
-        self.map(|event| answer_line(&event)).collect()
     }
 
     fn check_other(&mut self, came: &str, _: &[u8], wanted: &str) {
@@ -43,20 +29,11 @@ impl Reader for Parser {
     }
 }
 
-// The line of an event: that of the port, if it has one. Of a string the number of its bytes and the
-// bytes.
-pub fn answer_line(event: &Event) -> String {
-    let of = |name: &str, bytes: &[u8]| format!("{name} {}:{}", bytes.len(), hex(bytes));
-    if let Some(event) = port_of(event) {
-        return line(&event);
-    }
-    match event {
-        Event::Osc(bytes) => of("osc", bytes),
-        Event::Dcs(bytes) => of("dcs", bytes),
-        Event::Apc(bytes) => of("apc", bytes),
-        Event::StringPart { kind, bytes } => of(&format!("{} part", name_of(*kind)), bytes),
-        Event::StringCut { kind, bytes } => of(&format!("{} cut", name_of(*kind)), bytes),
-        event => lines::line(event),
+// The line of an event: that of the port, if it has one.
+fn answer_line(event: &Event) -> String {
+    match port_of(event) {
+        Some(event) => line(&event),
+        None => lines::line(event),
     }
 }
 
@@ -89,21 +66,13 @@ impl Reader for OwnReader {
         self.is_other = false;
     }
 
-    fn call(&mut self, now: u64, bytes: &[u8], more: bool) -> Vec<String> {
+    fn call(&mut self, bytes: &[u8], more: bool) -> Vec<String> {
         self.calls.push((bytes.to_vec(), more));
-        self.parser.call(now, bytes, more)
+        self.parser.call(bytes, more)
     }
 
     fn waiting_len(&self) -> usize {
         self.parser.waiting_len()
-    }
-
-    fn timeout(&mut self, now: u64) -> Option<u64> {
-        Reader::timeout(&mut self.parser, now)
-    }
-
-    fn idle(&mut self, now: u64) -> Vec<String> {
-        Reader::idle(&mut self.parser, now)
     }
 
     // The plain reader answers the calls as the parser does. In the first other answer there is an
@@ -157,70 +126,6 @@ fn rows() {
 #[test]
 fn cases() {
     check("parse-cases.txt");
-}
-
-#[test]
-fn rules() {
-    check("rules.txt");
-}
-
-#[test]
-fn examples() {
-    check("examples.txt");
-}
-
-#[test]
-fn times() {
-    check("times.txt");
-}
-
-// The calls of a line, each cut in this way, have the answers of the line.
-fn check_cut(
-    parser: &mut Parser,
-    calls: &[(Vec<u8>, bool)],
-    answers: &str,
-    place: usize,
-    size: usize,
-) {
-    parser.reset();
-    let mut fed = Vec::new();
-    let came: Vec<String> = calls
-        .iter()
-        .map(|(bytes, more)| {
-            let events = read_cut(parser, bytes, *more, place, size);
-            fed.extend_from_slice(bytes);
-            let lines: Vec<String> = events.iter().map(answer_line).collect();
-            answer(&lines, &fed[fed.len() - parser.waiting_len()..])
-        })
-        .collect();
-    assert_eq!(came.join(" | "), answers, "to {place} in pieces of {size}");
-}
-
-// The worked strings: as they stand, with each call cut at each place, and as the plain reader reads
-// them.
-#[test]
-fn strings() {
-    let mut parser = Parser::new(Dialect::Extended);
-    assert_eq!(feed_file(&mut parser, "strings.txt"), told("strings.txt"));
-    let mut comparison = Comparison::new(Dialect::Extended);
-    for line in data("strings.txt").lines() {
-        let Some((given, answers)) = line.split_once(" = ") else {
-            continue;
-        };
-        if given.contains(':') {
-            continue;
-        }
-        let calls: Vec<(Vec<u8>, bool)> = given
-            .split(' ')
-            .map(|call| (bytes(&call[1..]), call.starts_with('+')))
-            .collect();
-        let longest = calls.iter().map(|(bytes, _)| bytes.len()).max();
-        for place in 0..=longest.unwrap_or(0) {
-            check_cut(&mut parser, &calls, answers, place, 1);
-            check_cut(&mut parser, &calls, answers, place, place.max(1));
-        }
-        comparison.check_calls(&calls);
-    }
 }
 
 // 5000 texts that the port's generated tests draw, each whole, cut in two at each place and byte by

@@ -1,137 +1,83 @@
-// Pasted texts and mouse reports that are sent, and read back.
-use crate::calls::Calls;
-use hedrugal::input::{InputEvent, InputParser};
+// Pasted texts and mouse reports: whole tables of what is sent, beside a plain model.
+use crate::cases::is_one_paste;
+use crate::plain::sending::{mouse, safe, BUTTONS, ENCODINGS, TRACKINGS};
 use hedrugal::{
-    encode_paste, Dialect, Event, Modifiers, MouseButton, MouseButtons, MouseEncoding, MouseError,
-    MouseKind, MouseReport, MouseTracking, Parser, Reading, SentMouse,
+    encode_paste, Modifiers, MouseButton, MouseEncoding, MouseError, MouseTracking, SentMouse,
 };
 
-// Texts, and what they are made.
-const PASTES: [(&[u8], &str); 7] = [
-    (b"two\nlines\r\n", "two\rlines\r"),
-    (b"a\x1b[201~b", "a␛[201~b"),
-    (b"\x1b[20\x1b[201~1~", "␛[20␛[201~1~"),
-    (b"\0\x03\t\x7f", "␀␃\t␡"),
-    (b"\xc2\x9b201~\x9b", "\u{fffd}201~\u{fffd}"),
-    (b"\r\r\n\n", "\r\r\r"),
-    (b"", ""),
-];
+#[test]
+fn a_paste_of_escapes() {
+    is_one_paste(&[0x1b; 1000], "␛".repeat(1000).as_bytes());
+}
 
-fn is_one_paste(text: &[u8], safe: &str) {
-    let sent = encode_paste(text, true);
-    let paste = || InputEvent::Paste(safe.to_string());
-    assert_eq!(sent, format!("\x1b[200~{safe}\x1b[201~"));
-    assert_eq!(encode_paste(text, false), safe);
-    let mut port = InputParser::new();
-    assert_eq!(port.parse_as_vec(sent.as_bytes(), true), [paste()]);
-    let mut extended = Parser::new(Dialect::Extended);
-    let events = extended.read(sent.as_bytes(), true);
-    assert_eq!(events, [Event::Paste(safe.to_string())]);
-    assert_eq!(
-        (port.parser().waiting_len(), extended.waiting_len()),
-        (0, 0)
-    );
+// Each character, with a letter before it and alone.
+#[test]
+fn each_character_of_a_paste() {
+    let text: String = ('\0'..=char::MAX).flat_map(|it| ['x', it]).collect();
+    assert_eq!(text.chars().count(), 2 * (0x110000 - 0x800));
+    assert!(encode_paste(text.as_bytes(), false) == safe(&text));
+    for character in '\0'..'\u{3000}' {
+        let text = character.to_string();
+        is_one_paste(text.as_bytes(), safe(&text).as_bytes());
+    }
+}
+
+// The sets of the modifiers that are sent.
+fn sets() -> impl Iterator<Item = Modifiers> {
+    let flags = [Modifiers::SHIFT, Modifiers::ALT, Modifiers::CTRL];
+    (0..8).map(move |bits| {
+        let held = (0..3).filter(|place| bits >> place & 1 == 1);
+        held.fold(Modifiers::NONE, |set, place| set | flags[place])
+    })
+}
+
+// The columns and rows at the limits of the encodings.
+const PLACES: [u16; 9] = [0, 1, 94, 95, 223, 224, 2015, 2016, 65535];
+
+// Sends a report in each mode and encoding.
+fn check_mouse(report: SentMouse) {
+    for (_, tracking) in TRACKINGS {
+        for (_, encoding) in ENCODINGS {
+            let wanted = mouse(report, *tracking, *encoding);
+            for sent in [
+                report.encode(*tracking, *encoding),
+                report.try_encode(*tracking, *encoding),
+            ] {
+                assert_eq!(sent, wanted, "{report:?} {tracking:?} {encoding:?}");
+            }
+        }
+    }
 }
 
 #[test]
-fn pastes_are_made_safe_and_read_back() {
-    for (text, safe) in PASTES {
-        is_one_paste(text, safe);
+fn each_mouse_report() {
+    let buttons = BUTTONS.iter().map(|(_, button)| *button);
+    for (button, modifiers) in buttons.flat_map(|button| sets().map(move |set| (button, set))) {
+        for x in PLACES {
+            for y in PLACES {
+                check_mouse(SentMouse {
+                    x,
+                    y,
+                    button,
+                    modifiers,
+                });
+            }
+        }
     }
-    is_one_paste(&[0x1b; 1000], &"␛".repeat(1000));
 }
 
-fn report(x: u16, y: u16, button: MouseButton, modifiers: Modifiers) -> SentMouse {
-    SentMouse {
-        x,
-        y,
-        button,
+// Other modifiers aren't sent, and a bit that no flag has is refused.
+#[test]
+fn other_modifiers() {
+    let report = |modifiers| SentMouse {
+        x: 1,
+        y: 1,
+        button: MouseButton::None,
         modifiers,
-    }
-}
-
-// The report that the bytes are read as, by a parser that reads X10 mouse reports.
-fn read(bytes: &[u8]) -> Option<MouseReport> {
-    let mut parser = Parser::new(Dialect::Extended);
-    parser.set_reading(Reading {
-        x10_mouse: true,
-        ..Reading::default()
-    });
-    let events = parser.read(bytes, true);
-    assert_eq!(parser.waiting_len(), 0);
-    match &events[..] {
-        [] => None,
-        [Event::Mouse(report)] => Some(*report),
-        _ => panic!("{events:?}"),
-    }
-}
-
-#[test]
-fn mouse_reports_are_read_back() {
-    use MouseEncoding::{Default, Sgr, Urxvt};
-    let drag = report(80, 24, MouseButton::Button2Drag, Modifiers::SHIFT);
-    let released = report(1, 1, MouseButton::Button1Release, Modifiers::CTRL);
-    let far = report(223, 95, MouseButton::Button1Press, Modifiers::NONE);
-    let (none, middle) = (MouseButtons::NONE, MouseButtons::MIDDLE);
-    for (it, tracking, encoding, sent, (kind, buttons, button)) in [
-        (
-            drag,
-            MouseTracking::Button,
-            Sgr,
-            &b"\x1b[<37;80;24M"[..],
-            (MouseKind::Drag, middle, Some(2)),
-        ),
-        (
-            released,
-            MouseTracking::Normal,
-            Default,
-            b"\x1b[M3!!",
-            (MouseKind::Release, none, None),
-        ),
-        (
-            released,
-            MouseTracking::Normal,
-            Sgr,
-            b"\x1b[<16;1;1m",
-            (MouseKind::Release, none, Some(1)),
-        ),
-        (
-            released,
-            MouseTracking::Any,
-            Urxvt,
-            b"\x1b[51;1;1M",
-            (MouseKind::Release, none, None),
-        ),
-        (
-            far,
-            MouseTracking::X10,
-            Default,
-            b"\x1b[M \xff\x7f",
-            (MouseKind::Press, MouseButtons::LEFT, Some(1)),
-        ),
-    ] {
-        assert_eq!(it.encode(tracking, encoding).as_deref(), Ok(sent));
-        let event = MouseReport {
-            x: it.x,
-            y: it.y,
-            modifiers: it.modifiers,
-            buttons,
-            kind,
-            button,
-        };
-        assert_eq!(read(sent), Some(event));
-    }
-    assert_eq!(
-        drag.encode(MouseTracking::Normal, Sgr).as_deref(),
-        Ok(&b""[..])
-    );
-}
-
-#[test]
-fn what_is_no_report() {
+    };
     let encode = |it: SentMouse| it.encode(MouseTracking::Any, MouseEncoding::Default);
-    let far = report(1, 224, MouseButton::None, Modifiers::NONE);
-    let unnamed = report(1, 1, MouseButton::None, Modifiers::from_bits_retain(1));
-    assert_eq!(encode(far), Err(MouseError::TooFar));
+    let others = Modifiers::all() - Modifiers::SHIFT - Modifiers::ALT - Modifiers::CTRL;
+    assert_eq!(encode(report(others)), encode(report(Modifiers::NONE)));
+    let unnamed = report(Modifiers::from_bits_retain(1));
     assert_eq!(encode(unnamed), Err(MouseError::UnnamedBits));
 }

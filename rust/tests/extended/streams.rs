@@ -2,67 +2,11 @@
 // pause flushes is flushed in time.
 use crate::calls::Calls;
 use crate::draws::Draws;
-use crate::lines::port_of;
+use crate::lines::{line, port_of};
 use crate::plain::PlainReader;
-use crate::port::feeder::{events_in_time, Reader, Timed};
-use crate::recorded::answer_line;
-use crate::waiting::{limit_of, LIMITS};
+use crate::port::feeder::at;
+use crate::waiting::{different_limits, limit_of};
 use hedrugal::{Dialect, Event, Parser, Reading, Waiting};
-
-const SYMBOLS: &[&[u8]] = &[
-    b"\x1b",
-    b"\x1b[",
-    b"\x1b[M",
-    b"\x1b[[",
-    b"\x1bO",
-    b"\x1b]",
-    b"\x1bP",
-    b"\x1b_",
-    b"\x1b\\",
-    b"\x07",
-    b"\\",
-    b"1",
-    b"27",
-    b"97",
-    b";",
-    b":",
-    b"?",
-    b"A",
-    b"R",
-    b"Z",
-    b"u",
-    b"~",
-    b"x",
-    b"\xc3\xa9",
-    b"\xe2\x82",
-    b"\xff",
-    b"\r",
-    b"\x1b[I",
-    b"\x1b[24;80R",
-    b"\x1b[1;5R",
-    b"\x1b[1;2:3A",
-    b"\x1b[R",
-    b"\x1b[3^",
-    b"\x1b[24$",
-    b"\x1b[D",
-    b"\x1bO5P",
-    b"\x1bO0;",
-    b"\x1bO1;",
-    b"2j",
-    b"2P",
-    b"\x1bOq",
-    b"\x1b[97;5u",
-    b"\x1b]0;t\x07",
-    b"\x1b]4;",
-    b"\x1bP>|",
-    b"\x1b_Gi=",
-    b"\x1b[<0;3;4M",
-    b"\x1b[<129;3;4M",
-    b"\x1b[M ",
-    b"!\xff",
-    b"\x1b[200~",
-    b"\x1b[201~",
-];
 
 // What comes of a text: the events, how many bytes are buffered before a flush, and the reading at
 // the end.
@@ -89,7 +33,7 @@ fn cuts_change_nothing() {
     let mut extra = 0;
     for _ in 0..5000 {
         let count = 1 + draws.below(20);
-        let text = draws.text(count, SYMBOLS);
+        let text = draws.text(count, "streams");
         let reading = draws.reading(Dialect::Extended);
         let whole = read(&mut parser, reading, &text, text.len());
         for piece in [1, 2, 3, 7] {
@@ -109,17 +53,8 @@ fn cuts_change_nothing() {
     assert!(extra > 5000, "{extra}");
 }
 
-// What a rest is.
-fn kind_of(reader: &PlainReader, rest: &[u8]) -> Waiting {
-    match rest {
-        [] => Waiting::Nothing,
-        [0x1b] | [0x1b, 0x1b] => Waiting::Escape,
-        _ if rest.starts_with(b"\x1b[200~") => Waiting::Paste,
-        _ if reader.is_string(rest) => Waiting::String,
-        [byte, ..] | [0x1b, byte, ..] if !byte.is_ascii() => Waiting::Character,
-        _ => Waiting::Sequence,
-    }
-}
+// What comes at a time: bytes, or the lines of events.
+type Timed<T> = (u64, T);
 
 // What is buffered, when its first byte came to the front, and when bytes last came.
 #[derive(Default)]
@@ -132,8 +67,8 @@ struct Rest {
 impl Rest {
     // When it is due.
     fn due(&self, reader: &PlainReader) -> Option<u64> {
-        let kind = kind_of(reader, &self.bytes);
-        let limit = limit_of(&LIMITS, &self.bytes, kind)?.as_millis() as u64;
+        let kind = reader.kind_of(&self.bytes);
+        let limit = limit_of(different_limits(), &self.bytes, kind)?.as_millis() as u64;
         Some(match kind {
             Waiting::Escape | Waiting::Paste => self.last + limit,
             _ => self.first + limit,
@@ -174,7 +109,7 @@ fn plain_events(
     let (mut rest, mut events) = (Rest::default(), Vec::new());
     let mut note = |time: u64, came: Vec<Event>| {
         if !came.is_empty() {
-            events.push((time, came.iter().map(answer_line).collect()));
+            events.push((time, came.iter().map(line).collect()));
         }
     };
     for ((time, bytes), is_asked) in reads.iter().zip(asks) {
@@ -192,38 +127,38 @@ fn plain_events(
     events
 }
 
-// A parser that expects a position before some of the reads.
-struct Asking<'a> {
-    parser: &'a mut Parser,
-    asks: std::slice::Iter<'a, bool>,
-}
-
-impl Reader for Asking<'_> {
-    fn reset(&mut self) {
-        Reader::reset(self.parser);
-    }
-
-    fn call(&mut self, now: u64, bytes: &[u8], more: bool) -> Vec<String> {
-        if self.asks.next() == Some(&true) {
-            self.parser.expect_position();
+// The events of a parser, in the loop of a program: it waits as long as the parser says, or until the next
+// read. Bytes that come at the last moment come first. With a `step` it wakes so often besides.
+fn events_in_time(
+    parser: &mut Parser,
+    reads: &[Timed<Vec<u8>>],
+    asks: &[bool],
+    step: Option<u64>,
+) -> Vec<Timed<Vec<String>>> {
+    let (mut events, mut now) = (Vec::new(), 0);
+    let mut reads = reads.iter().zip(asks).peekable();
+    loop {
+        let left = parser.timeout(at(now)).map(|it| it.as_millis() as u64);
+        let due = left.map(|left| now + left.min(step.unwrap_or(left)));
+        let read = reads.next_if(|((time, _), _)| due.map_or(true, |due| *time <= due));
+        match (read, due) {
+            (Some(((time, bytes), is_asked)), _) => {
+                now = *time;
+                if *is_asked {
+                    parser.expect_position();
+                }
+                parser.feed(at(now), bytes);
+            }
+            (None, Some(due)) => {
+                now = due;
+                parser.idle(at(now));
+            }
+            (None, None) => return events,
         }
-        self.parser.call(now, bytes, more)
-    }
-
-    fn waiting_len(&self) -> usize {
-        self.parser.waiting_len()
-    }
-
-    fn timeout(&mut self, now: u64) -> Option<u64> {
-        Reader::timeout(self.parser, now)
-    }
-
-    fn idle(&mut self, now: u64) -> Vec<String> {
-        Reader::idle(self.parser, now)
-    }
-
-    fn check_other(&mut self, came: &str, waiting: &[u8], wanted: &str) {
-        self.parser.check_other(came, waiting, wanted);
+        let came: Vec<String> = parser.map(|event| line(&event)).collect();
+        if !came.is_empty() {
+            events.push((now, came));
+        }
     }
 }
 
@@ -231,24 +166,21 @@ impl Reader for Asking<'_> {
 fn pauses_flush_in_time() {
     let (mut draws, mut parser) = (Draws::new(32), Parser::new(Dialect::Extended));
     let mut reader = PlainReader::new(Reading::new(Dialect::Extended));
-    parser.set_policy(LIMITS);
+    parser.set_policy(different_limits());
     let mut flushed = 0;
-    for _ in 0..2000 {
+    for number in 0..2000 {
         let (mut time, mut reads, mut asks) = (0, Vec::new(), Vec::new());
         let reading = draws.reading(Dialect::Extended);
         parser.set_reading(reading);
         reader.set_reading(reading);
         for _ in 0..=draws.below(12) {
             let count = 1 + draws.below(3);
-            reads.push((time, draws.text(count, SYMBOLS)));
+            reads.push((time, draws.text(count, "streams")));
             asks.push(draws.below(4) == 0);
             time += [0, 5, 9, 10, 11, 19, 20, 21, 30, 45, 51, 70][draws.below(12)];
         }
-        let mut asking = Asking {
-            parser: &mut parser,
-            asks: asks.iter(),
-        };
-        let events = events_in_time(&mut asking, &reads, None);
+        let step = (number % 2 == 1).then_some(1);
+        let events = events_in_time(&mut parser, &reads, &asks, step);
         let wanted = plain_events(&mut reader, &reads, &asks);
         assert_eq!(events, wanted, "{reading:?}, {reads:?}, {asks:?}");
         assert_eq!(parser.reading(), reader.reading());

@@ -1,43 +1,11 @@
 // What stays buffered, and what a flush, time and a reset do with it.
-use crate::calls::Calls;
+use crate::calls::{parser_by, Calls};
+use crate::cases::{each_rest, limit_named, LIMITS};
 use crate::lines::lines;
+use crate::plain::timed;
 use crate::port::feeder::at;
-use hedrugal::{Dialect, Parser, Policy, Reading, Waiting};
+use hedrugal::{Dialect, Parser, Policy, Waiting};
 use std::time::Duration;
-
-// What stays buffered of a text, and its kind.
-const RESTS: &[(&[u8], Waiting)] = &[
-    (b"", Waiting::Nothing),
-    (b"\x1b", Waiting::Escape),
-    (b"\x1b\x1b", Waiting::Escape),
-    (b"\x1b[", Waiting::Sequence),
-    (b"\x1bO", Waiting::Sequence),
-    (b"\x1b[24;8", Waiting::Sequence),
-    (b"\x1b[?62;2", Waiting::Sequence),
-    (b"\x1b\x1b[97;5:", Waiting::Sequence),
-    (b"\x1bO2", Waiting::Sequence),
-    (b"\x1bO0;", Waiting::Sequence),
-    (b"\x1b\x1bO0;5", Waiting::Sequence),
-    (b"\x1b[24", Waiting::Sequence),
-    (b"\x1b[[", Waiting::Sequence),
-    (b"\x1b]", Waiting::Sequence),
-    (b"\x1b]12345", Waiting::Sequence),
-    (b"\x1b\x1b]l", Waiting::Sequence),
-    (b"\x1b]Ltitle\r\x1b", Waiting::Sequence),
-    (b"\x1bP0+", Waiting::Sequence),
-    (b"\x1b\x1bP@kitty", Waiting::Sequence),
-    (b"\x1b_Gi", Waiting::Sequence),
-    (b"\x1b]0;\xc3", Waiting::String),
-    (b"\x1b]0;a\x1b", Waiting::String),
-    (b"\x1b]11;\r\n", Waiting::String),
-    (b"\x1bP>|", Waiting::String),
-    (b"\x1bP0+r\x07", Waiting::String),
-    (b"\x1b_Gi=31", Waiting::String),
-    (b"\xe2\x82", Waiting::Character),
-    (b"\x1b\xe2\x82", Waiting::Character),
-    (b"\x1b[200~", Waiting::Paste),
-    (b"\x1b[200~a\x1b]0;\x1b[20", Waiting::Paste),
-];
 
 fn check_rest(parser: &Parser, rest: &[u8], kind: Waiting) {
     assert_eq!(
@@ -56,42 +24,29 @@ fn check_rest(parser: &Parser, rest: &[u8], kind: Waiting) {
 
 // Calls with a parser, and each text that stays buffered in it and its kind.
 fn for_each_rest(check: impl Fn(&mut Parser, &[u8], Waiting)) {
-    let mut parser = Parser::new(Dialect::Extended);
-    for (rest, kind) in RESTS {
+    each_rest(|reading, rest| {
+        let mut parser = parser_by(reading);
         assert_eq!(parser.read(rest, true), []);
-        check_rest(&parser, rest, *kind);
-        check(&mut parser, rest, *kind);
-        parser.reset();
-    }
+        let kind = parser.waiting();
+        check_rest(&parser, rest, kind);
+        check(&mut parser, rest, kind);
+    });
 }
 
 #[test]
 fn tells_kinds() {
     for_each_rest(|parser, rest, kind| {
+        let reading = parser.reading();
         assert_eq!((parser.reset(), parser.reset()), (rest.len(), 0));
         check_rest(parser, b"", Waiting::Nothing);
+        parser.set_reading(reading);
         for byte in rest.chunks(1) {
             assert_eq!(parser.read(byte, true), []);
         }
         check_rest(parser, rest, kind);
         parser.reset();
-        assert_eq!(lines(&parser.read(b"q", true)), "key Char('q') NONE");
+        assert_eq!(lines(&parser.read(b"q", true)), "key U+0071 NONE");
     });
-}
-
-// X10 mouse reports are read where the reading has them.
-#[test]
-fn tells_kinds_of_mouse_reports() {
-    let mut parser = Parser::new(Dialect::Extended);
-    parser.set_reading(Reading {
-        x10_mouse: true,
-        ..Reading::new(Dialect::Extended)
-    });
-    for rest in [&b"\x1b[M"[..], b"\x1b[M0\xc3", b"\x1b\x1b[M0\xc3"] {
-        assert_eq!(parser.read(rest, true), []);
-        check_rest(&parser, rest, Waiting::Sequence);
-        assert_eq!(parser.reset(), rest.len());
-    }
 }
 
 #[test]
@@ -109,58 +64,48 @@ fn flushes() {
     });
 }
 
-// Different limits, one for each kind of bytes.
-pub const LIMITS: Policy = Policy {
-    escape: Some(Duration::from_millis(10)),
-    alt_key: Some(Duration::from_millis(20)),
-    sequence: Some(Duration::from_millis(30)),
-    string: Some(Duration::from_millis(40)),
-    character: Some(Duration::from_millis(50)),
-    paste: Some(Duration::from_millis(60)),
-};
-
-// The limit of a rest of this kind.
-pub fn limit_of(policy: &Policy, rest: &[u8], kind: Waiting) -> Option<Duration> {
-    match kind {
-        Waiting::Nothing => None,
-        Waiting::Escape => policy.escape,
-        Waiting::Sequence if rest.len() == 2 => policy.alt_key,
-        Waiting::Sequence => policy.sequence,
-        Waiting::Character => policy.character,
-        Waiting::Paste => policy.paste,
-        Waiting::String => {
-            let more = Duration::from_millis(rest.len() as u64);
-            policy.string.map(|limit| limit + more)
-        }
+// A policy of different limits.
+pub fn different_limits() -> Policy {
+    let mut policy = Policy::usual();
+    for (number, (_, field)) in (1..).zip(LIMITS) {
+        *field(&mut policy) = Some(Duration::from_millis(10 * number));
     }
+    policy
+}
+
+// How long a rest of this kind may wait.
+pub fn limit_of(mut policy: Policy, rest: &[u8], kind: Waiting) -> Option<Duration> {
+    let name = timed::limit_of(kind, rest.len())?;
+    let more = if name == "string" { rest.len() } else { 0 };
+    let limit = *limit_named(name)(&mut policy);
+    limit.map(|limit| limit + Duration::from_millis(more as u64))
 }
 
 // A rest is flushed, or an open paste ended, when its limit has passed, and not before.
 #[test]
 fn is_due_by_each_limit() {
-    for policy in [Policy::usual(), LIMITS] {
-        for (rest, kind) in RESTS {
-            let mut ended = Parser::new(Dialect::Extended);
-            ended.feed(at(0), rest);
-            ended.end();
+    for policy in [Policy::usual(), different_limits()] {
+        for_each_rest(|ended, rest, kind| {
             let mut parser = Parser::new(Dialect::Extended);
+            parser.set_reading(ended.reading());
+            ended.end();
             parser.set_policy(policy);
             assert_eq!(parser.policy(), policy);
             parser.feed(at(7), rest);
             assert_eq!(parser.timeout(at(7)), Some(Duration::ZERO));
             assert_eq!(parser.next(), None);
-            let limit = limit_of(&policy, rest, *kind);
+            let limit = limit_of(policy, rest, kind);
             assert_eq!(parser.timeout(at(7)), limit, "{}", rest.escape_ascii());
             parser.idle(at(6) + limit.unwrap_or(Duration::from_secs(1 << 30)));
             assert_eq!(parser.next(), None);
-            check_rest(&parser, rest, *kind);
+            check_rest(&parser, rest, kind);
             if let Some(limit) = limit {
                 parser.idle(at(7) + limit);
                 assert!(parser.by_ref().eq(ended));
                 assert_eq!(parser.timeout(at(7) + limit), None);
                 check_rest(&parser, b"", Waiting::Nothing);
             }
-        }
+        });
     }
 }
 

@@ -2,6 +2,10 @@
 use hedrugal::input::{InputEvent, InputParser};
 use hedrugal::Waiting;
 
+pub const MORE: bool = true;
+
+pub const LAST: bool = false;
+
 pub trait Buffer {
     fn waiting_len(&self) -> usize;
 

@@ -1,73 +1,52 @@
 // Texts that look random, and are the same in each run.
-use super::plain::PlainReader;
+#[path = "../numbers.rs"]
+pub mod numbers;
 
-// The bytes that the grammar names, parts and wholes of sequences, and beginnings of characters.
-// ESC stands twice, so that it is drawn more often.
-const SYMBOLS: &[&[u8]] = &[
-    b"\x1b",
-    b"\x1b",
-    b"[",
-    b"O",
-    b"<",
-    b";",
-    b"0",
-    b"1",
-    b"2",
-    b"5",
-    b"7",
-    b"9",
-    b"M",
-    b"m",
-    b"u",
-    b"~",
-    b"A",
-    b"Z",
-    b"a",
-    b"\xc3\xa9",
-    b"\xe2\x82",
-    b"\xf0\x9f",
-    b"\xed",
-    b"\xff",
-    b"\x03",
-    b"\x1b[200~",
-    b"\x1b[201~",
-    b"\x1b[",
-    b"\x1b[<",
-    b"\x1b[1;5A",
-    b"\x1b[27;1;27~",
-    b"\x1b[<0;1;1",
-    b"\x1b[<95;65535;65535M",
-];
+use super::lines::unquoted;
+use super::plain::PlainReader;
+use std::collections::BTreeMap;
+use std::sync::OnceLock;
+
+// The symbols of a list of tests/symbols.txt.
+pub fn symbols(list: &str) -> &'static [Vec<u8>] {
+    static LISTS: OnceLock<BTreeMap<&str, Vec<Vec<u8>>>> = OnceLock::new();
+    let lists = LISTS.get_or_init(|| {
+        let lists = include_str!("../symbols.txt").split("\n# ").skip(1);
+        let parts = lists.filter_map(|it| it.split_once('\n'));
+        let symbols = |words: &'static str| words.split_whitespace().map(unquoted).collect();
+        parts
+            .map(|(title, words)| (title.split(':').next().unwrap_or(title), symbols(words)))
+            .collect()
+    });
+    &lists[list]
+}
 
 // Limits of the lengths of pieces: below 2 a piece is a byte or empty, and below 61 most texts are
 // one piece or two.
 const LIMITS: &[usize] = &[2, 4, 8, 16, 61];
 
-// A linear congruential generator, and the rows of the sequence table, from which texts are made.
+// Numbers that are drawn, and the rows of the sequence table, from which texts are made.
 pub struct Draws {
-    state: u64,
+    numbers: numbers::Draws,
     rows: Vec<Vec<u8>>,
 }
 
 impl Draws {
     pub fn new(seed: u64, reader: &PlainReader) -> Draws {
         Draws {
-            state: seed,
+            numbers: numbers::Draws::new(seed),
             rows: reader.rows().keys().cloned().collect(),
         }
     }
 
     // A number below the limit.
     pub fn below(&mut self, limit: usize) -> usize {
-        self.state = self
-            .state
-            .wrapping_mul(6364136223846793005)
-            .wrapping_add(1442695040888963407);
-        (self.state >> 33) as usize % limit
+        self.numbers.below(limit)
     }
 
     fn symbol(&mut self) -> &'static [u8] {
-        SYMBOLS[self.below(SYMBOLS.len())]
+        let symbol = self.numbers.one_of(symbols("port"));
+        symbol
     }
 
     // A text of `count` symbols.
@@ -76,8 +55,7 @@ impl Draws {
     }
 
     fn row(&mut self) -> Vec<u8> {
-        let place = self.below(self.rows.len());
-        self.rows[place].clone()
+        self.numbers.one_of(&self.rows).clone()
     }
 
     // A mouse report; in some draws a number is past its limit or has six digits, so that it is

@@ -11,16 +11,10 @@ pub trait Reader {
     // Empties the buffer.
     fn reset(&mut self);
 
-    // The lines of a call's events at a time.
-    fn call(&mut self, now: u64, bytes: &[u8], more: bool) -> Vec<String>;
+    // The lines of a call's events.
+    fn call(&mut self, bytes: &[u8], more: bool) -> Vec<String>;
 
     fn waiting_len(&self) -> usize;
-
-    // How many milliseconds what is buffered may still wait.
-    fn timeout(&mut self, now: u64) -> Option<u64>;
-
-    // The lines of the events of what has waited too long.
-    fn idle(&mut self, now: u64) -> Vec<String>;
 
     // After the calls since the last reset the parser may give this answer in place of the recorded
     // one.
@@ -31,40 +25,6 @@ pub trait Reader {
 pub fn at(millis: u64) -> Instant {
     static START: OnceLock<Instant> = OnceLock::new();
     *START.get_or_init(Instant::now) + Duration::from_millis(millis)
-}
-
-// What comes at a time: bytes, or the lines of events.
-pub type Timed<T> = (u64, T);
-
-// The events of reads and their times, in the loop of a program: it waits as long as the parser
-// says, or until the next read. Bytes that come at the last moment come first. With a `step` it
-// doesn't ask, and wakes so often.
-pub fn events_in_time(
-    reader: &mut impl Reader,
-    reads: &[Timed<Vec<u8>>],
-    step: Option<u64>,
-) -> Vec<Timed<Vec<String>>> {
-    let (mut events, mut now) = (Vec::new(), 0);
-    let mut reads = reads.iter().peekable();
-    loop {
-        let timeout = reader.timeout(now);
-        let due = timeout.map(|left| now + step.unwrap_or(left));
-        let read = reads.next_if(|(time, _)| due.map_or(true, |due| *time <= due));
-        let came = match (read, due) {
-            (Some((time, bytes)), _) => {
-                now = *time;
-                reader.call(now, bytes, true)
-            }
-            (None, Some(due)) => {
-                now = due;
-                reader.idle(now)
-            }
-            (None, None) => return events,
-        };
-        if !came.is_empty() {
-            events.push((now, came));
-        }
-    }
 }
 
 // How many lines a file has, how many answers were compared for them, and how many lines a parser
@@ -135,7 +95,7 @@ impl<R: Reader> Feeder<'_, R> {
 
     fn call(&mut self, bytes: &[u8], more: bool) -> Vec<String> {
         self.fed.extend_from_slice(bytes);
-        self.reader.call(0, bytes, more)
+        self.reader.call(bytes, more)
     }
 
     // Compares the events, and what is buffered, with the recorded answer.
@@ -219,33 +179,11 @@ impl<R: Reader> Feeder<'_, R> {
         }
     }
 
-    // `MS:HEX MS:HEX.. = MS:EVENTS | MS:EVENTS..`.
-    fn check_times(&mut self, given: &str, wanted: &str) {
-        let reads: Vec<Timed<Vec<u8>>> = given
-            .split(' ')
-            .map(|read| {
-                let (time, text) = read.split_once(':').expect(given);
-                (time.parse().expect(given), bytes(text))
-            })
-            .collect();
-        for step in [None, Some(1)] {
-            self.begin();
-            self.feedings += 1;
-            let events = events_in_time(self.reader, &reads, step);
-            let lines: Vec<String> = events
-                .iter()
-                .map(|(time, lines)| format!("{time}:{}", lines.join(",")))
-                .collect();
-            assert_eq!(lines.join(" | "), wanted, "{given}, {step:?}");
-        }
-    }
-
     fn check_line(&mut self, line: &str) {
         let (given, answers) = line.split_once(" = ").expect(line);
         match given.as_bytes()[0] {
             b'*' => self.check_whole(&bytes(&given[1..]), answers),
             b'+' | b'-' => self.check_calls(given, answers),
-            _ if given.contains(':') => self.check_times(given, answers),
             _ => self.check_rows(line),
         }
     }

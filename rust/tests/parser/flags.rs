@@ -29,11 +29,8 @@ macro_rules! tries_pairs {
                 assert_eq!(!x, complement, "! of {a:?}");
                 assert_eq!(x.is_empty(), a.is_empty(), "is_empty of {a:?}");
                 assert_eq!(x.is_all(), *a == whole, "is_all of {a:?}");
-                assert_eq!(
-                    $name::from_bits_truncate(x.bits()),
-                    x,
-                    "from_bits_truncate of {a:?}"
-                );
+                let truncated = $name::from_bits_truncate(x.bits());
+                assert_eq!(truncated, x, "from_bits_truncate of {a:?}");
                 for b in &models {
                     let (y, pair) = (set_of(b), format!("{a:?} and {b:?}"));
                     let (either, both) = (set_of(&(a | b)), set_of(&(a & b)));
@@ -41,43 +38,31 @@ macro_rules! tries_pairs {
                     assert_eq!(x == y, a == b, "== on {pair}");
                     assert_eq!(x.intersects(y), !a.is_disjoint(b), "intersects on {pair}");
                     assert_eq!(x.contains(y), a.is_superset(b), "contains on {pair}");
-                    assert_eq!(x.union(y), either, "union on {pair}");
-                    assert_eq!(x.intersection(y), both, "intersection on {pair}");
-                    assert_eq!(x.difference(y), first_alone, "difference on {pair}");
-                    assert_eq!(
-                        x.symmetric_difference(y),
-                        one_alone,
-                        "symmetric_difference on {pair}"
-                    );
-                    assert_eq!(x | y, either, "| on {pair}");
-                    assert_eq!(x & y, both, "& on {pair}");
-                    assert_eq!(x - y, first_alone, "- on {pair}");
-                    assert_eq!(x ^ y, one_alone, "^ on {pair}");
-                    assert_eq!(changed(a, &|set| *set |= y), either, "|= on {pair}");
-                    assert_eq!(changed(a, &|set| *set &= y), both, "&= on {pair}");
-                    assert_eq!(changed(a, &|set| *set -= y), first_alone, "-= on {pair}");
-                    assert_eq!(changed(a, &|set| *set ^= y), one_alone, "^= on {pair}");
-                    assert_eq!(changed(a, &|set| set.insert(y)), either, "insert on {pair}");
-                    assert_eq!(
-                        changed(a, &|set| set.remove(y)),
-                        first_alone,
-                        "remove on {pair}"
-                    );
-                    assert_eq!(
-                        changed(a, &|set| set.toggle(y)),
-                        one_alone,
-                        "toggle on {pair}"
-                    );
-                    assert_eq!(
-                        changed(a, &|set| set.set(y, true)),
-                        either,
-                        "set to true on {pair}"
-                    );
-                    assert_eq!(
-                        changed(a, &|set| set.set(y, false)),
-                        first_alone,
-                        "set to false on {pair}"
-                    );
+                    for (operation, came, wanted) in [
+                        ("union", x.union(y), either),
+                        ("intersection", x.intersection(y), both),
+                        ("difference", x.difference(y), first_alone),
+                        ("symmetric_difference", x.symmetric_difference(y), one_alone),
+                        ("|", x | y, either),
+                        ("&", x & y, both),
+                        ("-", x - y, first_alone),
+                        ("^", x ^ y, one_alone),
+                        ("|=", changed(a, &|set| *set |= y), either),
+                        ("&=", changed(a, &|set| *set &= y), both),
+                        ("-=", changed(a, &|set| *set -= y), first_alone),
+                        ("^=", changed(a, &|set| *set ^= y), one_alone),
+                        ("insert", changed(a, &|set| set.insert(y)), either),
+                        ("remove", changed(a, &|set| set.remove(y)), first_alone),
+                        ("toggle", changed(a, &|set| set.toggle(y)), one_alone),
+                        ("set to true", changed(a, &|set| set.set(y, true)), either),
+                        (
+                            "set to false",
+                            changed(a, &|set| set.set(y, false)),
+                            first_alone,
+                        ),
+                    ] {
+                        assert_eq!(came, wanted, "{operation} on {pair}");
+                    }
                 }
             }
         }

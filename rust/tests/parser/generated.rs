@@ -54,20 +54,11 @@ fn names(readings: &[Reading]) -> String {
 fn check_readings(parser: &mut InputParser, call: Call, readings: &[Reading]) {
     for (number, reading) in readings.iter().enumerate() {
         let name = || format!("call {number} of {} by {call:?}", names(readings));
-        assert_eq!(
-            call.events(parser, reading.bytes, reading.more),
-            reading.events,
-            "{}",
-            name()
-        );
-        assert_eq!(parser.waiting_len(), reading.rest.len(), "{}", name());
-        assert_eq!(parser.parser().waiting(), reading.kind, "{}", name());
-        assert_eq!(
-            parser.is_paste_open(),
-            reading.kind == Waiting::Paste,
-            "{}",
-            name()
-        );
+        let events = call.events(parser, reading.bytes, reading.more);
+        assert_eq!(events, reading.events, "{}", name());
+        let waiting = (parser.waiting_len(), parser.parser().waiting());
+        let wanted = (reading.rest.len(), reading.kind);
+        assert_eq!(waiting, wanted, "{}", name());
     }
     parser.reset();
 }
@@ -120,12 +111,8 @@ impl Comparison {
             let mut events = Call::List.events(&mut self.parser, first, true);
             events.extend(Call::List.events(&mut self.parser, second, false));
             assert_eq!(events, reading.events, "{} cut at {place}", hex(text));
-            assert_eq!(
-                self.parser.reset(),
-                reading.rest.len(),
-                "{} cut at {place}",
-                hex(text)
-            );
+            let waiting = self.parser.reset();
+            assert_eq!(waiting, reading.rest.len(), "{} cut at {place}", hex(text));
         }
         check_readings(&mut self.parser, Call::List, &[reading]);
     }

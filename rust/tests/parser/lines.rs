@@ -1,6 +1,7 @@
 // Events as keyshow's lines, and what is read back from such lines.
 use super::names::{BUTTONS, MODIFIERS, PLAIN_KEYS};
 use hedrugal::input::{InputEvent, KeyCode, KeyEvent, Modifiers, MouseButtons};
+use std::sync::OnceLock;
 
 // The names that are in a set, joined by +.
 fn joined(names: impl Iterator<Item = &'static str>) -> String {
@@ -29,13 +30,17 @@ fn buttons(down: MouseButtons) -> String {
     )
 }
 
-fn key(event: &KeyEvent) -> String {
-    let name = match event.key {
+// The name of a key.
+pub fn key_name(key: KeyCode) -> String {
+    match key {
         KeyCode::Char(character) => format!("U+{:04X}", u32::from(character)),
         KeyCode::Function(number) => format!("F{number}"),
         key => format!("{key:?}"),
-    };
-    format!("key {name} {}", modifiers(event.modifiers))
+    }
+}
+
+fn key(event: &KeyEvent) -> String {
+    format!("key {} {}", key_name(event.key), modifiers(event.modifiers))
 }
 
 // The bytes as hexadecimal digits.
@@ -92,4 +97,77 @@ pub fn key_named(name: &str) -> KeyCode {
     }
     let named = PLAIN_KEYS.iter().find(|key| format!("{key:?}") == name);
     *named.unwrap_or_else(|| panic!("no key {name}"))
+}
+
+// A table of keys by their codes. In its text `A:` is the code of the key behind it, and those behind
+// that have the next codes. A word of one character is the key of that.
+pub struct Keys {
+    text: &'static str,
+    rows: OnceLock<Vec<(String, KeyCode)>>,
+}
+
+impl Keys {
+    pub const fn new(text: &'static str) -> Keys {
+        let rows = OnceLock::new();
+        Keys { text, rows }
+    }
+
+    pub fn rows(&self) -> &[(String, KeyCode)] {
+        self.rows.get_or_init(|| {
+            let (mut code, mut rows) = (String::new(), Vec::new());
+            for word in self.text.split_whitespace() {
+                if let Some(told) = word.strip_suffix(':') {
+                    code = told.to_string();
+                    continue;
+                }
+                let character = word.parse().map(KeyCode::Char);
+                rows.push((code.clone(), character.unwrap_or_else(|_| key_named(word))));
+                code = match code.parse::<u32>() {
+                    Ok(number) => (number + 1).to_string(),
+                    Err(_) => code.bytes().map(|it| char::from(it + 1)).collect(),
+                };
+            }
+            rows
+        })
+    }
+}
+
+// The bytes that stand behind a backslash, and their letters.
+pub const ESCAPED: &[(u8, u8)] = &[
+    (0x1b, b'e'),
+    (b'\r', b'r'),
+    (b'\n', b'n'),
+    (b'\t', b't'),
+    (b'"', b'"'),
+    (b'\\', b'\\'),
+    (b' ', b's'),
+];
+
+// The bytes of a word in quotes.
+pub fn unquoted(word: &str) -> Vec<u8> {
+    let inner = word.strip_prefix('"').and_then(|it| it.strip_suffix('"'));
+    let mut rest = inner
+        .unwrap_or_else(|| panic!("{word} has no quotes"))
+        .as_bytes();
+    let mut bytes = Vec::new();
+    while let [byte, after @ ..] = rest {
+        rest = after;
+        bytes.push(match (byte, after) {
+            (b'\\', [b'x', digits @ ..]) if digits.len() >= 2 => {
+                rest = &digits[2..];
+                let digits = std::str::from_utf8(&digits[..2]).expect(word);
+                u8::from_str_radix(digits, 16).expect(word)
+            }
+            (b'\\', [letter, after @ ..]) => {
+                rest = after;
+                let escaped = ESCAPED.iter().find(|(_, it)| it == letter);
+                escaped
+                    .unwrap_or_else(|| panic!("{word} escapes a letter"))
+                    .0
+            }
+            (b'!'..=b'~', _) if *byte != b'"' => *byte,
+            _ => panic!("{word} has a byte that is to be escaped"),
+        });
+    }
+    bytes
 }

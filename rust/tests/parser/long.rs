@@ -1,26 +1,17 @@
 // Input far past any small bound: many keys in one call, many calls, a long paste, and beginnings
 // without an end.
-use crate::calls::{check_sizes, read_in_pieces, Buffer, Call, CALLS};
-use crate::examples::{LAST, MORE};
-use crate::parser::given;
-use hedrugal::input::{InputEvent, InputParser, KeyCode, KeyEvent, Modifiers};
+use crate::calls::{check_sizes, read_in_pieces, Buffer, Call, CALLS, LAST, MORE};
+use crate::lines::lines;
+use crate::plain::key_event;
+use hedrugal::input::{InputEvent, InputParser, KeyCode, Modifiers};
 
 // Two keys in four bytes.
 const KEYS: &[u8] = b"\x1b[Aq";
 
 // The events of `KEYS`, repeated.
 fn keys(count: usize) -> Vec<InputEvent> {
-    let plain = |number| {
-        InputEvent::Key(KeyEvent {
-            key: if number % 2 == 0 {
-                KeyCode::UpArrow
-            } else {
-                KeyCode::Char('q')
-            },
-            modifiers: Modifiers::NONE,
-        })
-    };
-    (0..count).map(plain).collect()
+    let keys = [KeyCode::UpArrow, KeyCode::Char('q')].map(|key| key_event(key, Modifiers::NONE));
+    keys.into_iter().cycle().take(count).collect()
 }
 
 #[test]
@@ -97,73 +88,40 @@ fn gives_a_long_paste_at_its_last_bytes() {
     }
 }
 
-// A text by its parts, each so many times.
-type Parts<T> = &'static [(T, usize)];
-
-// The bytes of one call, its flag, and what it gives, as in the examples.
-type LongStep = (Parts<&'static [u8]>, bool, Parts<&'static str>);
-
-// The name of an example, and its calls.
-const ENDLESS: &[(&str, &[LongStep])] = &[
-    (
-        "report-without-end",
-        &[(
-            &[(b"\x1b[<", 1), (b"0", 100_000)],
-            MORE,
-            &[
-                ("key U+005B ALT,key U+003C NONE", 1),
-                (",key U+0030 NONE", 100_000),
-            ],
-        )],
-    ),
-    (
-        "only-escapes",
-        &[
-            (
-                &[(b"\x1b", 1000)],
-                MORE,
-                &[("key Escape ALT,", 498), ("key Escape ALT ; 2", 1)],
-            ),
-            (&[], LAST, &[("key Escape ALT", 1)]),
-        ],
-    ),
-    (
-        "paste-of-broken-bytes",
-        &[(
-            &[(b"\x1b[200~", 1), (b"\xff", 1000), (b"\x1b[201~z", 1)],
-            LAST,
-            &[
-                ("paste 3000:", 1),
-                ("efbfbd", 1000),
-                (",key U+007A NONE", 1),
-            ],
-        )],
-    ),
-];
-
-// Makes the calls of an example, and reads all of its bytes in pieces.
-fn check_endless(name: &str, steps: &[LongStep]) {
-    let mut parser = InputParser::new();
-    let mut text = Vec::new();
-    for (parts, more, wanted) in steps {
-        let bytes: Vec<u8> = parts
-            .iter()
-            .flat_map(|(part, times)| part.repeat(*times))
-            .collect();
-        let wanted: String = wanted
-            .iter()
-            .map(|(part, times)| part.repeat(*times))
-            .collect();
-        let events = Call::List.events(&mut parser, &bytes, *more);
-        assert!(given(&events, &parser) == wanted, "{name}");
-        text.extend(bytes);
+// What a call gave, and how many bytes are buffered after it.
+fn given(events: &[InputEvent], parser: &InputParser) -> String {
+    let mut given = lines(events);
+    if parser.waiting_len() > 0 {
+        given += if given.is_empty() { "" } else { " " };
+        given += &format!("; {}", parser.waiting_len());
     }
-    check_sizes(&mut parser, name, &text);
+    if parser.is_paste_open() {
+        given += " in a paste";
+    }
+    given
+}
+
+// A call gives this, and so much is buffered then.
+fn check_endless(parser: &mut InputParser, text: &[u8], more: bool, wanted: &str) {
+    let events = Call::List.events(parser, text, more);
+    assert!(given(&events, parser) == wanted, "{wanted}");
 }
 
 #[test]
 fn reads_beginnings_without_an_end() {
-    for (name, steps) in ENDLESS {
-        check_endless(name, steps);
-    }
+    let mut parser = InputParser::new();
+    let report = [b"\x1b[<", &b"0".repeat(100_000)[..]].concat();
+    let keys = ",key U+0030 NONE".repeat(100_000);
+    let wanted = format!("key U+005B ALT,key U+003C NONE{keys}");
+    check_endless(&mut parser, &report, MORE, &wanted);
+    check_sizes(&mut parser, "report-without-end", &report);
+    let escapes = b"\x1b".repeat(1000);
+    let wanted = "key Escape ALT,".repeat(498) + "key Escape ALT ; 2";
+    check_endless(&mut parser, &escapes, MORE, &wanted);
+    check_endless(&mut parser, b"", LAST, "key Escape ALT");
+    check_sizes(&mut parser, "only-escapes", &escapes);
+    let paste = [b"\x1b[200~", &b"\xff".repeat(1000)[..], b"\x1b[201~z"].concat();
+    let wanted = format!("paste 3000:{},key U+007A NONE", "efbfbd".repeat(1000));
+    check_endless(&mut parser, &paste, LAST, &wanted);
+    check_sizes(&mut parser, "paste-of-broken-bytes", &paste);
 }

@@ -2,11 +2,9 @@
 mod calls;
 mod draws;
 mod encode;
-mod examples;
 mod feeder;
 mod flags;
 mod generated;
-mod instances;
 mod lines;
 mod long;
 mod names;

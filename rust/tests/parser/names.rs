@@ -2,7 +2,7 @@
 use hedrugal::input::{KeyCode, Modifiers, MouseButtons};
 
 pub const MODIFIERS: &[(&str, Modifiers)] = &[
-    // numbers.txt: termwiz_mod named
+    // hedrugal.h: termwiz_mod named
     ("SHIFT", Modifiers::SHIFT),
     ("ALT", Modifiers::ALT),
     ("CTRL", Modifiers::CTRL),
@@ -14,23 +14,23 @@ pub const MODIFIERS: &[(&str, Modifiers)] = &[
     ("RIGHT_CTRL", Modifiers::RIGHT_CTRL),
     ("LEFT_SHIFT", Modifiers::LEFT_SHIFT),
     ("RIGHT_SHIFT", Modifiers::RIGHT_SHIFT),
-    // numbers.txt: end
+    // hedrugal.h: end
 ];
 
 pub const BUTTONS: &[(&str, MouseButtons)] = &[
-    // numbers.txt: button named
+    // hedrugal.h: button named
     ("LEFT", MouseButtons::LEFT),
     ("RIGHT", MouseButtons::RIGHT),
     ("MIDDLE", MouseButtons::MIDDLE),
     ("VERT_WHEEL", MouseButtons::VERT_WHEEL),
     ("HORZ_WHEEL", MouseButtons::HORZ_WHEEL),
     ("WHEEL_POSITIVE", MouseButtons::WHEEL_POSITIVE),
-    // numbers.txt: end
+    // hedrugal.h: end
 ];
 
 // The keys that carry nothing.
 pub const PLAIN_KEYS: &[KeyCode] = &[
-    // numbers.txt: key plain
+    // hedrugal.h: key plain
     KeyCode::Hyper,
     KeyCode::Super,
     KeyCode::Meta,
@@ -119,5 +119,5 @@ pub const PLAIN_KEYS: &[KeyCode] = &[
     KeyCode::KeyPadBegin,
     KeyCode::InternalPasteStart,
     KeyCode::InternalPasteEnd,
-    // numbers.txt: end
+    // hedrugal.h: end
 ];

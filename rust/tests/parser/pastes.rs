@@ -1,22 +1,7 @@
-// Pastes that come in many pieces.
+// A paste that comes in three parts.
 use crate::calls::{Buffer, Call};
 use crate::lines::{hex, lines};
-use hedrugal::input::{InputEvent, InputParser};
-
-// A paste that comes byte by byte is one event, at its last byte.
-#[test]
-fn reads_a_paste_byte_by_byte() {
-    let body = "a".repeat(200);
-    let mut parser = InputParser::new();
-    for byte in format!("\x1b[200~{body}\x1b[201").as_bytes().chunks(1) {
-        assert_eq!(Call::List.events(&mut parser, byte, true), []);
-    }
-    assert_eq!(
-        Call::List.events(&mut parser, b"~", true),
-        [InputEvent::Paste(body)]
-    );
-    assert_eq!(parser.waiting_len(), 0);
-}
+use hedrugal::input::InputParser;
 
 // The paste in three parts comes once.
 fn check_parts(parser: &mut InputParser, parts: [&[u8]; 3]) {

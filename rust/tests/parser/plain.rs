@@ -1,7 +1,7 @@
 // A slow reader. It follows docs/GRAMMAR.md sentence by sentence and by trying everything, and
 // shares nothing with the parser but the types of events and of what stays buffered. A number in a
 // comment is that of the page's sentence.
-mod rows;
+pub mod rows;
 
 use hedrugal::input::{InputEvent, KeyCode, KeyEvent, Modifiers, MouseButtons, MouseEvent};
 use hedrugal::Waiting;
@@ -18,7 +18,7 @@ const END: &[u8] = b"\x1b[201~";
 const TWO_ESCAPES: &[u8] = b"\x1b\x1b";
 
 // The event of a key.
-fn key_event(key: KeyCode, modifiers: Modifiers) -> InputEvent {
+pub fn key_event(key: KeyCode, modifiers: Modifiers) -> InputEvent {
     InputEvent::Key(KeyEvent { key, modifiers })
 }
 
@@ -132,7 +132,7 @@ fn goes_on_with(text: &[u8], byte: u8) -> bool {
 
 // 5: whether the encoding of some character is longer than the text and begins with it. It has at
 // most four bytes.
-fn begins_character(text: &[u8]) -> bool {
+pub fn begins_character(text: &[u8]) -> bool {
     text.len() <= 3 && (0x80..0xc0).any(|byte| goes_on_with(text, byte))
 }
 

@@ -2,21 +2,20 @@
 // instances of the laws of `termwiz_laws` on keys that it doesn't list.
 use crate::calls::Buffer;
 use crate::encode::{ALT, APPLICATION, CTRL, NONE, SHIFT, SUPER, XTERM};
-use hedrugal::input::{
-    InputEvent, InputParser, KeyCode, KeyCodeEncodeModes, KeyEvent, KeyboardEncoding, Modifiers,
-};
+use crate::plain::key_event;
+use hedrugal::input::{InputParser, KeyCode, KeyCodeEncodeModes, KeyboardEncoding, Modifiers};
 
-// xterm's encoding with modifyOtherKeys at level 1.
-const LEVEL_1: KeyCodeEncodeModes = KeyCodeEncodeModes {
-    modify_other_keys: Some(1),
-    ..XTERM
-};
+// xterm's encoding with modifyOtherKeys at this level.
+const fn level(level: i64) -> KeyCodeEncodeModes {
+    KeyCodeEncodeModes {
+        modify_other_keys: Some(level),
+        ..XTERM
+    }
+}
 
-// The same at level 2.
-const LEVEL_2: KeyCodeEncodeModes = KeyCodeEncodeModes {
-    modify_other_keys: Some(2),
-    ..XTERM
-};
+const LEVEL_1: KeyCodeEncodeModes = level(1);
+
+const LEVEL_2: KeyCodeEncodeModes = level(2);
 
 // The encoding CSI u.
 const CSI_U: KeyCodeEncodeModes = KeyCodeEncodeModes {
@@ -130,10 +129,10 @@ type Press = (KeyCode, Modifiers);
 fn check_read_as(parser: &mut InputParser, press: Press, modes: KeyCodeEncodeModes, wanted: Press) {
     let text = press.0.encode(press.1, modes, true);
     let text = text.expect("a key with a text");
-    let (key, modifiers) = wanted;
+    let events = parser.parse_as_vec(text.as_bytes(), false);
     assert_eq!(
-        parser.parse_as_vec(text.as_bytes(), false),
-        [InputEvent::Key(KeyEvent { key, modifiers })],
+        events,
+        [key_event(wanted.0, wanted.1)],
         "{press:?} {modes:?}"
     );
     assert_eq!(parser.waiting_len(), 0, "{press:?} {modes:?}");

@@ -2,7 +2,7 @@
 // would complete what stays buffered.
 use crate::calls::{Buffer, Call};
 use crate::lines::hex;
-use crate::plain::PlainReader;
+use crate::plain::{key_event, PlainReader};
 use hedrugal::input::{InputEvent, InputParser, KeyCode, KeyEvent, Modifiers};
 use hedrugal::Waiting;
 
@@ -17,32 +17,26 @@ fn entry_count() -> usize {
     PlainReader::new().row_count()
 }
 
-// The same key, with ALT if a first ESC was buffered.
-fn with_alt(key: &KeyEvent, with_alt: bool) -> KeyEvent {
-    let alt = if with_alt {
-        Modifiers::ALT
-    } else {
-        Modifiers::NONE
-    };
-    KeyEvent {
-        key: key.key,
-        modifiers: key.modifiers | alt,
-    }
+// The event of a key, with ALT if a first ESC was buffered.
+fn with_alt(key: &KeyEvent, has_alt: bool) -> InputEvent {
+    let mut modifiers = key.modifiers;
+    modifiers.set(
+        Modifiers::ALT,
+        modifiers.contains(Modifiers::ALT) || has_alt,
+    );
+    key_event(key.key, modifiers)
 }
 
 // Parses the rest of an entry: its key is the event, but the start of a paste opens one, after an
 // Escape if there was a first ESC.
 fn check_completed(parser: &mut InputParser, rest: &[u8], key: &KeyEvent, has_alt: bool) {
     let events = parser.parse_as_vec(rest, false);
-    let escape = KeyEvent {
-        key: KeyCode::Escape,
-        modifiers: Modifiers::NONE,
-    };
+    let escape = key_event(KeyCode::Escape, Modifiers::NONE);
     let is_start = key.key == KeyCode::InternalPasteStart;
     match (is_start, has_alt) {
         (true, false) => assert_eq!(events, []),
-        (true, true) => assert_eq!(events, [InputEvent::Key(escape)]),
-        _ => assert_eq!(events, [InputEvent::Key(with_alt(key, has_alt))]),
+        (true, true) => assert_eq!(events, [escape]),
+        _ => assert_eq!(events, [with_alt(key, has_alt)]),
     }
     assert_eq!(parser.is_paste_open(), is_start);
     parser.reset();
@@ -73,13 +67,9 @@ fn has_the_rows_of_the_plain_reader() {
 }
 
 // The text of a row has this one event, after which nothing is buffered.
-fn check_event(parser: &mut InputParser, text: &[u8], event: KeyEvent) {
-    assert_eq!(
-        Call::List.events(parser, text, false),
-        [InputEvent::Key(event)],
-        "{}",
-        hex(text)
-    );
+fn check_event(parser: &mut InputParser, text: &[u8], event: InputEvent) {
+    let events = Call::List.events(parser, text, false);
+    assert_eq!(events, [event], "{}", hex(text));
     assert_eq!(parser.waiting_len(), 0, "{}", hex(text));
 }
 
@@ -90,12 +80,9 @@ fn reads_rows_of_the_plain_reader() {
     let mut parser = InputParser::new();
     for (bytes, key) in PlainReader::new().rows() {
         if key.key != KeyCode::InternalPasteStart {
-            check_event(&mut parser, bytes, key.clone());
-            check_event(
-                &mut parser,
-                &[b"\x1b", &bytes[..]].concat(),
-                with_alt(key, true),
-            );
+            check_event(&mut parser, bytes, with_alt(key, false));
+            let escaped = [b"\x1b", &bytes[..]].concat();
+            check_event(&mut parser, &escaped, with_alt(key, true));
         }
     }
 }
@@ -107,13 +94,8 @@ fn check_cuts(parser: &mut InputParser, bytes: &[u8]) {
         let (first, second) = bytes.split_at(place);
         let mut events = Call::List.events(parser, first, true);
         events.append(&mut Call::List.events(parser, second, false));
-        assert_eq!(
-            (events, parser.reset()),
-            wanted,
-            "{}|{}",
-            hex(first),
-            hex(second)
-        );
+        let came = (events, parser.reset());
+        assert_eq!(came, wanted, "{}|{}", hex(first), hex(second));
     }
 }
 

@@ -1,5 +1,6 @@
 // Threads that make, use and free parsers. All of these share one sequence table.
-use hedrugal::input::{InputEvent, InputParser, KeyCode, KeyEvent, Modifiers};
+use crate::plain::key_event;
+use hedrugal::input::{InputEvent, InputParser, KeyCode, Modifiers};
 use hedrugal::{Dialect, Event, Parser};
 use std::sync::mpsc::{channel, Sender};
 use std::thread;
@@ -9,10 +10,7 @@ const THREADS: usize = 4;
 const ROUNDS: usize = 200;
 
 fn ctrl_up() -> InputEvent {
-    InputEvent::Key(KeyEvent {
-        key: KeyCode::UpArrow,
-        modifiers: Modifiers::CTRL,
-    })
+    key_event(KeyCode::UpArrow, Modifiers::CTRL)
 }
 
 // Makes parsers and reads with them. Some are freed here, and some are passed on in the middle of a

@@ -85,9 +85,20 @@ fn writes_and_reads_policies() {
         sequence: None,
         ..Policy::usual()
     };
+    let json = serde_json::to_value(policy).expect("JSON is written");
+    for (limit, wanted) in [
+        ("escape", r#"{"nanos":50000000,"secs":0}"#),
+        ("alt_key", r#"{"nanos":100000000,"secs":0}"#),
+        ("sequence", "null"),
+        ("string", r#"{"nanos":0,"secs":5}"#),
+        ("character", "null"),
+        ("paste", r#"{"nanos":0,"secs":10}"#),
+    ] {
+        assert_eq!(json[limit].to_string(), wanted, "{limit}");
+    }
     check(
         policy,
-        r#"{"escape":{"secs":0,"nanos":50000000},"alt_key":{"secs":0,"nanos":100000000},"sequence":null,"string":{"secs":5,"nanos":0},"character":null,"paste":{"secs":10,"nanos":0}}"#,
+        &serde_json::to_string(&policy).expect("JSON is written"),
     );
 }
 

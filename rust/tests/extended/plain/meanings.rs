@@ -20,6 +20,12 @@ fn number_of(text: &[u8], most_digits: usize) -> Option<u32> {
     str::from_utf8(text).ok()?.parse().ok()
 }
 
+// The fields of a text that are parted by semicolons, if there are so many.
+fn fields<const N: usize>(text: &[u8]) -> Option<[&[u8]; N]> {
+    let fields: Vec<_> = text.split(|byte| *byte == b';').collect();
+    fields.try_into().ok()
+}
+
 // A number of at most seven digits, from 1 to a limit.
 fn number_up_to(text: &[u8], limit: u32) -> Option<u32> {
     number_of(text, 7).filter(|number| (1..=limit).contains(number))
@@ -207,12 +213,8 @@ fn numbered_key(t: &[u8]) -> Option<KeyReport> {
 // The line `27;` m `;` c `~`.
 fn other_key(t: &[u8]) -> Option<KeyReport> {
     let body = t.strip_prefix(b"27;")?.strip_suffix(b"~")?;
-    let mut fields = body.split(|byte| *byte == b';');
-    let m = number_up_to(fields.next()?, 256)?;
-    let c = scalar_of(fields.next()?)?;
-    if fields.next().is_some() {
-        return None;
-    }
+    let [m, c] = fields(body)?;
+    let (m, c) = (number_up_to(m, 256)?, scalar_of(c)?);
     let manner = Manner {
         modifiers: modifiers_before(m)?,
         kind: KeyEventKind::Press,
@@ -233,26 +235,19 @@ fn key_event(t: &[u8]) -> Option<Event> {
     report.map(Event::Key)
 }
 
-// The lines of cursor positions. The first row and column are 1.
+// The lines of cursor positions. The first row and column are 1. A page stands only behind `?`.
 fn cursor_position(t: &[u8]) -> Option<Event> {
     let body = t.strip_suffix(b"R")?;
-    let is_marked = body.starts_with(b"?");
-    let mut fields = body
-        .strip_prefix(b"?")
-        .unwrap_or(body)
-        .split(|byte| *byte == b';');
-    let row = short_number(fields.next()?).filter(|it| *it > 0)?;
-    let column = short_number(fields.next()?).filter(|it| *it > 0)?;
-    if let Some(page) = fields.next() {
-        if !is_marked {
-            return None;
-        }
-        short_number(page)?;
-    }
-    match fields.next() {
-        Some(_) => None,
-        None => Some(Event::CursorPosition { row, column }),
-    }
+    let [row, column] = match body.strip_prefix(b"?") {
+        Some(body) => fields(body).or_else(|| {
+            let [row, column, page] = fields(body)?;
+            short_number(page).map(|_| [row, column])
+        })?,
+        None => fields(body)?,
+    };
+    let row = short_number(row).filter(|it| *it > 0)?;
+    let column = short_number(column).filter(|it| *it > 0)?;
+    Some(Event::CursorPosition { row, column })
 }
 
 // The line of the flags of the keyboard.
@@ -266,21 +261,13 @@ fn keyboard_flags(t: &[u8]) -> Option<Event> {
 
 // The line of sizes.
 fn resize(t: &[u8]) -> Option<Event> {
-    let body = t.strip_prefix(b"48;")?.strip_suffix(b"t")?;
-    let mut fields = body.split(|byte| *byte == b';');
-    let rows = short_number(fields.next()?)?;
-    let columns = short_number(fields.next()?)?;
-    let height = short_number(fields.next()?)?;
-    let width = short_number(fields.next()?)?;
-    match fields.next() {
-        Some(_) => None,
-        None => Some(Event::Resized(Size {
-            columns,
-            rows,
-            width,
-            height,
-        })),
-    }
+    let [rows, columns, height, width] = fields(t.strip_prefix(b"48;")?.strip_suffix(b"t")?)?;
+    Some(Event::Resized(Size {
+        rows: short_number(rows)?,
+        columns: short_number(columns)?,
+        height: short_number(height)?,
+        width: short_number(width)?,
+    }))
 }
 
 // The modifiers of a code.
@@ -346,39 +333,26 @@ pub fn sgr_report(text: &[u8]) -> Option<Event> {
         b'm' => Form::Released,
         _ => return None,
     };
-    let mut fields = body.split(|byte| *byte == b';');
-    let code = short_number(fields.next()?)?;
-    let x = short_number(fields.next()?)?;
-    let y = short_number(fields.next()?)?;
-    match fields.next() {
-        Some(_) => None,
-        None => mouse_report(code, x, y, form),
-    }
+    let [code, x, y] = fields(body)?;
+    mouse_report(
+        short_number(code)?,
+        short_number(x)?,
+        short_number(y)?,
+        form,
+    )
 }
 
 // The line of side buttons in SGR reports.
 fn sgr_side_button(t: &[u8]) -> Option<Event> {
     let event = sgr_report(&[b"\x1b[", t].concat())?;
-    matches!(
-        event,
-        Event::Mouse(MouseReport {
-            button: Some(8..),
-            ..
-        })
-    )
-    .then_some(event)
+    let is_side = matches!(&event, Event::Mouse(report) if report.button >= Some(8));
+    is_side.then_some(event)
 }
 
 // The line of urxvt's mouse reports.
 fn urxvt_report(t: &[u8]) -> Option<Event> {
-    let mut fields = t.strip_suffix(b"M")?.split(|byte| *byte == b';');
-    let b = short_number(fields.next()?)?;
-    let x = short_number(fields.next()?)?;
-    let y = short_number(fields.next()?)?;
-    match fields.next() {
-        Some(_) => None,
-        None => mouse_event(b, x, y),
-    }
+    let [b, x, y] = fields(t.strip_suffix(b"M")?)?;
+    mouse_event(short_number(b)?, short_number(x)?, short_number(y)?)
 }
 
 // The line of X10 mouse reports. Each byte is at least 32.

@@ -1,11 +1,12 @@
 // A slow reader and printer of the names of keys. It follows the part "Names" of the page of the crate
 // termwiz_bindings sentence by sentence, and shares nothing with the library but the types.
+use super::keys::listed;
+use super::pressed;
 use super::presses::{is_sign_of_shift, said_of, Press, Said};
+use crate::port::lines::Keys;
 use crate::port::names::PLAIN_KEYS;
 use hedrugal::input::KeyCode::{self, Char};
-use hedrugal::{
-    KeyEventKind, KeyNameErrorKind as Fault, KeyReport, KittyModifiers as Held, ReportedKey,
-};
+use hedrugal::{KeyNameErrorKind as Fault, KittyModifiers as Held, ReportedKey};
 
 // What is wrong, and the byte where that part starts.
 pub type Wrong = (Fault, usize);
@@ -21,44 +22,14 @@ const MODIFIERS: &[(Held, &str, &[&str], &str, &str)] = &[
     (Held::SHIFT, "shift", &[], "S", "s"),
 ];
 
-// Words for keys beside the names of their codes.
-const WORDS: &[(&str, KeyCode)] = &[
-    ("space", Char(' ')),
-    ("spc", Char(' ')),
-    ("up", KeyCode::UpArrow),
-    ("down", KeyCode::DownArrow),
-    ("left", KeyCode::LeftArrow),
-    ("right", KeyCode::RightArrow),
-    ("begin", KeyCode::KeyPadBegin),
-    ("menu", KeyCode::Applications),
-    ("esc", KeyCode::Escape),
-    ("return", KeyCode::Enter),
-    ("ret", KeyCode::Enter),
-    ("cr", KeyCode::Enter),
-    ("kpenter", KeyCode::Enter),
-    ("del", KeyCode::Delete),
-    ("ins", KeyCode::Insert),
-    ("bs", KeyCode::Backspace),
-    ("pgup", KeyCode::PageUp),
-    ("prior", KeyCode::PageUp),
-    ("pgdn", KeyCode::PageDown),
-    ("next", KeyCode::PageDown),
-    ("plus", Char('+')),
-    ("minus", Char('-')),
-    ("comma", Char(',')),
-    ("less", Char('<')),
-    ("lt", Char('<')),
-    ("greater", Char('>')),
-    ("gt", Char('>')),
-    ("bar", Char('|')),
-    ("bslash", Char('\\')),
-    ("kpequal", Char('=')),
-    // A modifier by itself is the name of its key.
-    ("ctrl", KeyCode::Control),
-    ("option", KeyCode::Alt),
-    ("cmd", KeyCode::Super),
-    ("win", KeyCode::Super),
-];
+// Words for keys beside the names of their codes. A modifier by itself is the name of its key.
+static WORDS: Keys = Keys::new(
+    "space: U+0020 spc: U+0020 up: UpArrow down: DownArrow left: LeftArrow right: RightArrow \
+     begin: KeyPadBegin menu: Applications esc: Escape return: Enter ret: Enter cr: Enter \
+     kpenter: Enter del: Delete ins: Insert bs: Backspace pgup: PageUp prior: PageUp pgdn: PageDown \
+     next: PageDown plus: + minus: - comma: , less: < lt: < greater: > gt: > bar: | bslash: \\ \
+     kpequal: = ctrl: Control option: Alt cmd: Super win: Super",
+);
 
 // The characters that are printed as they are, but for those of ASCII.
 const SHOWN: &[(u32, u32)] = &[
@@ -95,8 +66,7 @@ fn lower_name(key: KeyCode) -> String {
 // The key of a word, which is read in any case.
 fn key_of_word(word: &str) -> Option<KeyCode> {
     let word = word.to_ascii_lowercase();
-    let listed = WORDS.iter().find(|row| row.0 == word).map(|row| row.1);
-    listed.or_else(|| named_keys().find(|key| lower_name(*key) == word))
+    listed(&WORDS, &word).or_else(|| named_keys().find(|key| lower_name(*key) == word))
 }
 
 // The number behind this word, if the name is the word and digits. The number may be wrong.
@@ -156,15 +126,7 @@ fn any_name(name: &str) -> Result<ReportedKey, Fault> {
 }
 
 fn press_of(key: ReportedKey, held: Held) -> Option<Press> {
-    let report = KeyReport {
-        key,
-        modifiers: held,
-        kind: KeyEventKind::Press,
-        shifted: None,
-        base: None,
-        text: String::new(),
-    };
-    match said_of(&report) {
+    match said_of(&pressed(key, held)) {
         Said::Press(press) => Some(press),
         _ => None,
     }

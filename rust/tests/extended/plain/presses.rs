@@ -1,8 +1,12 @@
 // A slow reader of presses. It follows the rules of the page of the crate termwiz_bindings sentence by
 // sentence, and shares nothing with the library but the types of reports. A number in a comment is
 // that of the rule.
+use super::keys::functional_key;
+use crate::port::lines::{key_named, Keys};
 use hedrugal::input::KeyCode::{self, Char};
 use hedrugal::{KeyEventKind, KeyReport, KittyModifiers as Held, ReportedKey};
+use std::collections::HashMap;
+use std::sync::OnceLock;
 
 // A key, and the modifiers held with it.
 pub type Press = (ReportedKey, Held);
@@ -15,112 +19,28 @@ pub enum Said {
     Text(String),
 }
 
-// 5: Kitty's functional keys that have names, by their numbers from 57358 on. The rest have none.
-const NAMES: &[(u32, KeyCode)] = &[
-    (57361, KeyCode::PrintScreen),
-    (57362, KeyCode::Pause),
-    (57363, KeyCode::Applications),
-    (57427, KeyCode::KeyPadBegin),
-    (57430, KeyCode::MediaPlayPause),
-    (57432, KeyCode::MediaStop),
-    (57435, KeyCode::MediaNextTrack),
-    (57436, KeyCode::MediaPrevTrack),
-    (57438, KeyCode::VolumeDown),
-    (57439, KeyCode::VolumeUp),
-    (57440, KeyCode::VolumeMute),
-];
-
-// 5: the keypad's keys by Kitty's numbers from 57399 on, as the main block has them.
-const KEYPAD: &[KeyCode] = &[
-    Char('0'),
-    Char('1'),
-    Char('2'),
-    Char('3'),
-    Char('4'),
-    Char('5'),
-    Char('6'),
-    Char('7'),
-    Char('8'),
-    Char('9'),
-    Char('.'),
-    Char('/'),
-    Char('*'),
-    Char('-'),
-    Char('+'),
-    KeyCode::Enter,
-    Char('='),
-    Char(','),
-    KeyCode::LeftArrow,
-    KeyCode::RightArrow,
-    KeyCode::UpArrow,
-    KeyCode::DownArrow,
-    KeyCode::PageUp,
-    KeyCode::PageDown,
-    KeyCode::Home,
-    KeyCode::End,
-    KeyCode::Insert,
-    KeyCode::Delete,
-];
-
-// 5: the same by the keys' names.
-const KEYPAD_NAMES: &[(KeyCode, KeyCode)] = &[
-    (KeyCode::Numpad0, Char('0')),
-    (KeyCode::Numpad1, Char('1')),
-    (KeyCode::Numpad2, Char('2')),
-    (KeyCode::Numpad3, Char('3')),
-    (KeyCode::Numpad4, Char('4')),
-    (KeyCode::Numpad5, Char('5')),
-    (KeyCode::Numpad6, Char('6')),
-    (KeyCode::Numpad7, Char('7')),
-    (KeyCode::Numpad8, Char('8')),
-    (KeyCode::Numpad9, Char('9')),
-    (KeyCode::Multiply, Char('*')),
-    (KeyCode::Add, Char('+')),
-    (KeyCode::Separator, Char(',')),
-    (KeyCode::Subtract, Char('-')),
-    (KeyCode::Decimal, Char('.')),
-    (KeyCode::Divide, Char('/')),
-    (KeyCode::KeyPadHome, KeyCode::Home),
-    (KeyCode::KeyPadEnd, KeyCode::End),
-    (KeyCode::KeyPadPageUp, KeyCode::PageUp),
-    (KeyCode::KeyPadPageDown, KeyCode::PageDown),
-    (KeyCode::ApplicationLeftArrow, KeyCode::LeftArrow),
-    (KeyCode::ApplicationRightArrow, KeyCode::RightArrow),
-    (KeyCode::ApplicationUpArrow, KeyCode::UpArrow),
-    (KeyCode::ApplicationDownArrow, KeyCode::DownArrow),
-];
+// 5: the keypad's keys by their names, or by Kitty's numbers, as the main block has them.
+static KEYPAD: Keys = Keys::new(
+    "Numpad0: 0 Numpad1: 1 Numpad2: 2 Numpad3: 3 Numpad4: 4 Numpad5: 5 Numpad6: 6 Numpad7: 7 \
+     Numpad8: 8 Numpad9: 9 Multiply: * Add: + Separator: , Subtract: - Decimal: . Divide: / \
+     KeyPadHome: Home KeyPadEnd: End KeyPadPageUp: PageUp KeyPadPageDown: PageDown \
+     ApplicationLeftArrow: LeftArrow ApplicationRightArrow: RightArrow \
+     ApplicationUpArrow: UpArrow ApplicationDownArrow: DownArrow 57414: Enter = \
+     57417: LeftArrow RightArrow UpArrow DownArrow 57425: Insert Delete",
+);
 
 // 2: the keys of `KeyCode` that make no press by themselves.
-const ALONE: &[KeyCode] = &[
-    KeyCode::Hyper,
-    KeyCode::Super,
-    KeyCode::Meta,
-    KeyCode::Shift,
-    KeyCode::LeftShift,
-    KeyCode::RightShift,
-    KeyCode::Control,
-    KeyCode::LeftControl,
-    KeyCode::RightControl,
-    KeyCode::Alt,
-    KeyCode::LeftAlt,
-    KeyCode::RightAlt,
-    KeyCode::LeftWindows,
-    KeyCode::RightWindows,
-    KeyCode::Menu,
-    KeyCode::LeftMenu,
-    KeyCode::RightMenu,
-    KeyCode::CapsLock,
-    KeyCode::NumLock,
-    KeyCode::ScrollLock,
-    KeyCode::InternalPasteStart,
-    KeyCode::InternalPasteEnd,
-];
+static ALONE: Keys = Keys::new(
+    "Hyper Super Meta Shift LeftShift RightShift Control LeftControl RightControl Alt LeftAlt \
+     RightAlt LeftWindows RightWindows Menu LeftMenu RightMenu CapsLock NumLock ScrollLock \
+     InternalPasteStart InternalPasteEnd",
+);
 
 // The signs of a PC-101 keyboard, each beside what it is with Shift.
 const SIGNS: &str = "`~1!2@3#4$5%6^7&8*9(0)-_=+[{]}\\|;:'\",<.>/?";
 
 // U+0000 to U+001F, U+007F to U+009F.
-fn is_control(c: char) -> bool {
+pub fn is_control(c: char) -> bool {
     matches!(u32::from(c), 0..=0x1f | 0x7f..=0x9f)
 }
 
@@ -143,7 +63,7 @@ fn text_of(report: &KeyReport) -> &str {
 // 2
 fn is_alone(key: ReportedKey) -> bool {
     match key {
-        ReportedKey::Named(key) => ALONE.contains(&key),
+        ReportedKey::Named(key) => ALONE.rows().iter().any(|(_, it)| *it == key),
         ReportedKey::Functional(number) => {
             (57358..=57360).contains(&number)
                 || (57441..=57454).contains(&number)
@@ -153,25 +73,21 @@ fn is_alone(key: ReportedKey) -> bool {
 }
 
 // 5
-fn main_key(key: ReportedKey) -> ReportedKey {
+pub fn main_key(key: ReportedKey) -> ReportedKey {
     let named = match key {
-        ReportedKey::Functional(number) => {
-            let keypad = number.checked_sub(57399).map(|place| place as usize);
-            if let Some(key) = keypad.and_then(|place| KEYPAD.get(place)) {
-                *key
-            } else if let Some((_, key)) = NAMES.iter().find(|row| row.0 == number) {
-                *key
-            } else if (57376..=57398).contains(&number) {
-                // F13 to F35.
-                KeyCode::Function((number - 57363) as u8)
-            } else {
-                return key;
-            }
-        }
-        ReportedKey::Named(key) => key,
+        ReportedKey::Functional(number) => functional_key(number),
+        named => named,
     };
-    let main = KEYPAD_NAMES.iter().find(|row| row.0 == named);
-    ReportedKey::Named(main.map_or(named, |row| row.1))
+    static MAIN: OnceLock<HashMap<ReportedKey, KeyCode>> = OnceLock::new();
+    let main = MAIN.get_or_init(|| {
+        let rows = KEYPAD.rows().iter().map(|(code, main)| {
+            let number = code.parse().map(ReportedKey::Functional);
+            let key = number.unwrap_or_else(|_| ReportedKey::Named(key_named(code)));
+            (key, *main)
+        });
+        rows.collect()
+    });
+    main.get(&named).map_or(named, |it| ReportedKey::Named(*it))
 }
 
 // 6: a control character's key, and whether CTRL is held with it.

@@ -1,5 +1,6 @@
 // What replies say, by the rules of docs/EXTENDED.md, read slowly and with nothing of the library.
 use hedrugal::{Colour, ColourName, ColourScheme, DeviceAttributes, ModeState, Reply};
+use std::fmt::Debug;
 
 // A number of at most so many digits, up to the limit.
 fn number(text: &str, most: usize, limit: u32) -> Option<u32> {
@@ -180,4 +181,59 @@ pub fn reply(introducer: u8, bytes: &[u8]) -> Option<Reply> {
         b'P' => device_control_string(bytes),
         _ => None,
     }
+}
+
+// left_arrow of LeftArrow.
+pub fn snake(name: &str) -> String {
+    let mut snake = String::new();
+    for letter in name.chars() {
+        if letter.is_uppercase() && !snake.is_empty() {
+            snake.push('_');
+        }
+        snake.push(letter.to_ascii_lowercase());
+    }
+    snake
+}
+
+// The name of a variant, as the header has it.
+fn name_of(it: impl Debug) -> String {
+    let name = format!("{it:?}");
+    let end = name.find(|it: char| !it.is_alphanumeric());
+    snake(&name[..end.unwrap_or(name.len())])
+}
+
+// A reply in words: its kind, the fields that it has, and its numbers. Behind them come its bytes.
+pub fn words(reply: &Reply) -> (String, &[u8]) {
+    let (mut fields, mut brought) = (String::new(), &[][..]);
+    match reply {
+        Reply::DeviceAttributes { report, numbers } => {
+            fields = format!(" report={}", name_of(report));
+            fields.extend(numbers.iter().map(|it| format!(" {it}")));
+        }
+        Reply::Mode {
+            mode,
+            is_private,
+            state,
+        } => {
+            let (state, is_private) = (name_of(state), u8::from(*is_private));
+            fields = format!(" state={state} is_private={is_private} mode={mode}");
+        }
+        Reply::Colour { name, colour } => {
+            let index = match name {
+                ColourName::Palette(index) => *index,
+                _ => 0,
+            };
+            let Colour { red, green, blue } = colour;
+            let name = name_of(name);
+            fields = format!(" name={name} index={index} red={red} green={green} blue={blue}");
+        }
+        Reply::Version(text) => brought = text.as_bytes(),
+        Reply::WindowSize { rows, columns } => fields = format!(" rows={rows} columns={columns}"),
+        Reply::ColourScheme(scheme) => fields = format!(" scheme={}", name_of(scheme)),
+        Reply::Clipboard { selection, bytes } => {
+            fields = format!(" selection={}", selection.iter().collect::<String>());
+            brought = bytes;
+        }
+    }
+    (name_of(reply) + &fields, brought)
 }

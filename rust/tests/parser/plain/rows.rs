@@ -1,5 +1,6 @@
 // The rows of the sequence table, rule by rule, as docs/GRAMMAR.md gives them under "The sequence
 // table". A new row of the page is added here, to the list or the loop of its rule.
+use super::super::lines::Keys;
 use super::modifiers_of;
 use hedrugal::input::{KeyCode, KeyEvent, Modifiers};
 use std::collections::{BTreeMap, BTreeSet};
@@ -23,61 +24,29 @@ fn key_of_code(code: u8) -> KeyCode {
     }
 }
 
-// The codes of the rules `numbered_function_keys` and `high_function_keys`, in the order of their
-// keys from F1 on.
-const FUNCTION_CODES: &[u8] = &[
-    11, 12, 13, 14, 15, 17, 18, 19, 20, 21, 23, 24, 25, 26, 28, 29, 31, 32, 33, 34, 42, 43, 44, 45,
-];
+// The rules `numbered_function_keys` and `high_function_keys`.
+pub static FUNCTION_KEYS: Keys = Keys::new(
+    "11: F1 F2 F3 F4 F5 17: F6 F7 F8 F9 F10 23: F11 F12 F13 F14 28: F15 F16 31: F17 F18 F19 F20 \
+     42: F21 F22 F23 F24",
+);
 
-const CURSOR_KEYS: &[(char, KeyCode)] = &[
-    ('A', KeyCode::UpArrow),
-    ('B', KeyCode::DownArrow),
-    ('C', KeyCode::RightArrow),
-    ('D', KeyCode::LeftArrow),
-    ('H', KeyCode::Home),
-    ('F', KeyCode::End),
-];
+static CURSOR_KEYS: Keys = Keys::new("A: UpArrow DownArrow RightArrow LeftArrow H: Home F: End");
 
-const SMALL_ARROWS: &[(char, KeyCode)] = &[
-    ('a', KeyCode::UpArrow),
-    ('b', KeyCode::DownArrow),
-    ('c', KeyCode::RightArrow),
-    ('d', KeyCode::LeftArrow),
-];
+static SMALL_ARROWS: Keys = Keys::new("a: UpArrow DownArrow RightArrow LeftArrow");
 
-const APPLICATION_ARROWS: &[(char, KeyCode)] = &[
-    ('A', KeyCode::ApplicationUpArrow),
-    ('B', KeyCode::ApplicationDownArrow),
-    ('C', KeyCode::ApplicationRightArrow),
-    ('D', KeyCode::ApplicationLeftArrow),
-];
+static APPLICATION_ARROWS: Keys = Keys::new(
+    "A: ApplicationUpArrow ApplicationDownArrow ApplicationRightArrow ApplicationLeftArrow",
+);
 
-const FIRST_FUNCTIONS: &[(char, KeyCode)] = &[
-    ('P', KeyCode::Function(1)),
-    ('Q', KeyCode::Function(2)),
-    ('R', KeyCode::Function(3)),
-    ('S', KeyCode::Function(4)),
-];
+static FIRST_FUNCTIONS: Keys = Keys::new("P: F1 F2 F3 F4");
 
-const EDIT_KEYS: &[(char, KeyCode)] = &[
-    ('2', KeyCode::Insert),
-    ('3', KeyCode::Delete),
-    ('1', KeyCode::Home),
-    ('7', KeyCode::Home),
-    ('4', KeyCode::End),
-    ('8', KeyCode::End),
-    ('5', KeyCode::PageUp),
-    ('6', KeyCode::PageDown),
-];
+// The rule `edit_keys`.
+pub static EDIT_KEYS: Keys =
+    Keys::new("2: Insert Delete 1: Home 7: Home 4: End 8: End 5: PageUp PageDown");
 
-const MODIFIED_EDIT_KEYS: &[(char, KeyCode)] = &[
-    ('2', KeyCode::Insert),
-    ('3', KeyCode::Delete),
-    ('5', KeyCode::PageUp),
-    ('6', KeyCode::PageDown),
-];
+static MODIFIED_EDIT_KEYS: Keys = Keys::new("2: Insert Delete 5: PageUp PageDown");
 
-const HOME_AND_END: &[(char, KeyCode)] = &[('H', KeyCode::Home), ('F', KeyCode::End)];
+static HOME_AND_END: Keys = Keys::new("H: Home F: End");
 
 // The rows by their bytes, and each text that properly begins one.
 pub struct Table {
@@ -128,8 +97,8 @@ impl Table {
     }
 
     // A row for each key of a list, by its last character.
-    fn add_each(&mut self, front: &str, keys: &[(char, KeyCode)], end: &str, modifiers: Modifiers) {
-        for (last, key) in keys {
+    fn add_each(&mut self, front: &str, keys: &Keys, end: &str, modifiers: Modifiers) {
+        for (last, key) in keys.rows() {
             self.add(&format!("{front}{last}{end}"), *key, modifiers);
         }
     }
@@ -147,9 +116,9 @@ impl Table {
     }
 
     // Each key of a list with each suffix up to a number.
-    fn add_each_suffixed(&mut self, front: &str, limit: u8, keys: &[(char, KeyCode)]) {
-        for (last, key) in keys {
-            self.add_suffixed(front, 0..limit, &last.to_string(), *key);
+    fn add_each_suffixed(&mut self, front: &str, limit: u8, keys: &Keys) {
+        for (last, key) in keys.rows() {
+            self.add_suffixed(front, 0..limit, last, *key);
         }
     }
 
@@ -194,19 +163,14 @@ impl Table {
 
     // The rules `numbered_function_keys` and `high_function_keys`.
     fn add_functions(&mut self) {
-        for (code, number) in FUNCTION_CODES.iter().zip(1..) {
-            self.add_suffixed(
-                &format!("\x1b[{code}"),
-                0..17,
-                "~",
-                KeyCode::Function(number),
-            );
+        for (code, key) in FUNCTION_KEYS.rows() {
+            self.add_suffixed(&format!("\x1b[{code}"), 0..17, "~", *key);
         }
     }
 
     // The rule `modified_edit_keys`.
     fn add_modified_edit_keys(&mut self) {
-        for (digit, key) in MODIFIED_EDIT_KEYS {
+        for (digit, key) in MODIFIED_EDIT_KEYS.rows() {
             self.add_suffixed(&format!("\x1b[{digit}"), 1..9, "~", *key);
         }
     }
@@ -216,22 +180,22 @@ impl Table {
         let none = Modifiers::NONE;
         let shift = Modifiers::SHIFT;
         let ctrl = Modifiers::CTRL;
-        self.add_each("\x1b[", &[('Z', KeyCode::Tab)], "", shift);
-        self.add_each("\x1b[", CURSOR_KEYS, "", none);
-        self.add_each_suffixed("\x1b[1", 17, CURSOR_KEYS);
-        self.add_each("\x1b[", SMALL_ARROWS, "", shift);
-        self.add_each("\x1bO", SMALL_ARROWS, "", ctrl);
-        self.add_each("\x1bO", APPLICATION_ARROWS, "", none);
-        self.add_each_suffixed("\x1bO1", 9, APPLICATION_ARROWS);
-        self.add_each("\x1bO", FIRST_FUNCTIONS, "", none);
-        self.add_each_suffixed("\x1b[1", 17, FIRST_FUNCTIONS);
-        self.add_each("\x1b[", EDIT_KEYS, "~", none);
-        self.add_each("\x1b[", EDIT_KEYS, "$", shift);
-        self.add_each("\x1b[", EDIT_KEYS, "^", ctrl);
-        self.add_each("\x1b[", EDIT_KEYS, "@", shift | ctrl);
-        self.add_each("\x1b[20", &[('0', KeyCode::InternalPasteStart)], "~", none);
-        self.add_each("\x1b[20", &[('1', KeyCode::InternalPasteEnd)], "~", none);
-        self.add_each("\x1bO", HOME_AND_END, "", none);
-        self.add_each("\x1b[1;5", &[('Z', KeyCode::Tab)], "", shift | ctrl);
+        self.add_each("\x1b[", &Keys::new("Z: Tab"), "", shift);
+        self.add_each("\x1b[", &CURSOR_KEYS, "", none);
+        self.add_each_suffixed("\x1b[1", 17, &CURSOR_KEYS);
+        self.add_each("\x1b[", &SMALL_ARROWS, "", shift);
+        self.add_each("\x1bO", &SMALL_ARROWS, "", ctrl);
+        self.add_each("\x1bO", &APPLICATION_ARROWS, "", none);
+        self.add_each_suffixed("\x1bO1", 9, &APPLICATION_ARROWS);
+        self.add_each("\x1bO", &FIRST_FUNCTIONS, "", none);
+        self.add_each_suffixed("\x1b[1", 17, &FIRST_FUNCTIONS);
+        self.add_each("\x1b[", &EDIT_KEYS, "~", none);
+        self.add_each("\x1b[", &EDIT_KEYS, "$", shift);
+        self.add_each("\x1b[", &EDIT_KEYS, "^", ctrl);
+        self.add_each("\x1b[", &EDIT_KEYS, "@", shift | ctrl);
+        self.add_each("\x1b[20", &Keys::new("0: InternalPasteStart"), "~", none);
+        self.add_each("\x1b[20", &Keys::new("1: InternalPasteEnd"), "~", none);
+        self.add_each("\x1bO", &HOME_AND_END, "", none);
+        self.add_each("\x1b[1;5", &Keys::new("Z: Tab"), "", shift | ctrl);
     }
 }
