@@ -16,7 +16,7 @@ static void expect(int holds, const char *what, const char *file, int line) {
 }
 
 /* Prints how many checks there were. Returns the status. */
-static int expected(const char *test) {
+static inline int expected(const char *test) {
   printf("%s: %d checks, %d failed\n", test, expectations, faults);
   return faults || !expectations;
 }

@@ -1,10 +1,8 @@
 /* A test of bindings, matchers and a program's own timer. Worked rows say what the presses of some keys do, and when. A thousand chords are bound,
  * listed, read by a matcher and unbound. Numbers that stand for nothing are refused, and so is a handle that has no bindings. */
-#include "expect.h"
-#include "hedrugal.h"
-#include <string.h>
+#include "told.h"
 
-enum { CHORDS = 1000 };
+enum { CHORDS = 1000, MOST = 20000 };
 
 /* Reads the name of a chord, up to a character that ends it, and returns how many presses it has. */
 static size_t read_chord(const char *text, size_t len, hed_key_press *keys) {
@@ -19,24 +17,22 @@ static hed_key_press read_press(const char *text, size_t len) {
   return keys[0];
 }
 
-/* What was told so far: the outcomes, with blanks between them. */
-static char told[256];
-
+/* Tells a press or some, behind what was told so far. */
 static void tell_press(const char *before, const hed_key_press *keys, size_t count) {
   uint8_t name[128];
   size_t len;
   EXPECT(hed_key_print(keys, count, name, sizeof name, &len) == HED_OK);
-  snprintf(told + strlen(told), sizeof told - strlen(told), "%s%s%.*s", *told ? "; " : "", before, (int)len, name);
+  tell("%s%s%.*s", *told ? "; " : "", before, (int)len, name);
 }
 
-static void tell(const hed_outcome *outcome) {
+static void tell_outcome(const hed_outcome *outcome) {
   if (outcome->kind == HED_OUTCOME_UNBOUND) {
     EXPECT(outcome->keys == 1 && outcome->value == 0);
     tell_press("?", &outcome->press, 1);
     return;
   }
   EXPECT(outcome->kind == HED_OUTCOME_BOUND && outcome->press.key == 0 && outcome->press.detail == 0);
-  snprintf(told + strlen(told), sizeof told - strlen(told), "%s%u", *told ? "; " : "", (unsigned)outcome->value);
+  tell("%s%u", *told ? "; " : "", (unsigned)outcome->value);
 }
 
 /* Tells all outcomes. What a call leaves unwritten stays. */
@@ -55,7 +51,7 @@ static void take_all(hed_matcher *matcher, const hed_bindings *bindings, bool mo
            && outcome.press.detail == first.press.detail);
     EXPECT(matcher->count == before.count - outcome.keys);
     EXPECT(memcmp(matcher->keys, before.keys + outcome.keys, matcher->count * sizeof *before.keys) == 0);
-    tell(&outcome);
+    tell_outcome(&outcome);
   }
 }
 
@@ -99,19 +95,19 @@ static const struct {
   const char *chords, *words, *outcomes, *pending;
 } rows[] = {
   { "ctrl+x ctrl+s,g,g g", "ctrl+x ctrl+s g g g", "1; 3", "g" },
-  { "g,g g", "g x g PAUSE", "1; ?x; 1", "" },
-  { "g g,g", "g g g PAUSE", "1; 2", "" },
-  { "a b c,b", "a b x", "?a; 2; ?x", "" },
-  { "a,a b c,b d", "a b d", "1; 3", "" },
-  { "a,a b c,b d", "a b PAUSE", "1; ?b", "" },
-  { "j k", "j j k", "?j; 1", "" },
-  { "ctrl+x ctrl+s", "ctrl+x z", "?ctrl+x; ?z", "" },
-  { "ctrl+x ctrl+s", "ctrl+x z CANCEL", "cancelled ctrl+x z", "" },
-  { "a b c", "a b UNBIND:a_b_c", "?a; ?b", "" },
-  { "ctrl+x ctrl+c", "ctrl+x ctrl+\321\201/ctrl+c", "1", "" },
-  { "ctrl+\321\201,ctrl+c", "ctrl+\321\201/ctrl+c", "1", "" },
-  { "ctrl+c", "ctrl+\321\201/ctrl+c a", "1; ?a", "" },
-  { "", "a ctrl+b", "?a; ?ctrl+b", "" },
+  { "g,g g", "g x g PAUSE", "1; ?x; 1", "nothing" },
+  { "g g,g", "g g g PAUSE", "1; 2", "nothing" },
+  { "a b c,b", "a b x", "?a; 2; ?x", "nothing" },
+  { "a,a b c,b d", "a b d", "1; 3", "nothing" },
+  { "a,a b c,b d", "a b PAUSE", "1; ?b", "nothing" },
+  { "j k", "j j k", "?j; 1", "nothing" },
+  { "ctrl+x ctrl+s", "ctrl+x z", "?ctrl+x; ?z", "nothing" },
+  { "ctrl+x ctrl+s", "ctrl+x z CANCEL", "cancelled ctrl+x z", "nothing" },
+  { "a b c", "a b UNBIND:a_b_c", "?a; ?b", "nothing" },
+  { "ctrl+x ctrl+c", "ctrl+x ctrl+\321\201/ctrl+c", "1", "nothing" },
+  { "ctrl+\321\201,ctrl+c", "ctrl+\321\201/ctrl+c", "1", "nothing" },
+  { "ctrl+c", "ctrl+\321\201/ctrl+c a", "1; ?a", "nothing" },
+  { "", "a ctrl+b", "?a; ?ctrl+b", "nothing" },
 };
 
 static void presses_run_commands(void) {
@@ -120,18 +116,16 @@ static void presses_run_commands(void) {
     hed_matcher matcher = HED_MATCHER_NONE;
     EXPECT(hed_bindings_init(&bindings) == HED_OK && hed_bindings_len(&bindings) == 0);
     bind_all(&bindings, rows[i].chords);
-    *told = 0;
     for (const char *at = rows[i].words; *at;) {
       size_t len = strcspn(at, " ");
       do_word(&matcher, &bindings, at, len);
       at += len + (at[len] == ' ');
     }
-    EXPECT(strcmp(told, rows[i].outcomes) == 0);
-    *told = 0;
+    is_told(rows[i].outcomes);
     hed_key_press keys[HED_CHORD_MOST];
     size_t count = hed_matcher_pending(&matcher, keys, HED_CHORD_MOST);
     if (count) tell_press("", keys, count);
-    EXPECT(strcmp(told, rows[i].pending) == 0);
+    is_told(rows[i].pending);
     hed_bindings_free(&bindings);
     hed_bindings_free(&bindings);
     EXPECT(!bindings.live && !bindings.state);
@@ -185,6 +179,9 @@ static void binds_a_thousand_chords(void) {
     EXPECT(hed_bindings_unbind(&bindings, keys, 3, &value) == HED_NONE && value == i * 7919 % CHORDS);
   }
   EXPECT(hed_bindings_len(&bindings) == 0);
+  for (*keys = read_press("U+4E00", 6); hed_bindings_len(&bindings) < MOST; keys->detail++)
+    if (hed_bindings_bind(&bindings, keys, 1, 0) != HED_OK) break;
+  EXPECT(hed_bindings_len(&bindings) == MOST);
   hed_bindings_free(&bindings);
 }
 

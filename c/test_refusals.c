@@ -317,7 +317,7 @@ static void refuse_init(long step, const hed_parser *other) {
   hed_parser parser = HED_PARSER_NONE, none = HED_PARSER_NONE;
   long number = 1;
   make(&parser, HED_DIALECT_EXTENDED);
-  READS(&parser, START "last" END "\033[", "Paste(last); ");
+  READS(&parser, START "last" END "\033[", "paste \"last\"");
   for (;; number += step) {
     refuse(number);
     hed_status status =
@@ -331,7 +331,7 @@ static void refuse_init(long step, const hed_parser *other) {
   }
   refuse(0);
   EXPECT(number > 1 && hed_parser_waiting_len(&parser) == 0 && hed_parser_text(&parser, NULL, 0) == 0);
-  READS(&parser, "\033]", "] ALT; ");
+  READS(&parser, "\033]", "key U+005D ALT");
   hed_parser_free(&parser);
   printf("init%s: %ld refusals\n", other ? " that shares a table" : "", (number - 1) / step);
 }
@@ -347,7 +347,7 @@ static void need_no_memory(void) {
   hed_key_press press;
   size_t count;
   make(&parser, HED_DIALECT_EXTENDED);
-  READS(&parser, "\033", "");
+  READS(&parser, "\033", "nothing");
   for (int again = 0; again < 2; again++) {
     refuse(1);
     EXPECT(hed_parser_feed(&parser, 30, many, sizeof many) == HED_NO_MEMORY && refused == 1 && hed_parser_timeout(&parser, 20) == 30);
@@ -365,7 +365,9 @@ static void need_no_memory(void) {
     hed_parser_press(&parser, &event, &press);
     hed_parser_second(&parser, &event, &press);
   }
-  is_told("UpArrow; CursorPosition(24, 80); FocusGained; a CTRL Release; q; KeyboardFlags(5); Mouse 8 Press(1, 1, 0, 0); UpArrow ALT; ");
+  is_told(
+      "key UpArrow NONE, position 24 80, focus gained, key U+0061 CTRL release, key U+0071 NONE, flags 5, mouse 1 1 NONE NONE press 8, key "
+      "UpArrow ALT");
   hed_parser_forget_positions(&parser);
   EXPECT(hed_parser_feed(&parser, 0, NULL, 0) == HED_OK && hed_parser_next(&parser, &event) == HED_NONE);
   EXPECT(hed_parser_timeout(&parser, 4) == 1 && hed_parser_skip_paste(&parser, &count) == HED_OK && count == 2);
@@ -392,7 +394,7 @@ static void shares_memory(void) {
   printf("memory: %zu bytes for a parser, at most %zu for each of %d others that share its table\n", alone, most, COUNT - 1);
   for (size_t i = 0; i < COUNT - 1; i++) hed_parser_free(&parsers[i]);
   EXPECT(in_use - before <= alone && in_use - before > alone / 2);
-  READS(&parsers[COUNT - 1], "\033[A", "UpArrow; ");
+  READS(&parsers[COUNT - 1], "\033[A", "key UpArrow NONE");
   hed_parser_free(&parsers[COUNT - 1]);
   EXPECT(in_use == before);
 }

@@ -53,7 +53,7 @@ static void shares_the_table_alone(void) {
   hed_parser first = HED_PARSER_NONE, second = HED_PARSER_NONE, none = HED_PARSER_NONE;
   EXPECT(hed_parser_init(&first, HED_DIALECT_EXTENDED) == HED_OK && hed_parser_set_policy(&first, &policy) == HED_OK);
   hed_parser_set_parts(&first, 0);
-  READS(&first, START "last" END "\033", "Paste(last); ");
+  READS(&first, START "last" END "\033", "paste \"last\"");
   EXPECT(hed_parser_init(&second, HED_DIALECT_EXTENDED) == HED_OK && feeds(&second, "\033[1;5"));
   for (int again = 0; again < 2; again++) {
     EXPECT(init_sharing(&second, HED_DIALECT_EXTENDED, &first) && hed_parser_text(&second, NULL, 0) == 0);
@@ -61,14 +61,14 @@ static void shares_the_table_alone(void) {
     EXPECT(hed_parser_init_sharing(&first, HED_DIALECT_EXTENDED, &none) == HED_NOT_INITIALIZED && !none.live);
     for (size_t i = 0; i < 4; i++) EXPECT(hed_parser_init_sharing(&first, no_dialects[i], &second) == HED_BAD_NUMBER);
     for (size_t i = 0; i < 4; i++) EXPECT(hed_parser_init_sharing(&none, no_dialects[i], &second) == HED_BAD_NUMBER && !none.live);
-    READS(&second, START "a" END "\033", "Paste(a); ");
+    READS(&second, START "a" END "\033", "paste \"a\"");
     EXPECT(hed_parser_timeout(&second, 0) == 50 && hed_parser_timeout(&first, 0) == 7);
-    READS(&second, "[" START "a", "[ ALT; ");
+    READS(&second, "[" START "a", "key U+005B ALT");
     EXPECT(hed_parser_waiting_len(&second) == 7 && hed_parser_waiting_len(&first) == 1);
   }
-  READS(&first, "[D", "LeftArrow; ");
+  READS(&first, "[D", "key LeftArrow NONE");
   hed_parser_free(&first);
-  READS(&second, END, "Paste(a); ");
+  READS(&second, END, "paste \"a\"");
   EXPECT(is_reading(&second));
   hed_parser_free(&second);
 }

@@ -1,9 +1,9 @@
-/* Events as words, for tests that compare them: `UpArrow CTRL; Paste(ab); `. */
+/* Events as words, as tests/cases/README.md has them: `key UpArrow CTRL, paste "ab"`. */
 #ifndef TOLD_H
 #define TOLD_H
 
 #include "expect.h"
-#include "hedrugal.h"
+#include "same.h"
 #include <stdarg.h>
 #include <string.h>
 
@@ -24,8 +24,7 @@ enum {
   CAPS_LOCK = HED_KITTY_MOD_CAPS_LOCK,
   NUM_LOCK = HED_KITTY_MOD_NUM_LOCK,
   REPEAT = HED_KEY_EVENT_KIND_REPEAT,
-  RELEASE = HED_KEY_EVENT_KIND_RELEASE,
-  LAST_KEY = HED_KEY_INTERNAL_PASTE_END
+  RELEASE = HED_KEY_EVENT_KIND_RELEASE
 };
 
 /* An event of a key: with the codes of a character, without them, and pressed. */
@@ -35,101 +34,121 @@ enum {
 #define PRESS(held, name, number) KEY(HED_KEY_EVENT_KIND_PRESS, held, name, number)
 #define CHAR(held, number, with_shift, at_base) KEY_AND_CODES(HED_KEY_EVENT_KIND_PRESS, held, HED_KEY_CHAR, number, with_shift, at_base)
 
-/* What was told since it was compared. */
-static char told[8192];
+/* What was told since it was compared, and how many characters that is. */
+static char told[1 << 16];
+static size_t told_len;
 
 static inline void tell(const char *format, ...) {
-  size_t len = strlen(told);
   va_list words;
   va_start(words, format);
-  int written = vsnprintf(told + len, sizeof told - len, format, words);
+  int written = vsnprintf(told + told_len, sizeof told - told_len, format, words);
   va_end(words);
-  EXPECT(written >= 0 && (size_t)written < sizeof told - len);
+  EXPECT(written >= 0 && (size_t)written < sizeof told - told_len);
+  told_len += strlen(told + told_len);
+}
+
+static inline void forget(void) {
+  told[told_len = 0] = '\0';
 }
 
 /* What was told is this, and is forgotten. */
 static inline void is_told(const char *wanted) {
-  if (strcmp(told, wanted) != 0) fprintf(stderr, "not '%s', but '%s'\n", wanted, told);
-  EXPECT(strcmp(told, wanted) == 0);
-  told[0] = '\0';
+  const char *is = *told ? told : "nothing";
+  if (strcmp(is, wanted) != 0) fprintf(stderr, "not %s\nbut %s\n", wanted, is);
+  EXPECT(strcmp(is, wanted) == 0);
+  forget();
 }
 
-static inline void tell_bytes(const char *name, const uint8_t *bytes, size_t len) {
-  tell("%s(", name);
-  for (size_t i = 0; i < len; i++) tell(bytes[i] >= ' ' && bytes[i] <= '~' ? "%c" : "\\x%02x", bytes[i]);
-  tell(")");
+/* The bytes that have a letter in a text, and their letters. */
+static const char marked[] = "\033\r\n\t\"\\ ", letters[] = "ernt\"\\s";
+
+/* A text in quotes. */
+static inline void tell_text(const uint8_t *bytes, size_t len) {
+  tell("\"");
+  for (size_t i = 0; i < len; i++) {
+    const char *at = bytes[i] ? strchr(marked, bytes[i]) : NULL;
+    if (at) tell("\\%c", letters[at - marked]);
+    else tell(bytes[i] > ' ' && bytes[i] <= '~' ? "%c" : "\\x%02x", bytes[i]);
+  }
+  tell("\"");
 }
 
-static inline void tell_key_name(const hed_event *event) {
-  char name[22];
-  unsigned detail = event->detail;
-  if (hed_key_name(event->key, (uint8_t *)name, sizeof name) == 0) tell("functional %u", detail);
-  else if (event->key == HED_KEY_CHAR) tell(detail > ' ' && detail < 0x7f ? "%c" : "U+%04X", detail);
-  else if (event->key == HED_KEY_FUNCTION) tell("F%u", detail);
-  else tell("%s", name);
+/* The names of the bits of sets, from the lowest bit on. */
+static const char *const kitty_mods[] = { "SHIFT", "ALT", "CTRL", "SUPER", "HYPER", "META", "CAPS_LOCK", "NUM_LOCK", NULL };
+static const char *const mouse_buttons[] = { "", "LEFT", "RIGHT", "MIDDLE", "VERT_WHEEL", "HORZ_WHEEL", "WHEEL_POSITIVE", NULL };
+
+static inline void tell_set(const char *const *names, unsigned set) {
+  const char *before = " ";
+  for (; *names && set; names++, set >>= 1)
+    if (set & 1) tell("%s%s", before, *names), before = "+";
+  EXPECT(set == 0);
+  if (*before == ' ') tell(" NONE");
 }
 
-static inline void tell_code(const char *name, uint32_t code) {
-  if (code != HED_NO_CODE) tell(code < 0x7f ? " %s %c" : " %s U+%04X", name, (unsigned)code);
+static inline void tell_code(const char *before, uint32_t code) {
+  if (code != HED_NO_CODE) tell("%sU+%04X", before, (unsigned)code);
 }
 
 static inline void tell_key(const hed_event *event, const uint8_t *text) {
-  static const char *const modifiers[] = { "SHIFT", "ALT", "CTRL", "SUPER", "HYPER", "META", "CAPS", "NUM" };
-  static const char *const kinds[] = { " no kind", "", " Repeat", " Release" };
-  tell_key_name(event);
-  for (int bit = 0; bit < 8; bit++)
-    if (event->modifiers >> bit & 1) tell(" %s", modifiers[bit]);
-  tell("%s", kinds[event->key_event_kind <= HED_KEY_EVENT_KIND_RELEASE ? event->key_event_kind : 0]);
-  tell_code("shifted", event->shifted);
-  tell_code("base", event->base);
-  if (event->text_len > 0) tell_bytes(" text", text, event->text_len);
+  static const char *const kinds[] = { "", " repeat", " release" };
+  char name[22] = "0";
+  unsigned detail = event->detail, kind = event->key_event_kind - HED_KEY_EVENT_KIND_PRESS;
+  hed_key_name(event->key, (uint8_t *)name, sizeof name);
+  if (event->key == HED_KEY_CHAR) tell_code("key ", detail);
+  else if (event->key == HED_KEY_FUNCTION) tell("key F%u", detail);
+  else if (event->key == 0) tell("key %u", detail);
+  else tell("key %s", name);
+  EXPECT(kind <= 2 && (event->key <= HED_KEY_CHAR || event->key == HED_KEY_FUNCTION || detail == 0));
+  tell_set(kitty_mods, event->modifiers);
+  tell("%s", kind <= 2 ? kinds[kind] : " no kind");
+  tell_code(" shifted ", event->shifted);
+  tell_code(" base ", event->base);
+  if (event->text_len == 0) return;
+  tell(" text ");
+  tell_text(text, event->text_len);
 }
 
-/* The number of the button, if the report names one, what happened, the place, the buttons that are down, and the modifiers. */
 static inline void tell_mouse(const hed_event *event) {
-  static const char *const kinds[] = { "no kind", "Press", "Release", "Drag", "Move", "Wheel" };
-  tell("Mouse ");
-  if (event->button != 0) tell("%u ", event->button);
-  tell("%s(%u, %u, %u, %u)", kinds[event->mouse_kind <= HED_MOUSE_KIND_WHEEL ? event->mouse_kind : 0], event->x, event->y, event->buttons,
-       event->modifiers);
+  static const char *const kinds[] = { "press", "release", "drag", "move", "wheel" };
+  unsigned kind = event->mouse_kind - HED_MOUSE_KIND_PRESS;
+  EXPECT(kind <= 4);
+  tell("mouse %u %u", event->x, event->y);
+  tell_set(mouse_buttons, event->buttons);
+  tell_set(kitty_mods, event->modifiers);
+  tell(" %s %u", kind <= 4 ? kinds[kind] : "no kind", event->button);
 }
 
-/* A string, of the kind that it has or had. */
-static inline void tell_string(const char *before, uint8_t kind, const uint8_t *text, size_t len) {
-  static const char *const names[] = { "Osc", "Dcs", "Apc" };
-  EXPECT(kind >= HED_KIND_OSC && kind <= HED_KIND_APC);
-  tell("%s", before);
-  tell_bytes(names[kind - HED_KIND_OSC], text, len);
+/* A control sequence or a string, or what there is of one. */
+static inline void tell_string(const hed_event *event, const uint8_t *text) {
+  static const char *const names[] = { "csi", "osc", "dcs", "apc" };
+  bool is_whole = event->kind <= HED_KIND_APC;
+  unsigned kind = is_whole ? event->kind : event->string_kind;
+  EXPECT(kind >= (is_whole ? HED_KIND_CSI : HED_KIND_OSC) && kind <= HED_KIND_APC);
+  if (kind >= HED_KIND_CSI && kind <= HED_KIND_APC) tell("%s ", names[kind - HED_KIND_CSI]);
+  if (!is_whole) tell(event->kind == HED_KIND_STRING_PART ? "part " : "cut ");
+  tell_text(text, event->text_len);
 }
 
 /* An event, and the bytes that it brought. */
 static inline void tell_event(const hed_event *event, const uint8_t *text) {
-  size_t len = event->text_len;
+  hed_event own = own_fields(event);
+  EXPECT(same_event(event, &own));
+  if (*told) tell(", ");
   switch (event->kind) {
     case HED_KIND_KEY: tell_key(event, text); break;
     case HED_KIND_MOUSE: tell_mouse(event); break;
-    case HED_KIND_PASTE: tell_bytes("Paste", text, len); break;
-    case HED_KIND_PASTE_PART: tell_bytes("PastePart", text, len); break;
-    case HED_KIND_FOCUS_GAINED: tell("FocusGained"); break;
-    case HED_KIND_FOCUS_LOST: tell("FocusLost"); break;
-    case HED_KIND_CURSOR_POSITION: tell("CursorPosition(%u, %u)", event->row, event->column); break;
-    case HED_KIND_RESIZED: tell("Resized(%u, %u, %u, %u)", event->rows, event->columns, event->height, event->width); break;
-    case HED_KIND_KEYBOARD_FLAGS: tell("KeyboardFlags(%u)", event->flags); break;
-    case HED_KIND_CSI: tell_bytes("Csi", text, len); break;
-    case HED_KIND_STRING_PART: tell_string("Part of ", event->string_kind, text, len); break;
-    case HED_KIND_STRING_CUT: tell_string("Cut ", event->string_kind, text, len); break;
-    default: tell_string("", event->kind, text, len);
+    case HED_KIND_PASTE: tell("paste "), tell_text(text, event->text_len); break;
+    case HED_KIND_PASTE_PART: tell("paste part "), tell_text(text, event->text_len); break;
+    case HED_KIND_FOCUS_GAINED: tell("focus gained"); break;
+    case HED_KIND_FOCUS_LOST: tell("focus lost"); break;
+    case HED_KIND_CURSOR_POSITION: tell("position %u %u", event->row, event->column); break;
+    case HED_KIND_RESIZED: tell("resized %u %u %u %u", event->rows, event->columns, event->height, event->width); break;
+    case HED_KIND_KEYBOARD_FLAGS: tell("flags %u", event->flags); break;
+    default: tell_string(event, text);
   }
-  tell("; ");
 }
 
-/* Whether all fields are the same. What lies between them has no meaning. */
-static inline bool same_event(const hed_event *one, const hed_event *other) {
-  size_t end = offsetof(hed_event, width) + sizeof one->width, from = offsetof(hed_event, detail);
-  return memcmp(one, other, end) == 0 && memcmp(&one->detail, &other->detail, sizeof *one - from) == 0;
-}
-
-/* Whether the call left all of an event as it was: 0x55. */
+/* Whether a call left all of these bytes as they were: 0x55. */
 static inline bool is_marked(const void *bytes, size_t len) {
   const uint8_t *at = (const uint8_t *)bytes;
   while (len > 0 && *at == 0x55) at++, len--;
@@ -147,15 +166,18 @@ static inline void make(hed_parser *parser, uint32_t dialect) {
 /* How many refusals of memory were met: the call is made again. */
 static unsigned met;
 
+/* The most bytes that an event of a test brings. */
+enum { BROUGHT_MOST = 1 << 14 };
+
 /* Tells all events that are next. */
 typedef void take(hed_parser *parser);
 
 /* Tells them one by one. The parser has the bytes of the event that was told last. What was buffered stays if there is no event. */
 static inline void tell_events(hed_parser *parser) {
   hed_status next;
+  static uint8_t text[BROUGHT_MOST];
   do {
     hed_event event;
-    uint8_t text[256];
     size_t waiting = hed_parser_waiting_len(parser), len = hed_parser_text(parser, NULL, 0);
     memset(&event, 0x55, sizeof event);
     next = hed_parser_next(parser, &event);
@@ -175,10 +197,11 @@ static size_t room = 12, text_room = 40;
 
 /* Tells them in arrays. Of the last event of an array the bytes may be cut off, and the parser has them whole. */
 static inline void tell_arrays(hed_parser *parser) {
+  static uint8_t whole[BROUGHT_MOST];
   hed_status next;
   do {
     hed_event events[12];
-    uint8_t text[40], whole[256];
+    uint8_t text[40];
     size_t count = 77, at = 0;
     memset(events, 0x55, sizeof events);
     memset(text, 0x55, sizeof text);

@@ -2,10 +2,11 @@
 # Tests the library from C: `make check-c`. HEDRUGAL_LIBRARY names its folder, else it is out/lib. CC and CXX compile, and EMULATOR has the
 # words that run a program of another processor.
 #
-# The example and the tests in c/ are built as C99, the example also as C++, and linked with the archive and with the shared library. The
-# tests also run under valgrind, which has to find no error and no leak, and its helgrind no race in a test of four threads, whose parsers
-# share a table. One test refuses every request for memory in turn. Without valgrind and under an emulator, which can't run it, its cases are
-# left out, and a line says so. The last line is 'N passed, N failed', the status 1 if a case failed.
+# The example and the tests in c/ are built as C99, the example also as C++, and linked with the archive and with the shared library. One
+# test runs the cases of tests/cases, of which each file must be there and have a case. The tests also run under valgrind, which has to
+# find no error and no leak, and its helgrind no race in a test of four threads, whose parsers share a table. One test refuses every request
+# for memory in turn. Without valgrind and under an emulator, which can't run it, its cases are left out, and a line says so. The last line
+# is 'N passed, N failed', the status 1 if a case failed or none was run.
 . "$(dirname "$0")/common.sh"
 start_cases "$@"
 cc=${CC:-cc} cxx=${CXX:-c++}
@@ -52,14 +53,18 @@ check 'example' check_example "$work/events"
 check 'example as C++' "$cxx" -std=c++11 "${strict[@]}" -I"$library" -xc++ c/events.c -xnone "${shared[@]}" -o "$work/events_cpp"
 check 'example with the shared library' check_example "$work/events_cpp"
 check 'example by pkg-config' example_by_pkg_config
-for name in parser encode presses bindings keymap questions; do check "build of test_$name" build test_$name $name; done
-check 'build with the shared library' "$cc" -std=c99 "${strict[@]}" -I"$library" c/test_parser.c "${shared[@]}" -o "$work/parser_shared"
+for name in cases parser encode presses bindings keymap questions; do check "build of test_$name" build test_$name $name; done
+for name in cases parser; do
+    check "build of test_$name with the shared library" \
+        "$cc" -std=c99 "${strict[@]}" -I"$library" c/test_$name.c "${shared[@]}" -o "$work/${name}_shared"
+done
 check 'build of test_refusals' build test_refusals refusals "$counting"
 check 'build of test_sharing' build test_sharing sharing -pthread
 check "build of the kit's functions" build test_kit kit c/kit/heap.c c/kit/system.c "$counting"
 for name in ask live edit prompt list server many; do check "program $name as C99" build $name $name c/hedrugal_terminal.c; done
 for name in parser encode bindings keymap questions sharing refusals parser_shared; do check "test_$name" run "$work/$name"; done
-check 'test_presses' run "$work/presses" c/numbers.txt
+check 'test_presses' run "$work/presses" c/hedrugal.h
+for name in cases cases_shared; do check "test_$name" run "$work/$name" tests/cases; done
 check "the kit's functions" run "$work/kit" one ''
 if [ ${#emulator[@]} -gt 0 ] || ! command -v valgrind > /dev/null; then
     echo 'left out: the cases under valgrind'
@@ -67,7 +72,8 @@ if [ ${#emulator[@]} -gt 0 ] || ! command -v valgrind > /dev/null; then
     exit
 fi
 for name in parser encode bindings keymap questions sharing; do check "test_$name under valgrind" memcheck "$work/$name"; done
-check 'test_presses under valgrind' memcheck "$work/presses" c/numbers.txt
+check 'test_presses under valgrind' memcheck "$work/presses" c/hedrugal.h
+check 'test_cases under valgrind' memcheck "$work/cases" tests/cases
 check 'test_refusals under valgrind' memcheck "$work/refusals" 1000
 check 'test_sharing under helgrind' timeout 300 valgrind --tool=helgrind --quiet --error-exitcode=9 "$work/sharing"
 print_counts

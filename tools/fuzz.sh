@@ -26,7 +26,6 @@ set -u
 export LC_ALL=C
 . "$(dirname "$0")/common.sh"
 declare -A longest=([cuts]=600 [calls]=400 [maps]=300 [keys]=48 [names]=160 [bindings]=300 [questions]=300)
-[ "${1-}" != --help ] || { show_help; exit; }
 if [ $# -lt 2 ]; then
     want_number "${1-60}" SECONDS
     ninth=$(((${1-60} + 8) / 9))

@@ -340,17 +340,6 @@ static hed_status take_of_twin(hed_event *event) {
   return answer;
 }
 
-/* The press of the event told last is that of the event with its text. */
-static void check_press(const hed_event *last) {
-  hed_key_press press, wanted;
-  begin_reads();
-  hed_status status = hed_event_press(last, text, text_len, &wanted);
-  HOLDS(hed_parser_press(parser, last, &press) == status && (status || same_press(&press, &wanted)));
-  status = hed_event_second(last, &wanted);
-  HOLDS(hed_parser_second(parser, last, &press) == status && (status || same_press(&press, &wanted)));
-  end_reads();
-}
-
 static void without_parser(void) {
   static const hed_event key = { .kind = HED_KIND_KEY };
   hed_key_press *press = room_of(&taken, sizeof *press);
@@ -379,7 +368,7 @@ static hed_status take(unsigned number) {
   if (answer) return answer;
   HOLDS(same_event(event, &wanted));
   copy_text(text_len);
-  check_press(event);
+  check_last_press(parser, event, text);
   return answer;
 }
 
@@ -419,7 +408,7 @@ static void take_events(input *it, unsigned number) {
   bool is_full = compare_events(events, *count, capacity) || *count == room;
   HOLDS((answer == HED_OK) == is_full);
   if (answer == HED_NONE) HOLDS(take_of_twin(&other) == HED_NONE);
-  if (*count > 0) check_press(&events[*count - 1]);
+  if (*count > 0) check_last_press(parser, &events[*count - 1], text);
   copy_text(text_len);
 }
 
@@ -518,8 +507,7 @@ static void set_reading(uint8_t n) {
   HOLDS(is_unchanged(&place_of_reading, &reading));
   if (status) return;
   HOLDS(!hed_parser_set_reading(&twin, &reading) && !hed_parser_reading(parser, &found));
-  HOLDS(found.dialect == reading.dialect && found.erase == reading.erase && found.newline == reading.newline);
-  HOLDS(found.x10_mouse == reading.x10_mouse && found.questions == reading.questions);
+  HOLDS(same_reading(&found, &reading));
   said.is_told = false;
   said.questions = reading.questions;
 }
@@ -688,7 +676,7 @@ static void send_mouse(input *it) {
   told.tracking = take_byte(it);
   told.encoding = take_byte(it);
   const sent *all = send_again(encode_mouse, &told, take_byte(it));
-  bool is_bad = report->button > HED_MOUSE_BUTTON3_DRAG || report->modifiers & ~EVERY_MODIFIER || told.tracking > HED_MOUSE_TRACKING_ANY
+  bool is_bad = report->button > LAST_MOUSE || report->modifiers & ~EVERY_MODIFIER || told.tracking > HED_MOUSE_TRACKING_ANY
                 || told.encoding > HED_MOUSE_ENCODING_SGR;
   bool is_far = told.encoding == HED_MOUSE_ENCODING_DEFAULT && (report->x > FARTHEST || report->y > FARTHEST);
   HOLDS((all->status == HED_BAD_NUMBER) == is_bad);

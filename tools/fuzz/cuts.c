@@ -147,7 +147,7 @@ static void read_replies(void) {
     bool is_reply = read_reply(it, of_event, it->text_len, &all);
     HOLDS(read_reply(it, of_event, read++ % 8, &some) == is_reply && memcmp(&all, &some, sizeof all) == 0);
     if (!is_reply) continue;
-    HOLDS(it->kind <= HED_KIND_DCS && all.kind >= HED_REPLY_DEVICE_ATTRIBUTES && all.kind <= HED_REPLY_CLIPBOARD);
+    HOLDS(it->kind <= HED_KIND_DCS && all.kind >= HED_REPLY_DEVICE_ATTRIBUTES);
     HOLDS(all.len <= it->text_len && all.state <= HED_MODE_STATE_PERMANENTLY_RESET && all.scheme <= HED_COLOUR_SCHEME_LIGHT);
     note(0x90000u | all.kind, all.report + all.state + all.name + all.scheme + all.selection);
   }

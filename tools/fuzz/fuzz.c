@@ -198,17 +198,6 @@ void note(unsigned what, unsigned how) {
 
 /* Events. */
 
-bool same_event(const hed_event *one, const hed_event *other) {
-  bool is_same_key = one->key == other->key && one->key_event_kind == other->key_event_kind && one->detail == other->detail
-                     && one->shifted == other->shifted && one->base == other->base;
-  bool is_same_mouse = one->mouse_kind == other->mouse_kind && one->button == other->button && one->buttons == other->buttons
-                       && one->x == other->x && one->y == other->y;
-  bool is_same_place = one->row == other->row && one->column == other->column && one->rows == other->rows && one->columns == other->columns
-                       && one->height == other->height && one->width == other->width;
-  return is_same_key && is_same_mouse && is_same_place && one->kind == other->kind && one->modifiers == other->modifiers
-         && one->flags == other->flags && one->string_kind == other->string_kind && one->text_len == other->text_len;
-}
-
 bool is_scalar(uint32_t code) {
   return code <= 0x10ffff && (code < 0xd800 || code > 0xdfff);
 }
@@ -232,14 +221,20 @@ hed_event event_of(const hed_key_press *press) {
   return event;
 }
 
-bool same_press(const hed_key_press *one, const hed_key_press *other) {
-  return one->key == other->key && one->held == other->held && one->detail == other->detail;
-}
-
 bool is_press(const hed_key_press *press) {
   hed_event own = event_of(press);
   hed_key_press again;
   return hed_event_press(&own, NULL, 0, &again) == HED_OK && same_press(&again, press);
+}
+
+void check_last_press(const hed_parser *parser, const hed_event *last, const uint8_t *text) {
+  hed_key_press press, of_parser;
+  begin_reads();
+  hed_status status = hed_event_press(last, text, last->text_len, &press);
+  HOLDS(hed_parser_press(parser, last, &of_parser) == status && (status || same_press(&press, &of_parser)));
+  status = hed_event_second(last, &press);
+  HOLDS(hed_parser_second(parser, last, &of_parser) == status && (status || same_press(&press, &of_parser)));
+  end_reads();
 }
 
 enum { PLAIN_MODIFIERS = HED_KITTY_MOD_SHIFT | HED_KITTY_MOD_ALT | HED_KITTY_MOD_CTRL };
@@ -249,7 +244,7 @@ static void check_key(const hed_event *event, bool is_termwiz) {
   enum { FIRST_OF_KITTY = 57344, LAST_OF_KITTY = 63743 };
   bool is_of_kitty = event->detail >= FIRST_OF_KITTY && event->detail <= LAST_OF_KITTY;
   HOLDS(event->key_event_kind >= HED_KEY_EVENT_KIND_PRESS && event->key_event_kind <= HED_KEY_EVENT_KIND_RELEASE);
-  HOLDS(event->key <= HED_KEY_INTERNAL_PASTE_END && event->key != HED_KEY_INTERNAL_PASTE_START);
+  HOLDS(event->key <= LAST_KEY && event->key != HED_KEY_INTERNAL_PASTE_START);
   if (event->key == 0) HOLDS(event->detail == 0 || is_of_kitty);
   else if (event->key == HED_KEY_CHAR) HOLDS(is_scalar(event->detail));
   else if (event->key == HED_KEY_FUNCTION) HOLDS(event->detail >= 1 && event->detail <= (is_termwiz ? 24 : 255));
@@ -266,47 +261,20 @@ static void check_mouse(const hed_event *event) {
   uint8_t kind = event->mouse_kind, button = event->button;
   HOLDS(kind >= HED_MOUSE_KIND_PRESS && kind <= HED_MOUSE_KIND_WHEEL && button <= 11);
   HOLDS((event->modifiers & ~PLAIN_MODIFIERS) == 0);
-  HOLDS((event->buttons & ~(2 * HED_BUTTON_WHEEL_POSITIVE - HED_BUTTON_LEFT)) == 0);
+  HOLDS((event->buttons & ~(2 * LAST_BUTTON - HED_BUTTON_LEFT)) == 0);
   HOLDS(kind != HED_MOUSE_KIND_MOVE || button == 0);
   HOLDS(kind != HED_MOUSE_KIND_WHEEL || (button >= 4 && button <= 7));
   HOLDS(button != 0 || kind == HED_MOUSE_KIND_MOVE || kind == HED_MOUSE_KIND_RELEASE);
   HOLDS((event->buttons == 0) == (kind == HED_MOUSE_KIND_MOVE || kind == HED_MOUSE_KIND_RELEASE || button >= 8));
 }
 
-/* An event without what its kind has. */
-static hed_event without_own(hed_event event) {
-  switch (event.kind) {
-    case HED_KIND_KEY:
-      event.modifiers = event.key_event_kind = 0;
-      event.key = 0;
-      event.detail = event.shifted = event.base = 0;
-      event.text_len = 0;
-      break;
-    case HED_KIND_MOUSE:
-      event.modifiers = event.mouse_kind = event.button = event.buttons = 0;
-      event.x = event.y = 0;
-      break;
-    case HED_KIND_CURSOR_POSITION: event.row = event.column = 0; break;
-    case HED_KIND_RESIZED: event.rows = event.columns = event.height = event.width = 0; break;
-    case HED_KIND_KEYBOARD_FLAGS: event.flags = 0; break;
-    case HED_KIND_STRING_PART:
-    case HED_KIND_STRING_CUT: event.string_kind = 0; break;
-    default: break;
-  }
-  bool has_text = event.kind == HED_KIND_PASTE || event.kind >= HED_KIND_CSI;
-  if (has_text) event.text_len = 0;
-  event.kind = 0;
-  return event;
-}
-
 void check_event(const hed_event *event, bool is_termwiz) {
-  static const hed_event none;
-  hed_event others = without_own(*event);
+  hed_event own = own_fields(event);
   uint8_t kind = event->kind;
   bool is_key = kind == HED_KIND_KEY, is_mouse = kind == HED_KIND_MOUSE, is_string = kind >= HED_KIND_STRING_PART;
   HOLDS(kind >= HED_KIND_KEY && kind <= HED_KIND_STRING_CUT && kind != HED_KIND_PASTE + 1);
   HOLDS(!is_termwiz || is_key || is_mouse || kind == HED_KIND_PASTE || kind == HED_KIND_PASTE_PART);
-  HOLDS(same_event(&others, &none));
+  HOLDS(same_event(event, &own));
   if (is_key) check_key(event, is_termwiz);
   if (is_mouse) check_mouse(event);
   if (is_string) HOLDS(event->string_kind >= HED_KIND_OSC && event->string_kind <= HED_KIND_APC);

@@ -3,7 +3,7 @@
 #ifndef FUZZ_H
 #define FUZZ_H
 
-#include "hedrugal.h"
+#include "../../c/same.h"
 
 /* A check. If it fails, it is printed and the program aborts, and libFuzzer keeps the input. */
 #define HOLDS(holds) ((holds) ? (void)0 : fail(#holds, __FILE__, __LINE__))
@@ -91,15 +91,11 @@ void end_reads(void);
 /* Notes something that a run has seen, so that libFuzzer keeps inputs that show something new: the archive itself isn't instrumented. */
 void note(unsigned what, unsigned how);
 
-bool same_event(const hed_event *one, const hed_event *other);
-
 /* Checks what holds for every event, and what holds if termwiz's grammar read it. */
 void check_event(const hed_event *event, bool is_termwiz);
 
 /* The event of a press that holds these keys and tells nothing else. */
 hed_event event_of(const hed_key_press *press);
-
-bool same_press(const hed_key_press *one, const hed_key_press *other);
 
 /* Whether numbers are those of a press: it is its own. */
 bool is_press(const hed_key_press *press);
@@ -115,6 +111,9 @@ bool is_scalar(uint32_t code);
 /* Whether a key may have a second press: with a modifier but Shift its place or what it types with Shift is told, or its character may
  * have been sent by another key. */
 bool may_have_second(const hed_event *event);
+
+/* Checks that the presses of the event told last are those of the event with its text. */
+void check_last_press(const hed_parser *parser, const hed_event *last, const uint8_t *text);
 
 /* Checks that a parser, of which all is told, has these bytes waiting, and tells their kind. */
 void check_rest(const hed_parser *parser, const uint8_t *waiting, size_t len);

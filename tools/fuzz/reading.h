@@ -28,11 +28,6 @@ static reading whole, cut;
 static hed_parser *parser;
 static room given, taken, text;
 
-static bool same_reading(const hed_reading *one, const hed_reading *other) {
-  return one->dialect == other->dialect && one->erase == other->erase && one->newline == other->newline
-         && one->x10_mouse == other->x10_mouse && one->questions == other->questions;
-}
-
 static hed_reading reading_of(const hed_parser *it) {
   hed_reading found;
   HOLDS(hed_parser_reading(it, &found) == HED_OK);
@@ -69,14 +64,9 @@ static void keep_event(reading *it, const hed_event *next) {
   keep_text(it, next->text_len);
 }
 
-/* The press of the event told last is that of the event with its text. */
-static void check_last_press(const reading *it, const hed_event *last) {
-  const uint8_t *of_last = it->texts + it->texts_len - last->text_len;
-  hed_key_press press, of_parser;
-  hed_status status = hed_event_press(last, of_last, last->text_len, &press);
-  HOLDS(hed_parser_press(parser, last, &of_parser) == status && (status || same_press(&press, &of_parser)));
-  status = hed_event_second(last, &press);
-  HOLDS(hed_parser_second(parser, last, &of_parser) == status && (status || same_press(&press, &of_parser)));
+/* Checks the press of the event told last, whose text was kept. */
+static void check_kept_press(const reading *it, const hed_event *last) {
+  check_last_press(parser, last, it->texts + it->texts_len - last->text_len);
 }
 
 /* Keeps events of an array, with their bytes. Those of the last event may be cut off. */
@@ -107,7 +97,7 @@ static void take_arrays(reading *it) {
     answer = hed_parser_next_events(parser, events, room, pointer_to(&texts), capacity, &count);
     HOLDS((answer == HED_OK || answer == HED_NONE) && count <= room && is_untouched(&taken, count * sizeof *events));
     keep_array(it, events, count, &texts, capacity);
-    if (count > 0) check_last_press(it, &events[count - 1]);
+    if (count > 0) check_kept_press(it, &events[count - 1]);
   } while (answer == HED_OK);
 }
 
@@ -118,7 +108,7 @@ static bool take_one(reading *it) {
   HOLDS(is_untouched(&taken, answer == HED_OK ? sizeof *next : 0));
   if (answer == HED_NONE) return false;
   keep_event(it, next);
-  check_last_press(it, next);
+  check_kept_press(it, next);
   return true;
 }
 
@@ -224,7 +214,8 @@ static void begin(reading *it, size_t limit) {
 
 /* The same by limits of 1, to which a string adds a millisecond for each byte. */
 static void fall_due(reading *it, size_t len) {
-  static const hed_policy soon = { 1, 1, 1, 1, 1, 1 };
+  static hed_policy soon;
+  for (size_t i = 0; i < sizeof soon / sizeof(int32_t); i++) ((int32_t *)&soon)[i] = 1;
   int32_t due = it->rest == 0 ? -1 : hed_parser_waiting(parser) == HED_WAITING_STRING ? (int32_t)it->rest + 1 : 1;
   HOLDS(hed_parser_set_policy(parser, &soon) == HED_OK && hed_parser_timeout(parser, 0) == due);
   hed_parser_idle(parser, it->rest + 1);
