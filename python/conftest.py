@@ -9,7 +9,7 @@ import tempfile
 import pytest
 
 sys.dont_write_bytecode = True
-pytest.register_assert_rewrite("helpers")
+pytest.register_assert_rewrite("cases", "helpers")
 # Where the prebuilt library is linked. The folder is removed as Python ends.
 WORK = tempfile.TemporaryDirectory()
 try:

@@ -1,4 +1,5 @@
 """What several files of tests use."""
+import functools
 import os
 import re
 import resource
@@ -7,16 +8,8 @@ import sys
 
 import pytest
 
-from hedrugal import (
-    KeyCode,
-    KeyReport,
-    KittyModifiers,
-    Modifiers,
-    MouseButtons,
-    MouseKind,
-    MouseReport,
-    Paste,
-)
+from hedrugal import KeyCode, KeyReport, KittyModifiers, Modifiers, MouseButtons, MouseKind
+from hedrugal import MouseReport, Parser, Paste
 from hedrugal._library import library
 
 HERE = os.path.dirname(os.path.abspath(__file__))
@@ -59,29 +52,36 @@ def all_of(parser, *pieces):
     return [*(event for piece in pieces for event in parser.feed(piece)), *parser.flush()]
 
 
+# The bytes of keys that may begin a sequence.
+BEGINNINGS = (b"\x1b", b"\x1b\x1b", b"\x1b[", b"\x1bO", b"\x1bP", b"\x1b]", b"\x1b_")
+
+
+def assert_read_back(parser, event, sent):
+    """What was written is the event, also with more to come unless it may begin a sequence."""
+    assert parser.feed(sent) + (parser.end() if sent in BEGINNINGS else []) == [event], sent
+    assert parser.waiting_len == 0
+
+
+# What a call of a parser needs.
+NEEDED = {"feed": (b"q",), "entry": (0,)}
+
+
+def uses_of(parser):
+    """Each call of a parser but close, by its name. A property is read, and set to what it is."""
+    uses = {}
+    for name in {it for it in dir(Parser) if it[0] != "_"} - {"close", "closed"}:
+        if not isinstance(getattr(Parser, name), property):
+            uses[name] = functools.partial(getattr(parser, name), *NEEDED.get(name, ()))
+            continue
+        uses[name] = functools.partial(getattr, parser, name)
+        if getattr(Parser, name).fset:
+            uses[f"set {name}"] = functools.partial(setattr, parser, name, uses[name]())
+    return uses
+
+
 def assert_rest(parser, length, kind):
     """So many bytes are buffered, and they are this."""
     assert (parser.waiting_len, parser.waiting) == (length, kind)
-
-
-def events_in_time(parser, reads, step=None):
-    """The events of reads, and their times in milliseconds, in the loop of a program. It waits as
-    long as the parser says, or wakes once in each step. Bytes that come at the last moment come
-    first."""
-    now, reads = 0, list(reads)
-    while True:
-        timeout = parser.timeout(now / 1000)
-        due = None if timeout is None else now + round(1000 * (step or timeout))
-        if reads and (due is None or reads[0][0] <= due):
-            now, data = reads.pop(0)
-            events = parser.feed(data, now / 1000)
-        elif due is not None:
-            now = due
-            events = parser.idle(now / 1000)
-        else:
-            return
-        if events:
-            yield now, events
 
 
 def run_python(text, env=None, cwd=None):
@@ -91,16 +91,8 @@ def run_python(text, env=None, cwd=None):
         "PYTHONPATH": HERE,
         **(env or {}),
     }
-    words = [sys.executable, "-B", "-c", text]
-    done = subprocess.run(
-        words,
-        env=env,
-        cwd=cwd,
-        stdin=subprocess.DEVNULL,
-        capture_output=True,
-        timeout=SECONDS,
-        check=False,
-    )
+    how = {"stdin": subprocess.DEVNULL, "capture_output": True, "timeout": SECONDS, "check": False}
+    done = subprocess.run([sys.executable, "-B", "-c", text], env=env, cwd=cwd, **how)
     return done.returncode, done.stdout.decode(), done.stderr.decode()
 
 

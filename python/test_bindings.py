@@ -8,35 +8,10 @@ import weakref
 import pytest
 
 import hedrugal
-from hedrugal import (
-    Bindings,
-    Bound,
-    Chord,
-    KeyNameError,
-    KeyPress,
-    KittyModifiers,
-    Matcher,
-    Unbound,
-)
+from hedrugal import Bindings, Bound, Chord, KeyNameError, KeyPress, KittyModifiers, Matcher
+from hedrugal import Unbound
+from hedrugal._calls import STATUS_NO_MEMORY
 from hedrugal._library import library
-from hedrugal._numbers import STATUS_NO_MEMORY
-
-# Chords with the values 1, 2 and so on, words, the outcomes as values or `?` and a press, and what
-# is pending. A word is a key, two keys that are tried, or what its capitals say.
-ROWS = [
-    ("ctrl+x ctrl+s, g, g g", "ctrl+x ctrl+s g g g", "1; 3", "g"),
-    ("g, g g", "g x g PAUSE", "1; ?x; 1", ""),
-    ("g g, g", "g g g PAUSE", "1; 2", ""),
-    ("a b c, b", "a b x", "?a; 2; ?x", ""),
-    ("a, a b c, b d", "a b d", "1; 3", ""),
-    ("a, a b c, b d", "a b PAUSE", "1; ?b", ""),
-    ("j k", "j j k", "?j; 1", ""),
-    ("ctrl+x ctrl+s", "ctrl+x z", "?ctrl+x; ?z", ""),
-    ("ctrl+x ctrl+s", "ctrl+x z CANCEL", "cancelled ctrl+x z", ""),
-    ("a b c", "a b UNBIND:a_b_c", "?a; ?b", ""),
-    ("ctrl+x ctrl+c", "ctrl+x ctrl+\u0441/ctrl+c", "1", ""),
-    ("ctrl+\u0441, ctrl+c", "ctrl+\u0441/ctrl+c", "1", ""),
-]
 
 
 def numbered(chords):
@@ -51,47 +26,33 @@ def named(presses):
     return " ".join(map(str, presses))
 
 
-def told(outcome):
-    return str(outcome.value) if isinstance(outcome, Bound) else f"?{outcome.press}"
+def told(outcomes):
+    """Values, or `?` and a press."""
+    return [it.value if isinstance(it, Bound) else f"?{it.press}" for it in outcomes]
 
 
-def taken(matcher):
-    return list(iter(matcher.take, None))
-
-
-def act(matcher, word, cancels):
-    """What a word gives."""
-    if word == "PAUSE":
-        first = matcher.on_pause()
-        outcomes = matcher.give_up()
-        assert outcomes[0] == first
-        return map(told, outcomes)
-    if word == "CANCEL":
-        assert matcher.is_dead_end
-        return [f"cancelled {named(matcher.cancel())}"]
-    if word.startswith("UNBIND:"):
-        del matcher.bindings[word[7:].replace("_", " ")]
-        return map(told, taken(matcher))
-    if cancels:
-        matcher.push(word)
-        return []
-    first, _, second = word.partition("/")
-    return map(told, matcher.press(first, press(second) if second else None))
-
-
-@pytest.mark.parametrize("chords, words, outcomes, pending", ROWS)
-def test_keys_run_commands(chords, words, outcomes, pending):
-    matcher = Matcher(numbered(chords))
-    cancels = words.endswith("CANCEL")
-    given = [it for word in words.split() for it in act(matcher, word, cancels)]
-    assert "; ".join(given) == outcomes
-    assert named(matcher.pending) == pending
+def test_keys_run_commands():
+    matcher = Matcher(numbered("ctrl+x ctrl+s, g, g g, ctrl+\u0441, ctrl+c, a b c"))
+    assert [told(matcher.press(key)) for key in ("ctrl+x", "ctrl+s", "g", "g", "g")] == [
+        *([], [1], [], [3], [])
+    ]
+    assert (named(matcher.pending), told([matcher.on_pause()])) == ("g", [2])
+    assert told(matcher.give_up()) == [2] and matcher.on_pause() is None
+    # The second press counts where the first one leads nowhere.
+    assert told(matcher.press("ctrl+\u0441", press("ctrl+c"))) == [4]
+    del matcher.bindings["ctrl+\u0441"]
+    assert told(matcher.press("ctrl+\u0441", press("ctrl+c"))) == [5]
+    for key in ("ctrl+x", "z"):
+        assert not matcher.is_dead_end
+        matcher.push(key)
+    assert matcher.is_dead_end and named(matcher.cancel()) == "ctrl+x z"
+    assert matcher.press("a") == matcher.press("b") == []
+    del matcher.bindings["a b c"]
+    assert told(iter(matcher.take, None)) == ["?a", "?b"] and matcher.pending == ()
 
 
 def test_bindings_are_a_mapping():
-    bindings = Bindings(
-        {"C-x C-s": "save"},
-    )
+    bindings = Bindings({"C-x C-s": "save"})
     save = Chord.read("ctrl+x ctrl+s")
     assert bindings[save] == bindings["<C-x> <C-s>"] == "save"
     assert save in bindings and "g" not in bindings and bindings.get("g") is None
@@ -104,6 +65,11 @@ def test_bindings_are_a_mapping():
     bindings.update({"b": 4})
     bindings.clear()
     assert not bindings and list(bindings) == []
+
+
+def test_many_chords():
+    bindings = Bindings({chr(0x4E00 + place): place for place in range(20000)})
+    assert len(bindings) == 20000 and bindings["U+9C1F"] == 19999
 
 
 def test_no_such_chord_is_a_key_error():
@@ -139,10 +105,7 @@ def test_what_names_no_keys_is_refused():
 def test_continuations_are_what_may_follow():
     bindings = Bindings({"ctrl+x": 1, "ctrl+x 2": 2, "ctrl+x 1": 3, "ctrl+y 1": 4})
     after = bindings.continuations("ctrl+x")
-    assert [(str(chord), value) for chord, value in after.items()] == [
-        ("ctrl+x 1", 3),
-        ("ctrl+x 2", 2),
-    ]
+    assert [(str(chord), it) for chord, it in after.items()] == [("ctrl+x 1", 3), ("ctrl+x 2", 2)]
     assert bindings.continuations("g") == {} == bindings.continuations("ctrl+x 1")
 
 

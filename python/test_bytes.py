@@ -6,17 +6,8 @@ import sys
 
 import pytest
 
-from hedrugal import (
-    Exact,
-    KeyCode,
-    KeyMap,
-    KeyReport,
-    KittyKeyboardFlags,
-    KittyModifiers,
-    Parser,
-    Paste,
-    encode,
-)
+from hedrugal import Exact, KeyCode, KeyMap, KeyReport, KittyKeyboardFlags, KittyModifiers, Parser
+from hedrugal import Paste, encode
 
 UP, CTRL_UP = b"\x1b[1;5A", [KeyReport(KeyCode.UP_ARROW, KittyModifiers.CTRL)]
 

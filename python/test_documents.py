@@ -78,14 +78,8 @@ with Parser() as parser:
 def test_types(words):
     """The package passes mypy --strict, and so do the examples and programs that use it."""
     words = ["mypy", "--strict", "--cache-dir=/dev/null", *words]
-    done = subprocess.run(
-        words,
-        env={**os.environ, "MYPYPATH": HERE},
-        cwd=TOP,
-        capture_output=True,
-        timeout=SECONDS,
-        check=False,
-    )
+    how = {"cwd": TOP, "capture_output": True, "timeout": SECONDS, "check": False}
+    done = subprocess.run(words, env={**os.environ, "MYPYPATH": HERE}, **how)
     assert (done.returncode, done.stderr) == (0, b""), done.stdout.decode()
 
 

@@ -3,18 +3,8 @@ import sys
 
 import pytest
 
-from hedrugal import (
-    Completions,
-    Dialect,
-    Entry,
-    Function,
-    KeyCode,
-    KeyReport,
-    KittyModifiers,
-    Modifiers,
-    Parser,
-    Waiting,
-)
+from hedrugal import Completions, Dialect, Entry, Function, KeyCode, KeyReport, KittyModifiers
+from hedrugal import Modifiers, Parser, Waiting
 from helpers import all_of, assert_rest, constants
 
 
@@ -31,32 +21,28 @@ def report_of(key, modifiers):
 
 def test_entries(parser):
     """They are as many and as long as the header says, in the order of their bytes, and each means
-    its key."""
+    its key. With EXTENDED it is a key, too."""
     entries = list(parser.entries())
     assert {"COUNT": len(entries), "MOST": max(len(entry.bytes) for entry in entries)} == constants(
         "HED_ENTRY_"
     )
     texts = [entry.bytes for entry in entries]
     assert texts == sorted({*texts})
+    extended = Parser()
     for place, entry in enumerate(entries):
         assert parser.entry(place) == entry
         if entry.key is not KeyCode.INTERNAL_PASTE_START:
             assert all_of(parser, entry.bytes) == [report_of(entry.key, entry.modifiers)]
+            (event,) = all_of(extended, entry.bytes)
+            assert isinstance(event, KeyReport)
     assert Entry(b"\x1b[15;6~", Function(5), Modifiers.SHIFT | Modifiers.CTRL) in entries
     assert entries[0] == Entry(b"\x01", "a", Modifiers.CTRL)
     assert_rest(parser, 0, Waiting.NOTHING)
 
 
 def test_places_outside_the_table(parser):
-    for place in (
-        constants("HED_ENTRY_")["COUNT"],
-        sys.maxsize,
-        2**64 - 1,
-        2**64,
-        2**64 + 1,
-        -1,
-        -(2**64),
-    ):
+    count = constants("HED_ENTRY_")["COUNT"]
+    for place in (count, sys.maxsize, 2**64 - 1, 2**64, 2**64 + 1, -1, -(2**64)):
         assert parser.entry(place) is None
     for place in (None, "1", 1.0):
         with pytest.raises(TypeError):

@@ -10,100 +10,17 @@ from unittest import mock
 import pytest
 
 from hedrugal import Ambiguous, Exact, KeyMap, NeedData, Nothing
+from hedrugal._calls import STATUS_NO_MEMORY
 from hedrugal._library import library
-from hedrugal._numbers import STATUS_NO_MEMORY
 from helpers import LIMITS, assert_prints, needs_limits
 
-NESTED = {b"boa": False, b"boo": False, b"boom": True, b"boom!!": False}
 LONG = bytes(number % 251 for number in range(301))
-
-# The cases of tests/test_rattle.py: the entries of a map, and texts with the flag and
-# the answer. The first five are termwiz's own.
-CASES = {
-    "lookup_empty": ({}, [(b"boo", True, Nothing()), (b"boo", False, Nothing())]),
-    "lookup": (
-        {b"boa": True, b"boo": True, b"boom": False},
-        [
-            (b"b", True, NeedData()),
-            (b"bo", True, NeedData()),
-            (b"boa", True, Exact(3, True)),
-            (b"boo", True, Ambiguous(3, True)),
-            (b"boom", True, Exact(4, False)),
-            (b"boom!", True, Exact(4, False)),
-        ],
-    ),
-    "lookup_with_multiple_ambiguous_matches_without_additional_input": (
-        NESTED,
-        [(b"boom!", False, Exact(4, True))],
-    ),
-    "lookup_with_multiple_ambiguous_matches_with_potential_additional_input": (
-        NESTED,
-        [(b"boom!", True, Ambiguous(4, True))],
-    ),
-    "sequence": (
-        {b"\x03": True, b"\x27": True, b"\x03XYZ": True},
-        [
-            (b"\x03", True, Ambiguous(1, True)),
-            (b"\x03foo", True, Exact(1, True)),
-            (b"\x03X", True, Ambiguous(1, True)),
-        ],
-    ),
-    "lookup_dead_ends": (
-        {b"boa": True, b"boo": True, b"boom": True},
-        [(b"bz", True, Nothing()), (b"bo", True, NeedData())],
-    ),
-    "nothing": ({}, [(b"", True, Nothing())]),
-    "text_past_a_longer_prefix": (
-        NESTED,
-        [
-            (b"boom!x", True, Exact(4, True)),
-            (b"boo", False, Exact(3, False)),
-            (b"bo", False, NeedData()),
-            (b"", True, NeedData()),
-        ],
-    ),
-    "empty_key": (
-        {b"": True, b"ab": False},
-        [
-            (b"x", True, Exact(0, True)),
-            (b"", True, Ambiguous(0, True)),
-            (b"", False, Exact(0, True)),
-            (b"a", True, Ambiguous(0, True)),
-            (b"ab", True, Exact(2, False)),
-        ],
-    ),
-    "long_key": (
-        {LONG[:300]: True, LONG[:100]: False},
-        [
-            (LONG[:99], True, NeedData()),
-            (LONG[:100], True, Ambiguous(100, False)),
-            (LONG[:299], True, Ambiguous(100, False)),
-            (LONG[:300], True, Exact(300, True)),
-            (LONG, True, Exact(300, True)),
-        ],
-    ),
-}
 
 
 @pytest.fixture
 def keys():
     with KeyMap() as it:
         yield it
-
-
-def check(entries, lookups):
-    with KeyMap() as keys:
-        for key, value in entries:
-            keys.insert(key, value)
-        assert len(keys) == len(entries)
-        for text, maybe_more, answer in lookups:
-            assert keys.lookup(text, maybe_more) == answer
-
-
-@pytest.mark.parametrize("entries, lookups", CASES.values(), ids=CASES)
-def test_cases(entries, lookups):
-    check([*entries.items()], lookups)
-    check([*entries.items()][::-1], lookups)
 
 
 def found_in(entries, text, maybe_more):
@@ -141,11 +58,8 @@ def assert_alike(keys, pick, draw, entries):
     assert len(keys) == len(entries)
     for _ in range(10):
         text = draw(pick)
-        for maybe_more in (True, False):
-            assert keys.lookup(text, maybe_more) == found_in(entries, text, maybe_more), (
-                text,
-                entries,
-            )
+        for more in (True, False):
+            assert keys.lookup(text, more) == found_in(entries, text, more), (text, entries)
 
 
 def test_maps_and_dicts_agree():
@@ -187,13 +101,9 @@ def test_keys_that_are_not_there(keys):
     keys.insert(b"ab", 1)
     for missing in (b"a", b"abc", b"", b"x"):
         assert missing not in keys and keys.get(missing, 2) == 2
-        for use in (
-            lambda: keys[missing],
-            lambda: keys.pop(missing),
-            lambda: keys.__delitem__(missing),
-        ):
+        for use in (keys.__getitem__, keys.pop, keys.__delitem__):
             with pytest.raises(KeyError, match=re.escape(repr(missing))):
-                use()
+                use(missing)
     assert [*keys] == [b"ab"]
 
 
@@ -354,19 +264,18 @@ def test_answers_are_values(keys):
         assert hash(copy.copy(answer)) == hash(answer)
         with pytest.raises(AttributeError):
             answer.value = 1
-    assert (
-        repr(answers) == "[Nothing(), NeedData(), Exact(len=1, value=2), Ambiguous(len=1, value=2)]"
-    )
+    shown = "[Nothing(), NeedData(), Exact(len=1, value=2), Ambiguous(len=1, value=2)]"
+    assert repr(answers) == shown
 
 
 def test_kinds_of_bytes(keys):
     """Keys and texts are taken from each type that has bytes, and such a value may be changed at
     once."""
-    writable, cut = (
-        lambda text: memoryview(bytearray(text)),
-        lambda text: memoryview(text * 2)[: len(text)],
-    )
-    for make in (bytes, bytearray, memoryview, writable, cut):
+
+    def cut(text):
+        return memoryview(text * 2)[: len(text)]
+
+    for make in (bytes, bytearray, memoryview, lambda it: memoryview(bytearray(it)), cut):
         for key in (b"", b"ab", LONG):
             keys.insert(make(key), make)
             assert keys.lookup(make(key), False) == Exact(len(key), make)
@@ -385,9 +294,7 @@ def test_wrong_types(keys):
 
 
 # Inserts keys of 16 MB until memory is refused, and looks all of them up.
-REFUSED_INSERT = (
-    LIMITS
-    + """
+REFUSED_INSERT = """
 import gc, weakref
 class Value: pass
 key = bytearray(16 * MB)
@@ -425,7 +332,6 @@ values.append(other)
 check()
 print("good")
 """
-)
 
 
 # Memory is refused by a limit on the process, or where a request is too small for one.
@@ -433,7 +339,7 @@ print("good")
 
 @needs_limits
 def test_insert():
-    assert_prints(REFUSED_INSERT, "good\n", MALLOC_ARENA_MAX="1")
+    assert_prints(LIMITS + REFUSED_INSERT, "good\n", MALLOC_ARENA_MAX="1")
 
 
 def test_an_exception_of_a_handler_mixes_no_keys(keys):

@@ -1,7 +1,6 @@
 """The numbers, layouts and calls are those of C, and the library is found."""
 import ctypes
 import enum
-import inspect
 import os
 import pydoc
 import re
@@ -11,146 +10,92 @@ from pathlib import Path
 import pytest
 
 import hedrugal
-from hedrugal import (
-    Age,
-    ColourName,
-    ColourScheme,
-    DeviceAttributes,
-    Dialect,
-    EraseByte,
-    KeyboardEncoding,
-    KeyCode,
-    KeyEventKind,
-    KittyKeyboardFlags,
-    KittyModifiers,
-    ModeState,
-    Modifiers,
-    MouseButton,
-    MouseButtons,
-    MouseEncoding,
-    MouseKind,
-    MouseTracking,
-    NewlineByte,
-    Waiting,
-    _library,
-    _numbers,
-)
+from hedrugal import KeyCode, Modifiers, _calls
 from hedrugal._library import library
 from helpers import HERE, LIBRARY, constants, read, run_python
 
+ENUMS = [it for it in vars(hedrugal).values() if isinstance(it, enum.EnumMeta)]
+# The enums of the header that have another name here.
+NAMES = {
+    "termwiz_mod": "Modifiers",
+    "kitty_mod": "KittyModifiers",
+    "button": "MouseButtons",
+    "kitty_flag": "KittyKeyboardFlags",
+    "encoding": "KeyboardEncoding",
+    "erase": "EraseByte",
+    "newline": "NewlineByte",
+    "mouse": "MouseButton",
+    "key": "KeyCode",
+}
 
-@pytest.mark.parametrize(
-    "kind, prefix",
-    [
-        (Modifiers, "HED_TERMWIZ_MOD_"),
-        (KittyModifiers, "HED_KITTY_MOD_"),
-        (MouseButtons, "HED_BUTTON_"),
-        (KittyKeyboardFlags, "HED_KITTY_FLAG_"),
-        (KeyboardEncoding, "HED_ENCODING_"),
-        (Waiting, "HED_WAITING_"),
-        (Dialect, "HED_DIALECT_"),
-        (EraseByte, "HED_ERASE_"),
-        (NewlineByte, "HED_NEWLINE_"),
-        (KeyEventKind, "HED_KEY_EVENT_KIND_"),
-        (MouseKind, "HED_MOUSE_KIND_"),
-        (DeviceAttributes, "HED_DEVICE_ATTRIBUTES_"),
-        (ModeState, "HED_MODE_STATE_"),
-        (ColourName, "HED_COLOUR_NAME_"),
-        (ColourScheme, "HED_COLOUR_SCHEME_"),
-        (Age, "HED_AGE_"),
-        (MouseTracking, "HED_MOUSE_TRACKING_"),
-        (MouseEncoding, "HED_MOUSE_ENCODING_"),
-    ],
-)
-def test_enums(kind, prefix):
-    """Each enum has the header's names and numbers, and no others."""
-    members = {name: member.value for name, member in kind.__members__.items()}
-    assert members == constants(prefix) and len(members) > 1
+
+def enums_of_header():
+    """The numbers of the enums that have a name, by the names that the package has for them."""
+    enums = re.findall(r"^enum hed_(\w+) {\n(.*?)^}", read("c/hedrugal.h"), re.M | re.S)
+    for name, body in enums:
+        numbers = re.findall(rf"^  HED_{name.upper()}_(\w+) = (\w+)", body, re.M)
+        if numbers:
+            camel = "".join(map(str.capitalize, name.split("_")))
+            yield NAMES.get(name, camel), {word: int(number, 0) for word, number in numbers}
+
+
+def test_enums():
+    """Each enum has the header's names and numbers, and no others. The two keys that have a detail
+    are no KeyCode. The kinds of events, outcomes and replies are classes here."""
+    of_header = dict(enums_of_header())
+    for name in ("CHAR", "FUNCTION"):
+        del of_header["KeyCode"][name]
+    del of_header["Kind"]
+    members = {
+        it.__name__: {name: member.value for name, member in it.__members__.items()} for it in ENUMS
+    }
+    del members["StringKind"], members["KeyNameErrorKind"]
+    assert members == of_header and len(members) > 10
 
 
 def test_docstrings_of_members():
     """Each member has one of its own, which help shows."""
-    enums = [it for it in vars(hedrugal).values() if inspect.isclass(it)]
-    enums = [it for it in enums if issubclass(it, enum.Enum)]
-    assert len(enums) == 22 and MouseButton in enums
-    for it in enums:
+    for it in ENUMS:
         said = {member.__doc__ for member in it.__members__.values()}
-        assert len(said) == len(it.__members__) and it.__doc__ not in said
+        assert len(said) == len(it.__members__) > 1 and it.__doc__ not in said
     assert "Menu, Windows' name for Alt" in pydoc.render_doc(KeyCode.MENU)
     assert (Modifiers.CTRL | Modifiers.ALT).__doc__ == Modifiers.__doc__
 
 
-def keys_of_header():
-    return {
-        name: number
-        for name, number in constants("HED_KEY_").items()
-        if not name.startswith("EVENT_KIND_")
-    }
-
-
-def test_keys():
-    """The two keys that have a detail are no KeyCode."""
-    assert {
-        **{key.name: key.value for key in KeyCode},
-        "CHAR": 1,
-        "FUNCTION": 60,
-    } == keys_of_header()
-
-
 def test_other_numbers():
     """So have the constants for the numbers that no enum has."""
-    found = {name: it for name, it in vars(_numbers).items() if name.isupper() and type(it) is int}
-    known = constants("HED_")
+    found = {name: it for name, it in vars(_calls).items() if name.isupper() and type(it) is int}
+    known = {**constants("HED_"), "NO_PARTS": 2**64 - 1}
     assert found == {name: known[name.replace("STATUS_", "")] for name in found}
-    assert len(found) >= 50
-    for name in ("CHORD_MOST", "QUESTIONS_MOST", "NO_CODE"):
-        assert getattr(_library, name) == known[name]
+    assert len(found) >= 55
 
 
-# The structs: their size, and the offsets of some fields, as the end of the header has them.
-LAYOUTS = {
-    "Handle": (16, "state 8"),
-    "Event": (48, "string_kind 7 key 8 width 24 detail 28 base 36 text_len 40"),
-    "Match": (16, "value 8"),
-    "Outcome": (32, "press 16 kind 24"),
-    "Entries": (24, "count 8 with_alt 16"),
-    "Policy": (24, "alt_key 4 paste 20"),
-    "Seen": (8, "by 4 empty 7"),
-    "Timer": (40, "millis 24 holds 35"),
-    "Press": (8, "held 2 detail 4"),
-    "Matcher": (264, "keys 8"),
-    "Reading": (16, "erase 4 newline 8 x10_mouse 12 questions 13"),
-    "SentMouse": (6, "modifiers 4 button 5"),
-    "Reply": (32, "is_private 3 selection 6 index 8 columns 18 mode 20 len 24"),
-    "Question": (32, "positions 24"),
-    "Questions": (544, "count 24 open 32"),
-    "Modes": (16, "encoding 8 has_modify_other_keys 12"),
-}
-
-
-@pytest.mark.parametrize("name", LAYOUTS)
-def test_layouts(name):
-    (size, words), raw = LAYOUTS[name], getattr(_library, f"Raw{name}")
-    offsets = [f"{word} {getattr(raw, word).offset}" for word in words.split()[::2]]
-    assert (ctypes.sizeof(raw), " ".join(offsets)) == (size, words)
-
-
-def test_all_layouts():
-    assert {f"Raw{name}" for name in LAYOUTS} == {it for it in vars(_library) if it[:3] == "Raw"}
+def test_layouts():
+    """The structs have the sizes and offsets that Rust's compiler finds. Three have the same two
+    fields."""
+    written = re.findall(r"is_laid_out!\(([A-Z]\w+) (\d+) ([^)]*)\)", read("rust/src/raw.rs"))
+    seen = set()
+    for name, size, words in written:
+        name = {"KeyPress": "Press"}.get(name, "Handle" if words == "live 0 state 8" else name)
+        raw = getattr(_calls, f"Raw{name}")
+        offsets = " ".join(f"{field} {getattr(raw, field).offset}" for field, *_ in raw._fields_)
+        assert (ctypes.sizeof(raw), offsets) == (int(size), " ".join(words.split())), name
+        seen.add(raw.__name__)
+    assert seen == {it for it in vars(_calls) if it.startswith("Raw")}
 
 
 def test_calls():
-    """Each call that is declared is in the header, with as many arguments, and is called."""
+    """Each call of the header is declared, with as many arguments, and what is called is one."""
     header = re.sub(r"/\*.*?\*/", "", read("c/hedrugal.h"), flags=re.S)
     calls = re.findall(r"^[a-z].*?[ *](hed_\w+)\(([^;]*)\);", header, flags=re.M)
     counts = {name: 0 if taken == "void" else taken.count(",") + 1 for name, taken in calls}
-    declared = {name: len(taken) for name, (_, taken) in _library.CALLS.items()}
-    assert declared == {name: counts[name] for name in declared}
+    declared = {name: len(taken) for name, (_, taken) in _calls.CALLS.items()}
+    assert declared == counts
     files = Path(HERE, "hedrugal").rglob("*.py")
     called = set(
         re.findall(r"library(?:\.|\[\")(hed_\w+)", "".join(it.read_text() for it in files))
     )
-    assert called == {*declared}
+    assert called <= {*declared} and len(called) >= 60
 
 
 def test_version():
@@ -254,7 +199,7 @@ def test_another_library():
     if not other:
         pytest.skip("no libc.so.6")
     assert_message(
-        import_it({"HEDRUGAL_LIBRARY": other.group()}), "hed_parser_init", "of this version"
+        import_it({"HEDRUGAL_LIBRARY": other.group()}), "symbol: hed_version", "of this version"
     )
 
 

@@ -8,12 +8,11 @@ import pytest
 import hedrugal
 from hedrugal import Dialect, KeyReport, KittyModifiers, ParseError, Parser, Paste
 from hedrugal import PastePart, Waiting
-from hedrugal._library import RawHandle, library
+from hedrugal._calls import RawHandle
+from hedrugal._library import library
 from helpers import EVENTS, LIMITS, STREAM, assert_prints, assert_rest, needs_limits
 
-REFUSED_FEED = (
-    LIMITS
-    + """
+REFUSED_FEED = """
 body = b"x" * (16 * MB)
 parser = Parser()
 assert parser.feed(b"\\x1b[200~") == []
@@ -30,13 +29,10 @@ limit(None)
 assert parser.feed(b"\\x1b[201~q") == [Paste("x" * (fed * len(body))), KeyReport("q")]
 print("good")
 """
-)
 
 # The text of a paste is copied in the library, and by Python twice: each of these copies is refused
 # in some round. Each call goes on after it.
-REFUSED_TEXT = (
-    LIMITS
-    + """
+REFUSED_TEXT = """
 body = "x" * (8 * MB)
 data = [b"\\x1b[200~" + body.encode(), b"\\x1b[201~ab"]
 refusals = grants = 0
@@ -73,7 +69,6 @@ for more in range(0, 64, 2):
 assert refusals > 2 and grants > 2, (refusals, grants)
 print("good")
 """
-)
 
 
 # Memory is refused by a limit on the process.
@@ -81,7 +76,7 @@ print("good")
 
 @needs_limits
 def test_feed():
-    assert_prints(REFUSED_FEED, "good\n", MALLOC_ARENA_MAX="1")
+    assert_prints(LIMITS + REFUSED_FEED, "good\n", MALLOC_ARENA_MAX="1")
 
 
 @needs_limits
@@ -89,7 +84,7 @@ def test_feed():
 def test_text_of_a_paste(how):
     # Memory that is freed goes back to the system at once, so a later round can be refused too.
     env = {"MALLOC_ARENA_MAX": "1", "MALLOC_MMAP_THRESHOLD_": "131072"}
-    assert_prints(f"how = {how!r}\n{REFUSED_TEXT}", "good\n", **env)
+    assert_prints(f"how = {how!r}\n{LIMITS}{REFUSED_TEXT}", "good\n", **env)
 
 
 MEMORY = """
@@ -102,9 +97,7 @@ def memory():
 
 # Two thousand parsers, which with a table each would have more than 300 MB. They are closed in both
 # orders, and some are left open at the exit. A forked child makes one too.
-MANY_PARSERS = (
-    MEMORY
-    + """
+MANY_PARSERS = """
 before, up = memory(), [KeyReport(KeyCode.UP_ARROW, KittyModifiers.CTRL)]
 parsers = [Parser(dialect) for _ in range(1000) for dialect in Dialect]
 assert memory() - before < 16 * MB, memory() - before
@@ -120,11 +113,8 @@ if child == 0:
 assert os.waitpid(child, 0)[1] == 0
 print("good")
 """
-)
 
-SHRINK = (
-    MEMORY
-    + """
+SHRINK = """
 parser = Parser()
 paste = b"\\x1b[200~" + b"x" * (16 * MB) + b"\\x1b[201~\\x1b"
 before = memory()
@@ -139,7 +129,6 @@ parser.shrink_to()
 assert parser.waiting is Waiting.ESCAPE and parser.feed(b"[A") == [KeyReport(KeyCode.UP_ARROW)]
 print("good")
 """
-)
 
 
 # With this each large block goes back to the system as soon as it is freed.
@@ -147,11 +136,11 @@ THRESHOLD = {"MALLOC_MMAP_THRESHOLD_": "65536"}
 
 
 def test_one_table():
-    assert_prints(MANY_PARSERS, "good\n", **THRESHOLD)
+    assert_prints(MEMORY + MANY_PARSERS, "good\n", **THRESHOLD)
 
 
 def test_shrink_to():
-    assert_prints(SHRINK, "good\n", **THRESHOLD)
+    assert_prints(MEMORY + SHRINK, "good\n", **THRESHOLD)
 
 
 def test_capacities(parser):

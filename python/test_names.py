@@ -17,78 +17,34 @@ from hedrugal import (
     KeyReport,
     KittyModifiers,
 )
+from hedrugal._calls import STATUS_NO_MEMORY
 from hedrugal._library import library
-from hedrugal._numbers import STATUS_NO_MEMORY
+from cases import cases_of
 
 NONE, SHIFT, CTRL = KittyModifiers.NONE, KittyModifiers.SHIFT, KittyModifiers.CTRL
 
-# Texts that name chords, and what is printed of these.
-NAMES = [
-    ("C-x C-s", "ctrl+x ctrl+s"),
-    ("<C-W>", "ctrl+w"),
-    ("Ctrl-Shift-Up", "ctrl+shift+up"),
-    ("ctrl++", "ctrl++"),
-    ("C-M-<f5>", "ctrl+alt+f5"),
-    ("M-<", "alt+<"),
-    ("s-A", "super+shift+a"),
-    ("shift+a", "A"),
-    ("ctrl+shift+1 shift+1", "ctrl+shift+1 shift+1"),
-    ("u+0041 <U+0041> C-<U+0041>", "A A ctrl+a"),
-    ("C-<u+00c9>", "ctrl+shift+\xe9"),
-    ("U+0008 U+000A U+007F", "ctrl+h ctrl+j ctrl+backspace"),
-    ("alt+U+0441", "alt+\u0441"),
-    ("U+200b", "U+200B"),
-    ("ESC x", "escape x"),
-    ("\tkitty57428  g ", "kitty57428 g"),
-    ("meta-hyper-cmd-alt-control-shift-tab", "super+hyper+meta+ctrl+alt+shift+tab"),
-    (" ".join("g" * 32), " ".join("g" * 32)),
-]
 
-# Texts that name none, what is wrong with them, and where.
-WRONG = [
-    ("shift+!", KeyNameErrorKind.SHIFTED_CHARACTER, 6),
-    ("gg", KeyNameErrorKind.UNKNOWN_NAME, 0),
-    ("foo+x", KeyNameErrorKind.UNKNOWN_MODIFIER, 0),
-    ("x ctrl+", KeyNameErrorKind.MISSING_KEY, 7),
-    ("M-A-x", KeyNameErrorKind.MODIFIER_TWICE, 2),
-    ("M-A-", KeyNameErrorKind.MISSING_KEY, 4),
-    ("\xe9 DEL", KeyNameErrorKind.AMBIGUOUS, 3),
-    ("capslock", KeyNameErrorKind.NOT_A_KEY, 0),
-    ("x f256", KeyNameErrorKind.BAD_NUMBER, 2),
-    ("x \x1b", KeyNameErrorKind.CONTROL_CHARACTER, 2),
-    (" ".join("g" * 33), KeyNameErrorKind.TOO_LONG, 64),
-    ("", KeyNameErrorKind.EMPTY, 0),
-    ("\xe9 \ud800", KeyNameErrorKind.BAD_TEXT, 3),
-]
-
-
-@pytest.mark.parametrize(("name", "printed"), NAMES)
-def test_names_of_chords(name, printed):
-    chord = Chord.read(name)
-    assert str(chord) == printed == " ".join(map(str, chord))
-    assert Chord.read(printed) == chord == Chord(iter(chord))
-    assert {chord: 1}[Chord.read(printed)] == 1
-    assert len(chord) == len(chord.presses) == len(printed.split())
-
-
-@pytest.mark.parametrize(("name", "kind", "at"), WRONG)
-def test_what_is_no_name(name, kind, at):
-    with pytest.raises(KeyNameError) as raised:
-        Chord.read(name)
-    error = raised.value
-    assert isinstance(error, ValueError) and (error.kind, error.at) == (kind, at)
-    assert str(error).endswith(f", at byte {at}")
-    again = pickle.loads(pickle.dumps(error))
-    assert (again.kind, again.at, str(again)) == (kind, at, str(error))
+def test_what_is_no_name():
+    with pytest.raises(KeyNameError, match="^no key has this name, at byte 2$"):
+        Chord.read("x gg")
+    for kind in KeyNameErrorKind:
+        error = KeyNameError(kind, 3)
+        assert isinstance(error, ValueError) and str(error) == f"{kind}, at byte 3"
+        again = pickle.loads(pickle.dumps(error))
+        assert (again.kind, again.at, str(again)) == (kind, 3, str(error))
 
 
 def test_each_kind_is_told():
-    assert {kind for _, kind, _ in WRONG} == set(KeyNameErrorKind)
+    """By a text of the cases."""
+    told = {line.split(" = ")[1].split(" ")[0] for _, line in cases_of("names.txt")}
+    kinds = {f"NAME_{kind.name}" for kind in KeyNameErrorKind}
+    assert kinds - told == {"NAME_BAD_TEXT"} and "BAD_TEXT" in told
 
 
 def test_chords_are_values():
     chord = Chord.read("ctrl+x 5")
     assert list(chord) == [KeyPress("x", CTRL), KeyPress("5")]
+    assert (len(chord), {chord: 1}[Chord.read("C-x 5")]) == (2, 1)
     assert chord == Chord([KeyPress("x", CTRL), KeyPress("5")]) != Chord.read("ctrl+x")
     assert pickle.loads(pickle.dumps(chord)) == copy.copy(chord) == chord
     with pytest.raises(AttributeError):

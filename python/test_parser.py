@@ -11,8 +11,6 @@ import pytest
 
 import hedrugal
 from hedrugal import (
-    Dialect,
-    Function,
     KeyCode,
     KeyReport,
     KittyModifiers,
@@ -20,63 +18,21 @@ from hedrugal import (
     Paste,
     PastePart,
     Policy,
-    Reading,
-    StringCut,
-    StringKind,
     Waiting,
 )
 from hedrugal._library import library
-from helpers import EVENTS, STREAM, all_of, assert_rest, events_in_time
+from helpers import EVENTS, STREAM, all_of, assert_rest, uses_of
 
 ALT, CTRL = KittyModifiers.ALT, KittyModifiers.CTRL
 START, END = b"\x1b[200~", b"\x1b[201~"
 ESCAPE, UP = KeyReport(KeyCode.ESCAPE), KeyReport(KeyCode.UP_ARROW)
-
-# What stays buffered, and its kind.
-RESTS = [
-    (b"", Waiting.NOTHING),
-    (b"\x1b", Waiting.ESCAPE),
-    (b"\x1b\x1b", Waiting.ESCAPE),
-    (b"\x1b[", Waiting.SEQUENCE),
-    (b"\x1bO", Waiting.SEQUENCE),
-    (b"\x1b[1;5", Waiting.SEQUENCE),
-    (b"\x1b[<0;3", Waiting.SEQUENCE),
-    (b"\x1b[200", Waiting.SEQUENCE),
-    (b"\x1b\x1b[", Waiting.SEQUENCE),
-    (b"\x1b\x1b[<00095;65535;65535", Waiting.SEQUENCE),
-    (b"\xc3", Waiting.CHARACTER),
-    (b"\xe2\x82", Waiting.CHARACTER),
-    (b"\x1b\xf0\x9f\x98", Waiting.CHARACTER),
-    (b"\x1b[200~", Waiting.PASTE),
-    (b"\x1b[200~\x1b", Waiting.PASTE),
-    (b"\x1b[200~\xc3", Waiting.PASTE),
-    (b"\x1b[200~ab\x1b[201", Waiting.PASTE),
-]
 
 
 def typed(text):
     return [KeyReport(it) for it in text]
 
 
-def test_keys(parser):
-    for data, *of in [
-        (b"\x1b[1;3A", KeyCode.UP_ARROW, ALT),
-        (b"\x1b[15;6~", Function(5), KittyModifiers.SHIFT | CTRL),
-        (b"\x03", "c", CTRL),
-        ("\U0010ffff".encode(), "\U0010ffff"),
-        (b"\x00", "\0"),
-        (b"\xff", "\ufffd"),
-        (END, KeyCode.INTERNAL_PASTE_END),
-    ]:
-        assert parser.feed(data) == [KeyReport(*of)]
-    assert_rest(parser, 0, Waiting.NOTHING)
-
-
-def test_pastes(parser):
-    assert parser.feed(START + b"ab") == []
-    assert_rest(parser, 8, Waiting.PASTE)
-    assert parser.flush() == []
-    assert parser.feed(b"c\xc3\xa9\xff\0" + END + b"q") == [Paste("abcé\ufffd\0"), *typed("q")]
+def test_many_pastes(parser):
     texts = ["", "a", "é" * 1000, "\n", "b" * 511, "c" * 512, "d"] * 30
     assert parser.feed(b"".join(START + it.encode() + END for it in texts)) == [*map(Paste, texts)]
 
@@ -119,35 +75,6 @@ def test_limits_of_parts(parser):
         with pytest.raises(error):
             parser.parts = wrong
     assert (parser.parts, parser.end()) == (0, [Paste("")])
-
-
-@pytest.mark.parametrize(
-    "text, held",
-    [
-        (b"", b""),
-        (b"abc", b""),
-        (b"\x1b[20\x1b[2", b"\x1b[2"),
-        (b"a\xe2\x82", b"\xe2\x82"),
-        (b"\xff\x1b[200~\r", b""),
-    ],
-)
-def test_skip_paste(parser, text, held):
-    assert parser.skip_paste() is None
-    assert parser.feed(START + text) == []
-    assert parser.skip_paste() == len(text) - len(held)
-    assert_rest(parser, 6 + len(held), Waiting.PASTE)
-    assert parser.timeout() is None
-    assert parser.feed(END + b"q") == [Paste(held.decode("utf-8", "replace")), *typed("q")]
-
-
-def test_cuts(parser):
-    """However a stream is cut, in two or into pieces of any length, its events are the same."""
-    for place in range(len(STREAM) + 1):
-        assert all_of(parser, STREAM[:place], STREAM[place:]) == EVENTS
-    for size in range(1, len(STREAM)):
-        pieces = [STREAM[at : at + size] for at in range(0, len(STREAM), size)]
-        assert all_of(parser, *pieces) == EVENTS
-    assert_rest(parser, 0, Waiting.NOTHING)
 
 
 def test_kinds_of_bytes(parser):
@@ -195,217 +122,7 @@ def test_many_different_keys(parser):
     assert len(hedrugal.parser._events) <= 4096
 
 
-# What stays buffered, and what becomes of it.
-
-
-def test_kinds_and_reset(parser):
-    for rest, kind in RESTS:
-        assert parser.feed(rest) == []
-        assert_rest(parser, len(rest), kind)
-        assert [parser.reset(), parser.reset()] == [len(rest), 0]
-        assert parser.feed(b"q") == typed("q")
-        for at in range(len(rest)):
-            assert parser.feed(rest[at : at + 1]) == []
-        assert_rest(parser, len(rest), kind)
-        parser.reset()
-
-
-def test_flush_and_end(parser):
-    """After a flush nothing but an open paste stays, and after the end nothing."""
-    for rest, kind in RESTS:
-        is_paste = kind is Waiting.PASTE
-        assert parser.feed(rest) == []
-        flushed = parser.flush()
-        assert bool(flushed) == (kind is not Waiting.NOTHING and not is_paste)
-        assert_rest(parser, *((len(rest), kind) if is_paste else (0, Waiting.NOTHING)))
-        (*ended,) = parser.end()
-        assert ended == ([Paste(rest[6:].decode("utf-8", "replace"))] if is_paste else [])
-        assert parser.feed(rest) == [] and parser.end() == flushed + ended
-        assert_rest(parser, 0, Waiting.NOTHING)
-
-
-# Runs that were worked by hand: calls of a parser, their times in milliseconds, and what they
-# return. They are those of c/test_parser.c, but for what is told later there.
-ALT_BRACKET = KeyReport("[", ALT)
-CUT = StringCut(StringKind.OSC, b"52;c;QQ")
-RUNS = [
-    [
-        ("feed", b"\x1b", 0, []),
-        ("timeout", 0, 0.05),
-        ("idle", 49, []),
-        ("timeout", 49, 0.001),
-        ("timeout", 50, 0.0),
-        ("idle", 50, [ESCAPE]),
-        ("timeout", 50, None),
-    ],
-    [("feed", b"\x1b", 0, []), ("feed", b"[A", 49, [UP]), ("timeout", 49, None)],
-    # The clock steps back: the time that has passed counts, and no other.
-    [
-        ("feed", b"\x1b", 0, []),
-        ("idle", 20, []),
-        ("idle", 10, []),
-        ("timeout", 10, 0.03),
-        ("idle", 39, []),
-        ("idle", 40, [ESCAPE]),
-    ],
-    [
-        ("feed", b"\x1b", 0, []),
-        ("feed", b"\x1b", 40, []),
-        ("idle", 89, []),
-        ("idle", 90, [KeyReport(KeyCode.ESCAPE, ALT)]),
-    ],
-    # A sequence ages from its first byte, or from the event before it.
-    [
-        ("feed", b"\x1b[1", 0, []),
-        ("timeout", 0, 1.0),
-        ("feed", b";5", 900, []),
-        ("timeout", 900, 0.1),
-        ("idle", 999, []),
-        ("idle", 1000, [ALT_BRACKET, *typed("1;5")]),
-    ],
-    [
-        ("feed", b"a\x1b[", 0, typed("a")),
-        ("timeout", 0, 0.1),
-        ("idle", 99, []),
-        ("idle", 100, [ALT_BRACKET]),
-    ],
-    # A paste waits for its end, and nothing in it is a key.
-    [
-        ("feed", START + b"x", 0, []),
-        ("timeout", 0, None),
-        ("idle", 100000, []),
-        ("feed", b"\x1b", 100001, []),
-        ("idle", 200000, []),
-        ("feed", b"[201~q", 200001, [Paste("x"), *typed("q")]),
-    ],
-    [("feed", START + b"12", 0, []), ("flush", []), ("feed", b"3" + END, 1, [Paste("123")])],
-    [("feed", START + b"b\x1b[20", 0, []), ("end", [Paste("b\x1b[20")])],
-    [
-        ("parts", 4),
-        ("feed", START + b"abcdef", 0, [PastePart("abcdef")]),
-        ("feed", b"\x1b[20", 1, []),
-        ("feed", b"1~", 2, [Paste("")]),
-        ("feed", START + b"1234", 3, []),
-        ("feed", b"5", 4, [PastePart("12345")]),
-        ("idle", 99999, []),
-        ("feed", b"6" + END, 99999, [Paste("6")]),
-    ],
-    [("parts", 4), ("feed", START + b"abcdef", 0, [PastePart("abcdef")]), ("end", [Paste("")])],
-    [
-        ("policy", Policy(paste=0.005)),
-        ("feed", START + b"ab", 0, []),
-        ("feed", b"cd", 4, []),
-        ("timeout", 4, 0.005),
-        ("idle", 8, []),
-        ("idle", 9, [Paste("abcd")]),
-        ("idle", 99, []),
-    ],
-    [
-        ("feed", b"\xe2\x82", 0, []),
-        ("timeout", 0, None),
-        ("idle", 99999, []),
-        ("flush", typed("\ufffd\ufffd")),
-        ("feed", b"\xe2\x82\xac", 99999, typed("€")),
-    ],
-    # What another program may have read the end of waits for a second at most. A beginning of a
-    # sequence is forgotten.
-    [
-        ("feed", START + b"a", 0, []),
-        ("interrupted", 5, None),
-        ("feed", b"\r", 900, []),
-        ("feed", END, 1800, [Paste("a\r")]),
-    ],
-    [
-        ("feed", START + b"a", 0, []),
-        ("interrupted", 5, None),
-        ("timeout", 5, 1.0),
-        ("idle", 1004, []),
-        ("idle", 1005, [Paste("a")]),
-        ("feed", b"\r", 1006, [KeyReport(KeyCode.ENTER)]),
-        ("feed", START + b"b", 1007, []),
-        ("timeout", 1007, None),
-    ],
-    [
-        ("policy", Policy(paste=0.3)),
-        ("feed", START + b"a", 0, []),
-        ("interrupted", 5, None),
-        ("timeout", 5, 0.3),
-        ("idle", 305, [Paste("a")]),
-    ],
-    [
-        ("feed", b"\x1b[1", 0, []),
-        ("interrupted", 5, None),
-        ("timeout", 5, None),
-        ("feed", b"A", 6, typed("A")),
-        ("feed", b"\xe2", 7, []),
-        ("interrupted", 8, None),
-        ("feed", b"\x82", 9, typed("\ufffd")),
-    ],
-    [
-        ("feed", b"\x1b]52;c;QQ", 0, []),
-        ("timeout", 0, 5.009),
-        ("interrupted", 5, None),
-        ("timeout", 5, 1.0),
-        ("idle", 1005, [CUT]),
-        ("feed", b"QQ", 1006, typed("QQ")),
-    ],
-    [
-        ("feed", START + b"a", 0, []),
-        ("interrupted", 5, None),
-        ("reset", 7),
-        ("feed", START + b"b", 6, []),
-        ("timeout", 6, None),
-        ("feed", END, 7, [Paste("b")]),
-        ("reset", 0),
-    ],
-    # As termwiz reads it.
-    [
-        ("reading", Reading(Dialect.TERMWIZ)),
-        ("feed", b"\x1b]11;a", 0, [KeyReport("]", ALT), *typed("11;a")]),
-        ("feed", b"\x1b", 0, []),
-        ("idle", 50, [ESCAPE]),
-        ("feed", b"\x1b[1;", 60, []),
-        ("timeout", 60, 1.0),
-        ("idle", 1060, [ALT_BRACKET, *typed("1;")]),
-    ],
-    # The limits that are set, and the usual ones besides.
-    [
-        ("policy", Policy(escape=0.025)),
-        ("feed", b"\x1b", 0, []),
-        ("timeout", 0, 0.025),
-        ("idle", 25, [ESCAPE]),
-        ("feed", b"\x1b[", 30, []),
-        ("timeout", 30, 0.1),
-    ],
-    [
-        ("policy", Policy(*[None] * 6)),
-        ("feed", b"\x1b", 0, []),
-        ("timeout", 1e12, None),
-        ("idle", 1e12, []),
-        ("end", [ESCAPE]),
-    ],
-]
-
-
-@pytest.mark.parametrize("run", RUNS, ids=range(len(RUNS)))
-def test_worked_runs(run):
-    """Each is made twice: nothing of the first is left."""
-    with Parser() as parser:
-        for start in (0, 1e9):
-            for name, *words, wanted in run:
-                if name in ("parts", "policy", "reading"):
-                    setattr(parser, name, wanted)
-                    continue
-                *data, now = words or [None]
-                times = [] if now is None else [(start + now) / 1000]
-                assert getattr(parser, name)(*data, *times) == wanted, name
-            parser.reset()
-
-
-def test_a_start_with_pauses(parser):
-    for place, pause in enumerate([50, 100, 1000, 1000, 1000], 1):
-        reads = [(0, START[:place]), (pause, START[place:]), (90000, b"q" + END)]
-        assert [*events_in_time(parser, reads)] == [(90000, [Paste("q")])]
+# Times, and the parser's life.
 
 
 def test_time_is_read(parser):
@@ -454,45 +171,18 @@ def test_what_is_no_time(parser):
     assert_rest(parser, 0, Waiting.NOTHING)
 
 
-# Each call of a parser, but close.
-USES = [
-    lambda parser: parser.feed(b"q"),
-    lambda parser: parser.feed(b""),
-    lambda parser: parser.idle(),
-    lambda parser: parser.flush(),
-    lambda parser: parser.end(),
-    lambda parser: parser.timeout(),
-    lambda parser: parser.interrupted(),
-    lambda parser: parser.policy,
-    lambda parser: setattr(parser, "policy", Policy()),
-    lambda parser: parser.parts,
-    lambda parser: setattr(parser, "parts", 1),
-    lambda parser: parser.reading,
-    lambda parser: setattr(parser, "reading", Reading()),
-    lambda parser: parser.expect_position(),
-    lambda parser: parser.forget_positions(),
-    lambda parser: parser.skip_paste(),
-    lambda parser: parser.reset(),
-    lambda parser: parser.shrink_to(),
-    lambda parser: parser.waiting,
-    lambda parser: parser.waiting_len,
-    lambda parser: parser.entry(0),
-    lambda parser: next(parser.entries()),
-    lambda parser: parser.completions(),
-    lambda parser: parser.__enter__(),
-]
-
-
 def test_use_after_close(parser):
     assert parser.feed(b"q" + START + b"ab") == typed("q")
     assert repr(parser) == "<Parser, 8 bytes are buffered>"
     assert not parser.closed
+    others = [parser.__enter__, lambda: parser.feed(b""), lambda: next(parser.entries())]
+    uses = [use for name, use in uses_of(parser).items() if name != "entries"] + others
     for _ in range(2):
         parser.close()
         assert parser.closed
-        for use in USES:
+        for use in uses:
             with pytest.raises(ValueError, match="^the parser is closed$"):
-                use(parser)
+                use()
     assert repr(parser) == "<Parser, closed>"
 
 

@@ -77,12 +77,6 @@ OTHERS = {
 }
 
 
-@pytest.mark.parametrize("text, wanted", OTHERS.items())
-def test_beyond_the_table(text, wanted):
-    assert keys(Parser, text) == wanted
-    assert keys(Parser, *text) == wanted
-
-
 PRINTABLE = [*map(chr, range(0x20, 0x7F)), "é", "世"]
 # The last characters of ESC O that are those of a keypad.
 KEYPAD = dict(zip("jklmnopqrstuvwxyX", "*+,-./0123456789="))
@@ -146,9 +140,11 @@ CONTROLS = {
 }
 
 
-@pytest.mark.parametrize("text, wanted", CONTROLS.items())
-def test_keys_of_kitty(text, wanted):
+@pytest.mark.parametrize("text, wanted", (OTHERS | CONTROLS).items())
+def test_beyond_the_table(text, wanted):
+    """Whole, and character by character."""
     assert keys(Parser, text) == wanted
+    assert keys(Parser, *text) == wanted
 
 
 def test_texts_of_reports():
@@ -193,6 +189,14 @@ def terminal():
         yield typing, Input(stdin)
 
 
+def let_end_input(typing):
+    """Sets the terminal so that ^D ends the input."""
+    settings = termios.tcgetattr(typing)
+    settings[3] |= termios.ICANON
+    settings[6][termios.VEOF] = b"\x04"
+    termios.tcsetattr(typing, termios.TCSANOW, settings)
+
+
 def test_keys_that_are_due(terminal):
     """What came meanwhile is read first."""
     typing, reader = terminal
@@ -211,10 +215,7 @@ def test_keys_that_are_due(terminal):
 def test_end_of_the_input(terminal):
     """What is buffered is flushed."""
     typing, reader = terminal
-    settings = termios.tcgetattr(typing)
-    settings[3] |= termios.ICANON
-    settings[6][termios.VEOF] = b"\x04"
-    termios.tcsetattr(typing, termios.TCSANOW, settings)
+    let_end_input(typing)
     # The first ^D ends a read, and the second the input.
     typing.write(b"a\x1b[1;\x04\x04")
     assert [it.key for it in reader.read_keys()] == ["a"] and not reader.closed
@@ -224,10 +225,7 @@ def test_end_of_the_input(terminal):
 def test_refused_memory_at_the_end(terminal):
     """What came before is told by the next call."""
     typing, reader = terminal
-    settings = termios.tcgetattr(typing)
-    settings[3] |= termios.ICANON
-    settings[6][termios.VEOF] = b"\x04"
-    termios.tcsetattr(typing, termios.TCSANOW, settings)
+    let_end_input(typing)
     typing.write(b"\x04")
     reader.vt100_parser.feed("ab")
     with mock.patch.object(reader.vt100_parser, "end", side_effect=MemoryError):

@@ -1,18 +1,8 @@
 """Which events are replies to which question."""
 import pytest
 
-from hedrugal import (
-    Csi,
-    CursorPosition,
-    FocusGained,
-    Function,
-    KeyReport,
-    KittyModifiers,
-    Osc,
-    Parser,
-    Paste,
-    PastePart,
-)
+from hedrugal import Csi, CursorPosition, FocusGained, Function, KeyReport, KittyModifiers, Osc
+from hedrugal import Parser, Paste, PastePart
 from hedrugal.questions import Questions
 
 COLOUR, POSITION, LAST = b"\x1b]11;?\x07", b"\x1b[6n", b"\x1b[?62;22c"

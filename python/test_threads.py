@@ -10,7 +10,7 @@ import pytest
 
 import hedrugal
 from hedrugal import Exact, KeyMap, Parser, Waiting
-from helpers import EVENTS, SECONDS, STREAM, all_of, assert_prints
+from helpers import EVENTS, SECONDS, STREAM, all_of, assert_prints, uses_of
 
 THREADS = 4
 
@@ -147,19 +147,10 @@ def test_close_waits(parser):
 
 def test_signals(parser):
     """A handler may ask. What would wait for its own thread is refused."""
-    refused = [
-        lambda: parser.feed(b"z"),
-        lambda: parser.idle(),
-        lambda: parser.flush(),
-        lambda: parser.end(),
-        lambda: parser.interrupted(),
-        lambda: parser.skip_paste(),
-        lambda: setattr(parser, "policy", parser.policy),
-        lambda: setattr(parser, "reading", parser.reading),
-        lambda: setattr(parser, "parts", None),
-        lambda: parser.reset(),
-        lambda: parser.close(),
-    ]
+    asks = "completions entries entry expect_position forget_positions parts policy reading"
+    asks += " shrink_to timeout waiting waiting_len"
+    refused = [use for name, use in uses_of(parser).items() if name not in asks.split()]
+    refused.append(parser.close)
     seen = collections.Counter()
 
     def handle(*_):

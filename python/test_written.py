@@ -4,46 +4,14 @@ from unittest import mock
 
 import pytest
 
-import hedrugal
-from hedrugal import (
-    Apc,
-    ColourScheme,
-    Csi,
-    CursorPosition,
-    Dcs,
-    Dialect,
-    EncodeError,
-    EraseByte,
-    FocusGained,
-    FocusLost,
-    Parser,
-    KeyboardFlags,
-    KeyCode,
-    KeyEventKind,
-    KeyReport,
-    KittyKeyboardFlags,
-    KittyModifiers,
-    Modifiers,
-    MouseButtons,
-    MouseKind,
-    MouseReport,
-    NewlineByte,
-    Osc,
-    Paste,
-    Reading,
-    Resized,
-    Size,
-    StringCut,
-    StringKind,
-    StringPart,
-    encode,
-    encode_colour_scheme,
-    encode_cursor_position,
-    encode_device_attributes,
-    encode_event,
-)
+from hedrugal import ColourScheme, Csi, CursorPosition, Dcs, Dialect, EncodeError, EraseByte
+from hedrugal import FocusGained, Parser, KeyCode, KeyEventKind, KeyReport, KittyModifiers
+from hedrugal import Modifiers, MouseButtons, MouseKind, MouseReport, NewlineByte, Osc, Paste
+from hedrugal import Reading, StringCut, StringKind, StringPart, encode, encode_colour_scheme
+from hedrugal import encode_cursor_position, encode_device_attributes, encode_event
 from hedrugal._library import library
-from helpers import all_of
+from cases import parser_by
+from helpers import all_of, assert_read_back
 
 SHIFT, ALT, CTRL = KittyModifiers.SHIFT, KittyModifiers.ALT, KittyModifiers.CTRL
 SUPER, NONE = KittyModifiers.SUPER, MouseButtons.NONE
@@ -57,93 +25,9 @@ READINGS = [
 ]
 
 
-def parser_by(reading):
-    parser = Parser()
-    parser.reading = reading
-    return parser
-
-
 def side(number, kind, x, y, modifiers=Modifiers.NONE):
     return MouseReport(x, y, modifiers, NONE, kind, number)
 
-
-# Events that wait for more, as their bytes begin a sequence.
-WAITING = [
-    KeyReport(KeyCode.ESCAPE),
-    KeyReport(KeyCode.ESCAPE, ALT),
-    *(KeyReport(sign, ALT) for sign in "[OP]_"),
-]
-
-
-WAITING_BYTES = [b"\x1b", b"\x1b\x1b", b"\x1b[", b"\x1bO", b"\x1bP", b"\x1b]", b"\x1b_"]
-
-# Events and what they are written as, by every reading.
-ROWS = [
-    (KeyReport(KeyCode.ENTER), b"\r"),
-    (KeyReport("a"), b"a"),
-    (KeyReport("A"), b"A"),
-    (KeyReport("é"), "é".encode()),
-    (KeyReport("é", ALT), b"\x1b\xc3\xa9"),
-    (KeyReport("a", ALT), b"\x1ba"),
-    (KeyReport("a", CTRL), b"\x01"),
-    (KeyReport("\0"), b"\0"),
-    *((event, event_bytes) for event, event_bytes in zip(WAITING, WAITING_BYTES)),
-    (KeyReport(UP), b"\x1b[A"),
-    (KeyReport(UP, CTRL), b"\x1b[1;5A"),
-    (KeyReport(UP, SUPER), b"\x1b[1;9A"),
-    (KeyReport(hedrugal.Function(5), SUPER | ALT), b"\x1b[15;11~"),
-    (KeyReport(UP, KittyModifiers.HYPER), b"\x1b[1;17:1A"),
-    (KeyReport(BACKSPACE, SHIFT), b"\x1b[127;2u"),
-    (KeyReport(KeyCode.ENTER, SHIFT), b"\x1b[10;2u"),
-    (KeyReport(KeyCode.ESCAPE, SHIFT), b"\x1b[27;2;27~"),
-    (KeyReport(KeyCode.TAB, CTRL), b"\x1b[9;5u"),
-    (KeyReport("a", kind=RELEASE), b"\x1b[97;1:3u"),
-    (KeyReport("a", SHIFT, RELEASE, "A", "c"), b"\x1b[97:65:99;2:3u"),
-    (KeyReport("1", SHIFT | CTRL), b"\x1b[49;6u"),
-    (KeyReport("!", SHIFT | CTRL, shifted="!"), b"\x1b[27;6;33~"),
-    (KeyReport("!", SHIFT | CTRL), b"\x1b[33;6u"),
-    (KeyReport("a", shifted="A"), b"\x1b[97:65u"),
-    (KeyReport("a", base="c", kind=RELEASE), b"\x1b[97::99;:3u"),
-    (KeyReport("a", base="c", text="a"), b"\x1b[97::99;;97u"),
-    (KeyReport("a", kind=REPEAT, text="a"), b"\x1b[97;:2;97u"),
-    (KeyReport(UP, SUPER, REPEAT), b"\x1b[1;9:2A"),
-    (KeyReport(hedrugal.Function(3)), b"\x1bOR"),
-    (KeyReport(57414), b"\x1b[57414;1:1u"),
-    (KeyReport(0), b"\x1b[0;1u"),
-    (KeyReport(0, SHIFT), b"\x1b[0;2u"),
-    (KeyReport(0, KittyModifiers.HYPER), b"\x1b[0;17:1u"),
-    (KeyReport(0, text="å"), b"\x1b[0;;229u"),
-    (KeyReport(BACKSPACE, text="é" + "a" * 81), b"\x1b[127;;233" + b":97" * 81 + b"u"),
-    (KeyReport(BACKSPACE, text="é" + "a" * 82), b"\x1b[8;;233" + b":97" * 82 + b"u"),
-    (KeyReport(KeyCode.KEY_PAD_BEGIN, text="5"), b"\x1b[57427;;53u"),
-    (KeyReport(PRIVATE), PRIVATE.encode()),
-    (KeyReport(PRIVATE, ALT), b"\x1b" + PRIVATE.encode()),
-    (KeyReport(PRIVATE, CTRL), b"\x1b[27;5;57344~"),
-    (KeyReport(PRIVATE, SUPER), b"\x1b[27;9;57344~"),
-    (KeyReport(PRIVATE, SHIFT, shifted=PRIVATE), b"\x1b[27;2;57344~"),
-    (
-        MouseReport(3, 4, Modifiers.SHIFT, MouseButtons.LEFT, MouseKind.PRESS, 1),
-        b"\x1b[<4;3;4M",
-    ),
-    (MouseReport(3, 4, Modifiers.NONE, NONE, MouseKind.RELEASE, 2), b"\x1b[<1;3;4m"),
-    (MouseReport(3, 4, Modifiers.NONE, NONE, MouseKind.RELEASE), b"\x1b[35;3;4M"),
-    (MouseReport(3, 4, Modifiers.NONE, NONE, MouseKind.MOVE), b"\x1b[<35;3;4M"),
-    (Paste("a"), b"\x1b[200~a\x1b[201~"),
-    (FocusGained(), b"\x1b[I"),
-    (FocusLost(), b"\x1b[O"),
-    (CursorPosition(1, 5), b"\x1b[?1;5R"),
-    (Resized(Size(80, 24, 800, 480)), b"\x1b[48;24;80;480;800t"),
-    (KeyboardFlags(KittyKeyboardFlags(5)), b"\x1b[?5u"),
-    (side(8, MouseKind.PRESS, 3, 4), b"\x1b[<128;3;4M"),
-    (side(9, MouseKind.DRAG, 3, 4, Modifiers.CTRL), b"\x1b[<177;3;4M"),
-    (side(11, MouseKind.RELEASE, 65535, 0), b"\x1b[<131;65535;0m"),
-    (Csi(b"?62;22c"), b"\x1b[?62;22c"),
-    (Osc(b"11;#fff"), b"\x1b]11;#fff\x1b\\"),
-    (Osc(b"lab"), b"\x1b]lab\x1b\\"),
-    (Osc(b"52;" + b"a" * 60000), b"\x1b]52;" + b"a" * 60000 + b"\x1b\\"),
-    (Dcs(b"1$r0m"), b"\x1bP1$r0m\x1b\\"),
-    (Apc(b"Gi=1;OK"), b"\x1b_Gi=1;OK\x1b\\"),
-]
 
 # Events that no bytes are read as, by every reading.
 UNWRITTEN = [
@@ -172,64 +56,30 @@ UNWRITTEN = [
     Osc(b"11;a\x07b"),
     Dcs(b"1$r0m\x1b"),
     StringPart(StringKind.OSC, b"52;a"),
-    StringCut(StringKind.OSC, b"11;a"),
 ]
 
 # Events that are too long.
-LONG = [
-    Csi(b"1;" * 127 + b"c"),
-    Osc(b"52;" + b"a" * 65530),
-    KeyReport("a", text="a" * 100),
-]
+LONG = [Csi(b"1;" * 127 + b"c"), Osc(b"52;" + b"a" * 65530), KeyReport("a", text="a" * 100)]
 
 
-def read_back(parser, event, sent):
-    """The events of what was written, with more to come unless they wait for it."""
-    return all_of(parser, sent) if event in WAITING else parser.feed(sent)
+def test_long_strings():
+    event, sent = Osc(b"52;" + b"a" * 60000), b"\x1b]52;" + b"a" * 60000 + b"\x1b\\"
+    for parser in map(parser_by, READINGS):
+        assert encode_event(event, parser) == sent
+        assert_read_back(parser, event, sent)
 
 
-@pytest.mark.parametrize("reading", READINGS)
-@pytest.mark.parametrize("event, sent", ROWS, ids=lambda it: repr(it)[:40])
-def test_rows(event, sent, reading):
-    parser = parser_by(reading)
-    assert encode_event(event, parser) == sent
-    assert read_back(parser, event, sent) == [event]
-    assert parser.waiting_len == 0
-
-
-def test_rows_of_one_reading():
-    """What the bytes 8, 10 and 127 are, and the rows of F3, depends on the reading."""
-    usual, other = parser_by(READINGS[0]), parser_by(READINGS[2])
-    for event, by_usual, by_other in [
-        (KeyReport("\b"), b"\b", None),
-        (KeyReport("\n"), b"\n", None),
-        (KeyReport("\x7f"), None, b"\x7f"),
-        (KeyReport("\b", ALT), b"\x1b\b", None),
-        (KeyReport(BACKSPACE), b"\x7f", b"\b"),
-        (KeyReport(BACKSPACE, ALT), b"\x1b\x7f", b"\x1b[127;3u"),
+def test_events_of_another_reading():
+    """What the bytes 8, 10 and 127 are depends on the reading."""
+    for reading, *events in [
+        (READINGS[0], KeyReport("\x7f")),
+        (READINGS[2], KeyReport("\b"), KeyReport("\n"), KeyReport("\b", ALT)),
+        (Reading(Dialect.TERMWIZ), FocusGained()),
     ]:
-        for parser, sent in ((usual, by_usual), (other, by_other)):
-            if sent is not None:
-                assert encode_event(event, parser) == sent
-                continue
-            with pytest.raises(EncodeError, match="no bytes are read as this KeyReport"):
-                encode_event(event, parser)
-    # While a reply is expected, this row is the position of the cursor.
-    third = KeyReport(hedrugal.Function(3), CTRL)
-    assert encode_event(third, usual) == b"\x1b[1;5R"
-    assert encode_event(third, parser_by(READINGS[1])) != b"\x1b[1;5R"
-    by_termwiz = parser_by(Reading(Dialect.TERMWIZ))
-    for event, sent in [
-        (KeyReport("a", ALT | CTRL), b"\x1b\x01"),
-        (KeyReport("\b"), b"\x1b[8;1u"),
-        (KeyReport("\n"), b"\x1b[10;1u"),
-        (KeyReport("\n", SHIFT), b"\x1b[10;2u"),
-        (KeyReport(BACKSPACE, SHIFT), b"\x1b[27;2;127~"),
-        (KeyReport("1", SHIFT | CTRL), b"\x1b[27;6;49~"),
-    ]:
-        assert encode_event(event, by_termwiz) == sent
-    with pytest.raises(EncodeError, match="no bytes are read as this FocusGained"):
-        encode_event(FocusGained(), by_termwiz)
+        for event in events:
+            name = type(event).__name__
+            with pytest.raises(EncodeError, match=f"no bytes are read as this {name}"):
+                encode_event(event, parser_by(reading))
 
 
 def test_what_is_buffered_stays():
@@ -295,8 +145,7 @@ def test_what_is_read_is_written(reading):
     for event in whole:
         parser.reading = reading
         sent = encode_event(event, parser)
-        assert read_back(parser, event, sent) == [event], sent
-        assert parser.waiting_len == 0
+        assert_read_back(parser, event, sent)
 
 
 def typed_text(key, held, reads):

@@ -7,6 +7,7 @@ import os
 import re
 import signal
 import subprocess
+import sys
 import termios
 import time
 
@@ -23,16 +24,37 @@ SLOW_LINE = 0.8
 START, END = b"\033[200~", b"\033[201~"
 ENDING_SIGNALS = [signal.SIGHUP, signal.SIGINT, signal.SIGQUIT, signal.SIGTERM]
 IFLAG, LFLAG, CC = 0, 3, 6
+# Runs a program, and then prints what is left for the shell.
+PRINT_LEFT = """import os, termios, time, tty
+time.sleep(0.3)
+before = termios.tcgetattr(0)
+tty.setraw(0, termios.TCSANOW)
+os.set_blocking(0, False)
+try:
+    left = os.read(0, 1000)
+except BlockingIOError:
+    left = b""
+termios.tcsetattr(0, termios.TCSANOW, before)
+print("left", left)"""
+BEFORE_SHELL = ["sh", "-c", f'trap : TERM; "$0" "$@"; exec {sys.executable} -c \'{PRINT_LEFT}\'']
 # Linux's request that opens the other end of a pseudo-terminal.
 TIOCGPTPEER = 0x5441
 
 
-def change_settings(terminal, characters, on=0, off=0):
+def change_settings(terminal, characters, on=0, off=0, off_in_input=0):
     settings = termios.tcgetattr(terminal)
+    settings[IFLAG] &= ~off_in_input
     settings[LFLAG] = settings[LFLAG] & ~off | on
     for place, character in characters.items():
         settings[CC][place] = character
     termios.tcsetattr(terminal, termios.TCSANOW, settings)
+
+
+def set_unusual(terminal, erase=b"\x7f", has_icrnl=True):
+    """Sets what is nobody's default, so that only a program that kept it can restore it."""
+    unusual = {termios.VERASE: erase, termios.VKILL: b"\x14", termios.VINTR: b"\x07"}
+    icrnl = 0 if has_icrnl else termios.ICRNL
+    change_settings(terminal, unusual, off=termios.ECHOE, off_in_input=icrnl)
 
 
 def set_signals(handler):
@@ -76,26 +98,13 @@ class Terminal(fdspawn):
     settings say which byte Backspace sends, and whether CR that comes is turned into LF."""
 
     def __init__(
-        self,
-        words,
-        size=(80, 24),
-        is_orphaned=False,
-        env=None,
-        is_stopped=False,
-        erase=b"\x7f",
-        has_icrnl=True,
+        self, words, size=(80, 24), is_orphaned=False, env=None, is_stopped=False, **settings
     ):
         ours, terminal = os.openpty()
         super().__init__(ours, timeout=SECONDS)
         self.logfile_read = io.BytesIO()
         self.resize(*size)
-        # Nobody's default, so that only a program that kept these settings can restore them.
-        unusual = {termios.VERASE: erase, termios.VKILL: b"\x14", termios.VINTR: b"\x07"}
-        change_settings(terminal, unusual, off=termios.ECHOE)
-        if not has_icrnl:
-            settings = termios.tcgetattr(terminal)
-            settings[IFLAG] &= ~termios.ICRNL
-            termios.tcsetattr(terminal, termios.TCSANOW, settings)
+        set_unusual(terminal, **settings)
         self.settings_before = self.settings()
         if is_stopped:
             termios.tcflow(terminal, termios.TCOOFF)
@@ -153,13 +162,17 @@ class Terminal(fdspawn):
     def resize(self, columns, rows):
         termios.tcsetwinsize(self.child_fd, (rows, columns))
 
+    def wait_for_raw(self):
+        self.wait_for(self.is_raw, "raw mode")
+
     def hang_up(self):
         with open(os.devnull, "rb") as nothing:
             os.dup2(nothing.fileno(), self.child_fd)
 
     def play(self, steps):
         """Types bytes, waits for a text that the program writes next, or until the lines below its
-        first are those of a list, and pauses."""
+        first are those of a list, sends a signal, sets a size, calls a function with the terminal,
+        and pauses."""
         for step in steps:
             if isinstance(step, bytes):
                 self.send(step)
@@ -167,6 +180,12 @@ class Terminal(fdspawn):
                 self.expect_exact(step)
             elif isinstance(step, list):
                 self.wait_for(lambda: self.lines() == [self.FIRST, *step], f"lines {step!r}")
+            elif isinstance(step, tuple):
+                self.resize(*step)
+            elif isinstance(step, signal.Signals):
+                self.kill(step)
+            elif callable(step):
+                step(self)
             else:
                 time.sleep(step)
 
@@ -195,12 +214,32 @@ class Terminal(fdspawn):
     def wait_for_stop(self):
         assert os.WIFSTOPPED(self.next_status())
 
-    def stop(self):
-        """Stops it by SIGTSTP. It restores the terminal."""
-        self.kill(signal.SIGTSTP)
+    def stop(self, number=signal.SIGTSTP):
+        """Stops it. By SIGTSTP it restores the terminal. By SIGSTOP it can't, and a shell does."""
+        self.kill(number)
         self.wait_for_stop()
+        if number == signal.SIGSTOP:
+            termios.tcsetattr(self.child_fd, termios.TCSANOW, self.settings_before)
+            return
         assert self.settings() == self.settings_before
         self.wait_for(lambda: not self.modes(), "end of the modes")
+
+    def stop_and_continue(self, number=signal.SIGTSTP):
+        self.stop(number)
+        self.continue_in_foreground()
+
+    def continue_with(self, number):
+        """Sends SIGCONT, or SIGSTOP and then SIGCONT. Nobody else has the terminal."""
+        self.kill(number)
+        if number == signal.SIGSTOP:
+            self.wait_for_stop()
+            self.continue_in_foreground()
+            self.wait_for(lambda: self.state() != "T", "SIGCONT")
+
+    def state(self):
+        """The letter of the system for what it does."""
+        with open(f"/proc/{self.job}/stat") as stat:
+            return stat.read().rpartition(")")[2].split()[0]
 
     def wait_for_end(self):
         """The status with which the program ends, below zero for a signal."""
@@ -214,3 +253,13 @@ class Terminal(fdspawn):
         assert self.wait_for_end() == status
         assert self.settings() == self.settings_before
         assert not self.modes()
+
+
+# Steps to play. SIGSTOP stops it, and nobody touches the terminal meanwhile.
+STOP, CONTINUE = [signal.SIGSTOP, Terminal.wait_for_stop], Terminal.continue_in_foreground
+STOP_AND_CONTINUE = [Terminal.stop, CONTINUE]
+
+
+def start_output(terminal):
+    """What was stopped by stop_output goes on."""
+    terminal.stop_output(termios.TCOON)

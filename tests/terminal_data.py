@@ -1,4 +1,5 @@
 """The lines of tests/terminals: what terminals sent. Its README.md says what the columns mean."""
+import re
 from pathlib import Path
 from typing import NamedTuple
 
@@ -47,3 +48,11 @@ def load(path):
         numbers = int(count), int(everyday)
         found.append(Line(kind, layout, modes, bytes.fromhex(digits), *rest, *numbers))
     return head + "\n", found
+
+
+def left_out(test):
+    """Of a test how many lines it leaves out or compares in part, by the reasons: README.md has
+    them."""
+    text = (FOLDER / "README.md").read_text()
+    rows = re.findall(rf"^\| {test} \| (\d+) \| (.*) \|$", text, re.M)
+    return {why: int(count) for count, why in rows}

@@ -1,13 +1,15 @@
-"""Programs that ask, c/ask.c and that in rust/examples/ask, on a pseudo-terminal that answers.
+"""Programs that ask, c/ask.c and those in rust/examples/ask and python/examples, on a
+pseudo-terminal that answers.
 
 Each asks for the position of the cursor, for colours and for the flags of Kitty's keyboard
 protocol, and last what the terminal is."""
 import re
+import signal
 import time
 
 import pytest
 from conftest import run_without_terminal
-from terminal import Terminal
+from terminal import CONTINUE, SECONDS, STOP, Terminal
 
 # The last question, which nearly every terminal answers.
 LAST_QUESTION = b"\033[c"
@@ -81,3 +83,97 @@ def test_no_reply(program):
 
 def test_no_terminal(program):
     assert run_without_terminal(program).returncode in (1, 2)
+
+
+# That in Python asks for the background alone, and waits as long as it is told.
+PYTHON_ASKS = "\033[6n\033]11;?\033\\\033[?u\033[c"
+ROW_1 = b"\033[1;8R"
+OTHER_REPLIES = b"\033]11;rgb:1e1e/1e1e/2e2e\033\\" + FLAGS + ATTRIBUTES
+LINES = [
+    "cursor: row 1, column 8",
+    "background: rgb:1e1e/1e1e/2e2e",
+    "keyboard: KittyKeyboardFlags.DISAMBIGUATE_ESCAPE_CODES|REPORT_ALTERNATE_KEYS",
+    "attributes: 62;22",
+]
+SHORT = ["attributes: 6", "typed: 0"]
+# How long it waits, what comes, the lines that it prints, and the status.
+PYTHON = {
+    "no reply": (1, [], ["typed: 0", "no answer to the last question in 1 s"], 1),
+    "half of the last reply": (
+        4,
+        [b"\033[24;80R\033[?6"],
+        ["cursor: row 24, column 80", "typed: 3", "no answer to the last question in 4 s"],
+        1,
+    ),
+    "all replies": (SECONDS, [ROW_1 + OTHER_REPLIES], [*LINES, "typed: 0"], 0),
+    "all replies, byte by byte": (
+        SECONDS,
+        [it for byte in ROW_1 + OTHER_REPLIES for it in (bytes([byte]), 0.002)],
+        [*LINES, "typed: 0"],
+        0,
+    ),
+    "the last reply alone": (SECONDS, [b"\033[?6c"], SHORT, 0),
+    # No byte of a reply is taken for a key.
+    "a string that is cut": (
+        SECONDS,
+        [b"\033]11;rgb:1e\r" + b"q" * 70000 + b"\033[?6c"],
+        SHORT,
+        0,
+    ),
+    # None of a reply reaches the terminal, as one byte or in UTF-8.
+    "control characters": (
+        SECONDS,
+        [b"\033]11;r\red\x08\x0e\x7f\x9b1m\xc2\x9b2m\x07\033[?6c"],
+        [r"background: r\x0ded\x08\x0e\x7f\x9b1m\xc2\x9b2m", *SHORT],
+        0,
+    ),
+    "keys between the replies": (
+        SECONDS,
+        [b"q\033[A" + ROW_1 + b"\033[I" + OTHER_REPLIES],
+        [*LINES, "typed: 2"],
+        0,
+    ),
+    "SIGTERM": (SECONDS, [signal.SIGTERM], [], -signal.SIGTERM),
+    "SIGHUP": (SECONDS, [signal.SIGHUP], [], -signal.SIGHUP),
+    # The second comes while the terminal is restored for the first.
+    "two signals": (
+        SECONDS,
+        [*STOP, signal.SIGTERM, signal.SIGHUP, CONTINUE],
+        [],
+        -signal.SIGHUP,
+    ),
+}
+
+
+def asked_by_python(example, seconds, steps, status):
+    """What it prints of these steps, from raw mode on."""
+    python, program = example("python", "ask")
+    words = [python, "-W", "error", program, str(seconds)]
+    with Terminal(words, erase=b"\x08") as terminal:
+        terminal.expect_exact(PYTHON_ASKS)
+        assert terminal.before == b"" and terminal.is_raw()
+        terminal.play(steps)
+        terminal.check_end(status)
+        return terminal.before.decode()
+
+
+@pytest.mark.parametrize("seconds, steps, lines, status", PYTHON.values(), ids=PYTHON)
+def test_python(example, seconds, steps, lines, status):
+    printed = asked_by_python(example, seconds, steps, status)
+    assert printed == "".join(f"{line}\r\n" for line in lines)
+
+
+def test_interrupt_of_python(example):
+    """The modes are restored if the program ends by an exception."""
+    # If a shell runs the tests in the background, they ignore SIGINT, and so would the program.
+    before = signal.signal(signal.SIGINT, signal.default_int_handler)
+    printed = asked_by_python(example, SECONDS, [signal.SIGINT], -signal.SIGINT)
+    signal.signal(signal.SIGINT, before)
+    assert "KeyboardInterrupt" in printed
+
+
+def test_python_without_terminal(example):
+    """Nothing is asked."""
+    done = run_without_terminal(example("python", "ask"), text=True)
+    assert (done.returncode, done.stdout) == (1, "")
+    assert re.fullmatch(r"ask: .*/dev/tty'\n", done.stderr)

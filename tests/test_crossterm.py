@@ -3,11 +3,12 @@ program rust/tests/with/crossterm_events.rs runs over each of the two.
 
 They have the same events of most bytes. Where they differ a rule names the reason, and mostly other
 bytes, of which crossterm has the events that this package has."""
+import contextlib
 import re
 import signal
 
 import pytest
-from terminal import END, PAUSE, START, Terminal
+from terminal import CONTINUE, END, PAUSE, START, Terminal
 
 # Codes of Kitty's protocol: some characters, and the numbers of its functional keys.
 CHARACTERS, FUNCTIONAL = [32, 48, 97, 122, 160, 233, 1092, 0x1F600], range(57344, 57456)
@@ -247,42 +248,45 @@ ERASE = {
 }
 
 
+@pytest.fixture
+def start(program):
+    """Starts the program over this package's, and ends it after a case by q."""
+
+    @contextlib.contextmanager
+    def run(**how):
+        with Reader(program, **how) as reader:
+            reader.expect_exact("q ends\r\n")
+            yield reader
+            reader.send(b"q")
+            assert reader.wait_for_end() == 0
+
+    return run
+
+
 @pytest.mark.parametrize("has_icrnl", [True, False], ids=["ICRNL", "no ICRNL"])
 @pytest.mark.parametrize("erase, eight, last", ERASE.values(), ids=ERASE)
-def test_settings(program, erase, eight, last, has_icrnl):
+def test_settings(start, erase, eight, last, has_icrnl):
     """Which byte Backspace sends is taken from them. In raw mode LF is Ctrl-J."""
-    with Reader(program, erase=erase, has_icrnl=has_icrnl) as reader:
-        reader.expect_exact("q ends\r\n")
+    with start(erase=erase, has_icrnl=has_icrnl) as reader:
         keys = [eight, last, "Char('j') CONTROL", "Enter NONE"]
         assert reader.events(b"\x08\x7f\n\r") == [f"{key} Press NONE" for key in keys]
-        reader.play([b"q"])
-        assert reader.wait_for_end() == 0
 
 
 @pytest.mark.parametrize("number", [signal.SIGSTOP, signal.SIGTSTP], ids=lambda it: it.name)
-def test_stop_within_a_paste(program, number):
+def test_stop_within_a_paste(start, number):
     """It stays one, and so does the next. No line of it is typed."""
-    with Reader(program) as reader:
-        reader.expect_exact("q ends\r\n")
+    with start() as reader:
         for _ in range(2):
-            reader.play([START + b"a\n", PAUSE])
-            reader.kill(number)
-            reader.wait_for_stop()
-            reader.continue_in_foreground()
-            reader.wait_for(reader.is_raw, "raw mode")
+            reader.play([START + b"a\n", PAUSE, number, Terminal.wait_for_stop, CONTINUE])
+            reader.wait_for_raw()
             told = reader.events(b"b\nc" + END)
             assert told[-1] == r'Paste("a\nb\nc")'
             assert told[:-1] == ([] if number == signal.SIGSTOP else ["Resize(80, 24)"])
-        reader.play([b"q"])
-        assert reader.wait_for_end() == 0
 
 
-def test_sequence_during_a_computation(program):
+def test_sequence_during_a_computation(start):
     """Its rest is read before ESC counts as having waited too long."""
-    with Reader(program) as reader:
-        reader.expect_exact("q ends\r\n")
+    with start() as reader:
         for _ in range(2):
             reader.play([b"s\033", "Char('s')", PAUSE / 2, b"[A"])
             assert reader.events(b"")[-1:] == ["Up NONE Press NONE"]
-        reader.play([b"q"])
-        assert reader.wait_for_end() == 0

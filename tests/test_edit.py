@@ -5,7 +5,6 @@ Errors of the file are told before the terminal is touched. On a pseudo-terminal
 print the right lines, restore the terminal's settings, and switch its modes off again."""
 import re
 import signal
-import termios
 import time
 
 import pytest
@@ -170,29 +169,18 @@ TYPED = {
         [*TOP_OF_AB, *AFTER_G, "text: ab|", "text: abcd|"],
     ),
     "Escape alone": ([b"\033", "unbound: escape\r\n", b"a"], ["unbound: escape", *A]),
-    "a Cyrillic layout": (
-        [CYRILLIC_X + CYRILLIC_S],
-        [*AFTER_X, "saved 0 characters"],
-    ),
+    "a Cyrillic layout": ([CYRILLIC_X + CYRILLIC_S], [*AFTER_X, "saved 0 characters"]),
     "a Cyrillic key without a command": (
         [CYRILLIC_X + CYRILLIC_A],
         [*AFTER_X, "unbound: ctrl+x", "unbound: ctrl+ф"],
     ),
     "a report of two characters": ([b"\033[0;;102:105u"], ["text: fi|"]),
-    "two characters behind a key that is pending": (
-        [b"g\033[0;;102:105u"],
-        [*AFTER_G, "text: fi|"],
-    ),
+    "two characters, and a chord": ([b"g\033[0;;102:105u"], [*AFTER_G, "text: fi|"]),
     "events that are no presses": ([b"abg" + OTHERS + b"g"], TOP_OF_AB),
     "keys of several protocols": (
         [b"\033[1;9A\033[107;5u\033[27;5;107~\033[1;5R\b\n"],
-        [
-            "unbound: super+up",
-            *2 * ["unbound: ctrl+k"],
-            "unbound: ctrl+f3",
-            "unbound: ctrl+h",
-            "text: \\n|",
-        ],
+        ["unbound: super+up", *2 * ["unbound: ctrl+k"], "unbound: ctrl+f3", "unbound: ctrl+h"]
+        + ["text: \\n|"],
     ),
 }
 
@@ -268,28 +256,15 @@ def test_without_quit(program, write_keys):
     """No line says how it ends."""
     with Edit([*program, write_keys(b"save x")]) as edit:
         edit.FIRST = None
-        edit.play([ENTER.decode(), b"x", "saved 0 characters\r\n"])
-        edit.kill(signal.SIGTERM)
+        edit.play([ENTER.decode(), b"x", "saved 0 characters\r\n", signal.SIGTERM])
         edit.check_end(-signal.SIGTERM, "saved 0 characters")
 
 
 @pytest.mark.parametrize("number", ENDING_SIGNALS, ids=lambda it: it.name)
 def test_signal(start, number):
     edit = start()
-    edit.play([b"ab", "text: ab|\r\n"])
-    edit.kill(number)
+    edit.play([b"ab", "text: ab|\r\n", number])
     edit.check_end(-number, *AB)
-
-
-def test_signal_while_nobody_reads(program):
-    """It ends soon, although its output blocks."""
-    with Terminal([*program, KEYS], is_stopped=True) as terminal:
-        while not terminal.is_raw():
-            time.sleep(0.02)
-        time.sleep(PAUSE)
-        terminal.kill(signal.SIGTERM)
-        assert terminal.told.poll(5)
-        terminal.check_end(-signal.SIGTERM)
 
 
 @pytest.mark.parametrize("number", [signal.SIGTSTP, signal.SIGSTOP], ids=lambda it: it.name)
@@ -298,13 +273,7 @@ def test_stop(start, number):
     nest are switched on once."""
     edit = start()
     edit.play([b"ab" + START + b"c", "text: ab|\r\n"])
-    if number == signal.SIGTSTP:
-        edit.stop()
-    else:
-        edit.kill(number)
-        edit.wait_for_stop()
-        termios.tcsetattr(edit.child_fd, termios.TCSANOW, edit.settings_before)
-    edit.continue_in_foreground()
+    edit.stop_and_continue(number)
     edit.wait_for(lambda: edit.output.count(ENTER) == 2, "modes")
     assert edit.is_raw() and edit.output.count(LEAVE) == 1
     edit.entered = 2

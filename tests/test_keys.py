@@ -8,13 +8,13 @@ import random
 import re
 import signal
 import subprocess
-import termios
 import time
 
 import pytest
 from conftest import HEDRUGAL_KEYS, TOP, entries_after
 from screen import Screen
-from terminal import END, ENDING_SIGNALS, LONG_PAUSE, PAUSE, SECONDS, START, Terminal
+from terminal import CONTINUE, END, ENDING_SIGNALS, LONG_PAUSE, PAUSE, SECONDS, START, STOP
+from terminal import STOP_AND_CONTINUE, Terminal
 
 WIDE = (200, 24)
 HELLO = "hedrugal-keys: press keys; ^D twice ends it."
@@ -43,22 +43,14 @@ class Keys(Terminal):
 
     FIRST = HELLO
 
-    def __init__(
-        self,
-        *words,
-        size=(80, 24),
-        output_to=None,
-        is_orphaned=False,
-        erase=b"\x7f",
-        has_icrnl=True,
-        **variables,
-    ):
+    def __init__(self, *words, size=(80, 24), output_to=None, **how):
         if output_to:
             words = ["/bin/sh", "-c", f'exec "$0" "$@" > {output_to}', *words]
+        variables = {name: how.pop(name) for name in [*how] if name.isupper()}
         env = os.environ | {"TERM": "xterm", "NO_COLOR": "1"} | variables
         env = {name: it for name, it in env.items() if it is not None}
         self.size = size
-        super().__init__(words, size, is_orphaned, env, erase=erase, has_icrnl=has_icrnl)
+        super().__init__(words, size, env=env, **how)
 
     def screen(self):
         return Screen(*self.size).take(re.sub(rb"(\033\[?[0-9;?>]*|\r)\Z", b"", self.output))
@@ -217,9 +209,8 @@ def test_half_a_character(show):
 def test_open_paste(show):
     """No pause flushes it, and ^D twice is text of it."""
     first, second = "   1  ESC [ 2 0 0 ~ h ^D ^D -> ", "   2  (ESC [ 2 0 0 ~ h ^D ^D) ESC [ 2 -> "
-    third = (
-        "   3  (ESC [ 2 0 0 ~ h ^D ^D ESC [ 2) 0 1 ~ -> paste 3:680404 | q -> key U+0071 NONE = q"
-    )
+    third = "   3  (ESC [ 2 0 0 ~ h ^D ^D ESC [ 2) 0 1 ~ -> paste 3:680404"
+    third += " | q -> key U+0071 NONE = q"
     begun = [f"{first}a paste of 3 bytes so far: waits for its end"]
     more = [f"{first}goes on in read 2", f"{second}a paste of 6 bytes so far: waits for its end"]
     steps = [START + b"h\x04\x04", begun, LONG_PAUSE, begun, b"\033[2", more, b"01~q"]
@@ -403,16 +394,11 @@ def test_flags_of_kitty_nest(start):
     """They are pushed again only after they were popped, also where SIGSTOP stopped it. A SIGCONT
     without a stop sets nothing."""
     keys = start("--kitty-keyboard", "--focus")
-    keys.kill(signal.SIGCONT)
-    keys.play([b"a", "   1  a"])
+    keys.play([signal.SIGCONT, b"a", "   1  a"])
     assert keys.output.count(b"\033[?1004h") == 1
-    keys.kill(signal.SIGSTOP)
-    keys.wait_for_stop()
-    termios.tcsetattr(keys.child_fd, termios.TCSANOW, keys.settings_before)
-    keys.continue_in_foreground()
+    keys.stop_and_continue(signal.SIGSTOP)
     keys.wait_for(lambda: keys.output.count(b"\033[?1004h") == 2, "focus mode again")
-    keys.stop()
-    keys.continue_in_foreground()
+    keys.stop_and_continue()
     keys.wait_for(keys.modes, "modes")
     keys.end_by(signal.SIGTERM)
     assert re.findall(rb"\033\[(>31|<)u", keys.output) == [b">31", b"<"] * 3
@@ -431,13 +417,10 @@ def test_sigtstp_sigcont_sigterm(start):
     keys = start(*ALL_MODES)
     first = "   1  c3 -> half a character: waits for the rest"
     second = "   1  c3 -> forgotten, since another program had the terminal"
-    keys.play([b"\xc3", [first]])
-    keys.stop()
-    keys.continue_in_foreground()
+    keys.play([b"\xc3", [first], *STOP_AND_CONTINUE])
     keys.wait_for(lambda: keys.modes() == ALL_SWITCHED, "modes")
     assert keys.is_raw()
-    keys.play([b"b", [first, second, "   2  b -> key U+0062 NONE = b"]])
-    keys.stop()
+    keys.play([b"b", [first, second, "   2  b -> key U+0062 NONE = b"], Terminal.stop])
     keys.end_by(signal.SIGTERM, signal.SIGCONT)
 
 
@@ -449,14 +432,8 @@ def paste_so_far(count, *, until):
 def test_stops_in_a_paste(start):
     """The rest of it isn't typed, whoever had the terminal."""
     keys = start("--bracketed-paste", size=WIDE)
-    keys.play([START + b"a", [paste_so_far(1, until="waits for its end")]])
-    keys.kill(signal.SIGCONT)
-    keys.kill(signal.SIGSTOP)
-    keys.wait_for_stop()
-    keys.continue_in_foreground()
-    keys.play([PAUSE])
-    keys.stop()
-    keys.continue_in_foreground()
+    keys.play([START + b"a", [paste_so_far(1, until="waits for its end")], signal.SIGCONT])
+    keys.play([*STOP, CONTINUE, PAUSE, *STOP_AND_CONTINUE])
     keys.wait_for(keys.modes, "modes")
     again = [paste_so_far(1, until="waits for its end"), paste_so_far(1, until=UP_TO)]
     keys.play([again, b"\r" + END + b"b"])
@@ -467,44 +444,29 @@ def test_stops_in_a_paste(start):
 
 @pytest.mark.timed
 @pytest.mark.parametrize("word", ["", "--extended"])
-def test_rest_that_never_comes(start, word):
+def test_rest_that_never_comes(show, word):
     """The paste ends a second after the stop, or after its last byte. Later ones have no limit."""
-    keys = start("--bracketed-paste", *word.split(), size=WIDE)
-    keys.play([START + b"a", "so far"])
-    keys.stop()
-    keys.continue_in_foreground()
-    keys.play([UP_TO, 0.7, b"b", UP_TO, 0.7])
-    assert "paste 2" not in keys.lines()[-1]
-    keys.play(["-> paste 2:6162\r\n", START + b"a", "waits for its end", LONG_PAUSE, END])
-    keys.play(["-> paste 1:61\r\n"])
-    keys.end()
+
+    def is_open(keys):
+        assert "paste 2" not in keys.lines()[-1]
+
+    steps = [START + b"a", "so far", *STOP_AND_CONTINUE, UP_TO, 0.7, b"b", UP_TO, 0.7, is_open]
+    steps += ["-> paste 2:6162\r\n", START + b"a", "waits for its end", LONG_PAUSE, END]
+    show([*steps, "-> paste 1:61\r\n"], [], "--bracketed-paste", *word.split(), size=WIDE)
 
 
 @pytest.mark.timed
-def test_stop_in_a_string(start):
-    keys = start("--extended", size=WIDE)
-    keys.play([b"\033]11;r", "so far"])
-    keys.stop()
-    keys.continue_in_foreground()
-    keys.play([UP_TO, PAUSE, b"g\007", "-> osc 5:31313b7267\r\n", b"\033]11;r", "so far"])
-    keys.stop()
-    keys.continue_in_foreground()
-    keys.play([UP_TO, "-> osc cut 4:31313b72\r\n"])
-    keys.end()
+def test_stop_in_a_string(show):
+    begun = [b"\033]11;r", "so far", *STOP_AND_CONTINUE, UP_TO]
+    ended = [PAUSE, b"g\007", "-> osc 5:31313b7267\r\n"]
+    show([*begun, *ended, *begun, "-> osc cut 4:31313b72\r\n"], [], "--extended", size=WIDE)
 
 
 @pytest.mark.timed
-def test_key_that_is_due_after_a_stop(start):
+def test_key_that_is_due_after_a_stop(show):
     """Bytes that came meanwhile go first, since they may complete it."""
-    keys = start(size=WIDE)
-    for _ in range(2):
-        keys.play([b"\033[1;5", UP_TO])
-        keys.kill(signal.SIGSTOP)
-        keys.wait_for_stop()
-        keys.play([b"A", LONG_PAUSE])
-        keys.continue_in_foreground()
-        keys.play(["(ESC [ 1 ; 5) A -> key UpArrow CTRL = ctrl+up\r\n"])
-    keys.end()
+    told = "(ESC [ 1 ; 5) A -> key UpArrow CTRL = ctrl+up\r\n"
+    show([b"\033[1;5", UP_TO, *STOP, b"A", LONG_PAUSE, CONTINUE, told] * 2, [], size=WIDE)
 
 
 # Where nothing came in time the program stands still, as if it were stopped, before it sees that.
@@ -636,6 +598,7 @@ FORWARD = {**BACK, "button": 9, "action": "release", "modifiers": ["ALT"]}
 NO_BUTTON = {"kind": "mouse", "x": 3, "y": 4, "buttons": [], "modifiers": []}
 LEFT = {**BACK, "buttons": ["LEFT"], "button": 1}
 SIZE = {"kind": "resized", "rows": 24, "columns": 80, "height": 480, "width": 800}
+OSC_CUT = {"kind": "string_cut", "of": "osc", "length": 2, "data": "343b"}
 A_LINE = "key U+0061 SHIFT repeat shifted U+0041 base U+0063 text 1:41 = A"
 REPORTS = [
     (b"\033[97:65:99;2:2;65u", A_LINE, A),
@@ -648,11 +611,7 @@ REPORTS = [
     (b"\033]0;a\007", "osc 3:303b61", {"kind": "osc", "length": 3, "data": "303b61"}),
     (b"\033P>|\033\\", "dcs 2:3e7c", {"kind": "dcs", "length": 2, "data": "3e7c"}),
     (b"\033_Gi=\033\\", "apc 3:47693d", {"kind": "apc", "length": 3, "data": "47693d"}),
-    (
-        b"\033]4;",
-        "osc cut 2:343b",
-        {"kind": "string_cut", "of": "osc", "length": 2, "data": "343b"},
-    ),
+    (b"\033]4;", "osc cut 2:343b", OSC_CUT),
     (b"\033[57428u", "key functional 57428 NONE = kitty57428", VOLUME),
     (b"\033[<128;3;4M", "mouse 3 4 NONE NONE press 8", BACK),
     (b"\033[<137;3;4m", "mouse 3 4 NONE ALT release 9", FORWARD),
@@ -687,12 +646,9 @@ TWO_NAMES |= {"base": 99, "press": "ctrl+\u0441", "second": "ctrl+c"}
 def extended(told):
     """What --extended tells besides: what happened, and of which button."""
     more = {"key": {"action": "press"}, "mouse": {"action": "wheel", "button": 4}}
-    rest = {name: told[name] for name in ("press",) if name in told}
-    return {
-        **{name: told[name] for name in told if name != "press"},
-        **more.get(told["kind"], {}),
-        **rest,
-    }
+    press = {name: it for name, it in told.items() if name == "press"}
+    rest = {name: it for name, it in told.items() if name != "press"}
+    return rest | more.get(told["kind"], {}) | press
 
 
 ALL_EXTENDED = [(typed, extended(told)) for typed, told in ALL_KINDS]
@@ -716,16 +672,12 @@ PRINTED = {
 }
 
 
-@pytest.mark.parametrize("source", ["pipe", "file", "input from a file"])
 @pytest.mark.parametrize("words, typed, lines", PRINTED.values(), ids=PRINTED)
-def test_printed(tmp_path, source, words, typed, lines):
-    if source == "pipe":
-        assert run(*words.split(), typed=typed) == (0, lines, "")
-        return
+def test_printed(tmp_path, words, typed, lines):
+    """Of a pipe, of a file, and of an input that is a file."""
     (tmp_path / "typed").write_bytes(typed)
-    if source == "file":
-        assert run(*words.split(), tmp_path / "typed") == (0, lines, "")
-        return
+    assert run(*words.split(), typed=typed) == (0, lines, "")
+    assert run(*words.split(), tmp_path / "typed") == (0, lines, "")
     with open(tmp_path / "typed", "rb") as file:
         done = subprocess.run([HEDRUGAL_KEYS, *words.split()], stdin=file, capture_output=True)
     assert (done.returncode, done.stdout.decode(), done.stderr) == (0, lines, b"")
@@ -756,10 +708,8 @@ def did(keys, command):
     return {"keys": keys, "command": command}
 
 
-AFTER_CTRL_X = {
-    "pending": "ctrl+x",
-    "continuations": [did("ctrl+c", "quit"), did("ctrl+s", "save")],
-}
+AFTER_CTRL_X = {"pending": "ctrl+x"}
+AFTER_CTRL_X["continuations"] = [did("ctrl+c", "quit"), did("ctrl+s", "save")]
 DONE_AS_JSON = [
     {"kind": "key", **AFTER_CTRL_X},
     {"kind": "mouse"},
@@ -857,12 +807,11 @@ def test_wrong_bindings_on_a_terminal(bound):
 
 
 @pytest.mark.timed
-def test_bindings_of_the_page(start, bound):
+def test_bindings_of_the_page(show, bound):
     """The screens that docs/keys.md shows."""
     screen, following = (it.split("\n") for it in listings()[4:])
-    keys = start("--bindings", bound())
-    keys.play([b"\x18", following, b"\x13", DONE[0], b"g", "top", LONG_PAUSE, b"z", screen])
-    keys.end()
+    steps = [b"\x18", following, b"\x13", DONE[0], b"g", "top", LONG_PAUSE, b"z", screen]
+    show(steps, [], "--bindings", bound())
 
 
 @pytest.mark.timed
@@ -882,15 +831,11 @@ def test_chord_without_moves(show, bound):
     show([b"\x18"], lines, "--bindings", bound(), TERM="dumb")
 
 
-def test_chord_before_a_stop(start, bound):
+def test_chord_before_a_stop(show, bound):
     """What is pending is forgotten when another program has the terminal."""
-    keys = start("--bindings", bound(), size=WIDE)
-    keys.play([b"\x18", "save"])
-    keys.stop()
-    keys.continue_in_foreground()
-    keys.play(["ctrl+x -> forgotten, since another program had the terminal"])
-    keys.play([b"\x13", "ctrl+s -> unbound"])
-    keys.end()
+    steps = [b"\x18", "save", *STOP_AND_CONTINUE]
+    steps += ["ctrl+x -> forgotten, since another program had the terminal"]
+    show([*steps, b"\x13", "ctrl+s -> unbound"], [], "--bindings", bound(), size=WIDE)
 
 
 LONGEST = b"# " + b"x" * ((1 << 20) - 12) + b"\ncopy x\n\n\n"

@@ -6,7 +6,7 @@ import sys
 
 import pytest
 from conftest import TOP
-from terminal import END, START, Terminal
+from terminal import CONTINUE, END, START, STOP, Terminal
 
 PROGRAM = """
 import sys
@@ -145,12 +145,9 @@ def test_pipe():
 def test_paste_over_a_stop(prompt, number):
     """None of it is typed."""
     program = prompt(PROGRAM.format(how={}))
+    stop = STOP if number == signal.SIGSTOP else [number]
     for part in (START + b"one\r", b"two\r"):
-        program.play([part, 0.1])
-        program.kill(number)
-        if number == signal.SIGSTOP:
-            program.wait_for_stop()
-        program.continue_in_foreground()
+        program.play([part, 0.1, *stop, CONTINUE])
     check(program, [0.1, b"three" + END], ["one\ntwo\nthree"])
 
 
@@ -172,8 +169,5 @@ def test_interrupt(prompt):
 def test_end_of_the_input(prompt):
     """The terminal is gone."""
     program = prompt(PROGRAM.format(how={}))
-    program.kill(signal.SIGSTOP)
-    program.wait_for_stop()
-    program.hang_up()
-    program.kill(signal.SIGCONT)
+    program.play([*STOP, Terminal.hang_up, signal.SIGCONT])
     program.wait_for_end()

@@ -6,11 +6,10 @@ However it ends or stops, a program has to print the right lines, leave the term
 they were, and switch off the modes that it switched on."""
 import re
 import signal
-import termios
 import time
 
 import pytest
-from conftest import HEDRUGAL_KEYS, run_without_terminal
+from conftest import HEDRUGAL_KEYS, TOP, run_without_terminal
 from terminal import END, ENDING_SIGNALS, LONG_PAUSE, PAUSE, START, Terminal
 
 LIMIT = 1 << 20
@@ -130,14 +129,11 @@ def test_paste_over_the_limit(start, pause):
     live.quit(*lines)
 
 
-@pytest.mark.parametrize("around, lines", [(["", ""], []), ([START, END], ["paste of 0 bytes"])])
+@pytest.mark.parametrize("around, lines", [([b"", b""], []), ([START, END], ["paste of 0 bytes"])])
 def test_new_size(start, around, lines):
     """Also within a paste."""
     live = start()
-    live.send(around[0])
-    live.resize(100, 40)
-    live.wait_for_line("size 100 x 40")
-    live.send(around[1])
+    live.play([around[0], (100, 40), "size 100 x 40\r\n", around[1]])
     live.quit("size 100 x 40", *lines)
 
 
@@ -159,8 +155,7 @@ def test_terminal_that_is_gone(start):
 @pytest.mark.parametrize("number", ENDING_SIGNALS, ids=lambda it: it.name)
 def test_signal(start, number):
     live = start("--mouse")
-    live.play([b"a", "Char U+0061\r\n"])
-    live.kill(number)
+    live.play([b"a", "Char U+0061\r\n", number])
     live.check_end(-number, "Char U+0061")
 
 
@@ -169,8 +164,7 @@ def test_sigtstp_and_sigcont_twice(start):
     live = start("--mouse")
     for begun, rest in ((START + b"b", b"\r" + END), (b"\033[1;5", b"A")):
         live.play([START + b"a" + END + begun, "paste of 1 bytes"])
-        live.stop()
-        live.continue_in_foreground()
+        live.stop_and_continue()
         live.wait_for_raw_again()
         assert live.modes() == MODES
         live.send(rest)
@@ -180,9 +174,7 @@ def test_sigtstp_and_sigcont_twice(start):
 def test_sigcont_in_the_background(start):
     """A program in the background that sets the terminal is stopped."""
     live = start()
-    live.stop()
-    live.kill(signal.SIGCONT)
-    live.wait_for_stop()
+    live.play([Terminal.stop, signal.SIGCONT, Terminal.wait_for_stop])
     assert live.settings() == live.settings_before
     live.continue_in_foreground()
     live.wait_for_line(SIZE)
@@ -201,10 +193,7 @@ def test_sigterm_while_it_is_stopped(start):
 def test_sigstop_and_sigcont(start):
     """SIGSTOP can't be handled. A shell sets the terminal as it likes meanwhile."""
     live = start()
-    live.kill(signal.SIGSTOP)
-    live.wait_for_stop()
-    termios.tcsetattr(live.child_fd, termios.TCSANOW, live.settings_before)
-    live.continue_in_foreground()
+    live.stop_and_continue(signal.SIGSTOP)
     live.wait_for_raw_again()
     live.quit(SIZE)
 
@@ -217,17 +206,19 @@ def test_sigtstp_where_no_shell_could_continue_it(start):
     live.quit(SIZE)
 
 
-PROGRAMS = ["c live", "c ask", "rust live", "rust ask", "python live", "python ask", "keys"]
+# The words behind each program.
+PROGRAMS = {"c live": [], "c ask": [], "rust live": [], "rust ask": [], "python live": []}
+PROGRAMS |= {"python ask": [], "keys": [], "rust relay": ["sleep", "1000"]}
+PROGRAMS |= dict.fromkeys(["c edit", "rust edit", "python edit"], [TOP / "docs/edit.keys"])
 
 
-@pytest.mark.parametrize("name", PROGRAMS)
+@pytest.mark.parametrize("name, more", PROGRAMS.items(), ids=PROGRAMS)
 @pytest.mark.parametrize("number", [signal.SIGHUP, signal.SIGTERM], ids=lambda it: it.name)
-def test_signal_while_nobody_reads(example, name, number):
+def test_signal_while_nobody_reads(example, name, more, number):
     """Each program on a terminal ends soon, although its output blocks."""
     words = [HEDRUGAL_KEYS] if name == "keys" else example(*name.split())
-    with Terminal(words, is_stopped=True) as terminal:
-        while not terminal.is_raw():
-            time.sleep(0.02)
+    with Terminal([*words, *more], is_stopped=True) as terminal:
+        terminal.wait_for_raw()
         time.sleep(PAUSE)
         terminal.kill(number)
         assert terminal.told.poll(5)

@@ -1,6 +1,6 @@
 """One thing has one name in C, Rust and Python: kinds of events and replies, fields, calls of a
-parser, and sections of docs/rust.md and docs/python.md. Names in C are read from its headers and
-c/numbers.txt, and those in Rust from its sources."""
+parser, and sections of docs/rust.md and docs/python.md. Names in C are read from its headers, and
+those in Rust from its sources."""
 import inspect
 import re
 import typing
@@ -29,8 +29,8 @@ OWN_SECTIONS = {
 
 
 def numbered(group):
-    """The names of a group of c/numbers.txt, but for one that stands for none of them."""
-    names = re.findall(rf"^{group} (\w+)", (TOP / "c/numbers.txt").read_text(), re.M)
+    """The names of an enum of the header, but for one that stands for none of them."""
+    names = re.findall(rf"^  HED_{group.upper()}_(\w+) = ", HEADERS, re.M)
     return {"".join(map(str.capitalize, it.split("_"))) for it in names} - {"Other"}
 
 

@@ -298,13 +298,8 @@ WRITTEN = {
     "table": ("\\e[1;5Aq\\e[113;5u", ["as it is", "as it is", "as ^Q"]),
     "extended": (
         "\\e[24;80R\\e]11;#fff^G\\e[I\\e[200~ab\\e[201~\\e[97;5u\\e[<0;3;4m",
-        [
-            "as ESC [ ? 2 4 ; 8 0 R",
-            "as ESC ] 1 1 ; # f f f ESC \\",
-            *2 * ["as it is"],
-            "as ^A",
-            "as it is",
-        ],
+        ["as ESC [ ? 2 4 ; 8 0 R", "as ESC ] 1 1 ; # f f f ESC \\", *2 * ["as it is"]]
+        + ["as ^A", "as it is"],
     ),
 }
 

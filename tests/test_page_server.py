@@ -561,16 +561,13 @@ def test_table(client):
 
 
 # Names with further modifiers, and of each key what it is, what is held, its line and its press.
+HELD_ENTER = "ALT+CTRL", "key Enter ALT+CTRL", "ctrl+alt+enter"
 ENCODED = [
     ("UpArrow", "NONE", [(KeyCode.UP_ARROW, "NONE", "key UpArrow NONE", "up")]),
     ("up", "CTRL", [(KeyCode.UP_ARROW, "CTRL", "key UpArrow CTRL", "ctrl+up")]),
     ("U+0069", "CTRL", [("i", "CTRL", "key U+0069 CTRL", "ctrl+i")]),
     ("C-i", "NONE", [("i", "CTRL", "key U+0069 CTRL", "ctrl+i")]),
-    (
-        "Ctrl+Alt+Enter",
-        "NONE",
-        [(KeyCode.ENTER, "ALT+CTRL", "key Enter ALT+CTRL", "ctrl+alt+enter")],
-    ),
+    ("Ctrl+Alt+Enter", "NONE", [(KeyCode.ENTER, *HELD_ENTER)]),
     ("<S-F5>", "NONE", [(Function(5), "SHIFT", "key F5 SHIFT", "shift+f5")]),
     ("€", "ALT", [("€", "ALT", "key U+20AC ALT", "alt+€")]),
     ("A", "SHIFT", [("A", "SHIFT", "key U+0041 SHIFT", "A")]),
@@ -652,12 +649,13 @@ def test_encodings_that_are_read_as_another(client):
 
 
 def test_names_are_those_of_keyshow():
-    """The lines are those of the recorded answers."""
+    """The lines are those of the cases."""
     names = [key_name(it) for it in (KeyCode.UP_ARROW, "q", "\U0001f600")]
     assert names == ["UpArrow", "U+0071", "U+1F600"]
     assert set_name(Modifiers.CTRL | Modifiers.SHIFT | Modifiers.ALT) == "SHIFT+ALT+CTRL"
-    recorded = (TOP / "rust/tests/recorded/rules.txt").read_text(encoding="utf-8")
-    keys = {*re.findall(r"\bkey (\S+) ([A-Z+]+)(?=[,;|\s])", recorded)}
+    cases = (TOP / "tests/cases/events.txt").read_text(encoding="utf-8")
+    lines = "\n".join(re.findall("^termwiz.*", cases, flags=re.M))
+    keys = {*re.findall(r"\bkey (\S+) ([A-Z+]+)(?=[,|\s])", lines)}
     assert len(keys) > 20
     for key, held in keys:
         line = key_line(meanings.key_of(key), modifiers_of(held))
@@ -669,15 +667,12 @@ OTHERS = [b"\xe2\x82\xac", b"\x1b[<0;3;4M"]
 BEYOND = [b"\x1b[97;5:3u", b"\x1b]11;#fff\a", b"\x1b]0;" + b"a" * 65536]
 
 
+LONG = [("table", 2, it) for it in PIECES + OTHERS]
+LONG += [("extended", 4, it) for it in PIECES + BEYOND]
+
+
 @pytest.mark.parametrize("path", ["read?end=more&first=0&", "reads?", "cut?at=5000&"])
-@pytest.mark.parametrize(
-    "reading, seconds, piece",
-    [
-        *(("table", 2, it) for it in PIECES + OTHERS),
-        *(("extended", 4, it) for it in PIECES + BEYOND),
-    ],
-    ids=lambda it: repr(it)[:20],
-)
+@pytest.mark.parametrize("reading, seconds, piece", LONG, ids=lambda it: repr(it)[:20])
 def test_a_megabyte(client, path, reading, seconds, piece):
     """It takes two seconds, and four in the extended dialect."""
     data = (piece * (MOST // len(piece) + 1))[:MOST]

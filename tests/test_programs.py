@@ -17,6 +17,7 @@ from pathlib import Path
 
 import pytest
 from conftest import TOP, run_without_terminal
+from pexpect.fdpexpect import fdspawn
 from terminal import END, ENDING_SIGNALS, LFLAG, LONG_PAUSE, PAUSE, SECONDS, START
 from terminal import Terminal, change_settings
 
@@ -147,11 +148,8 @@ TYPED = {
     ),
     "lines": ([(b"one\r", "|"), (b"two" + LEFT + b"\r", "|"), (b"\r", "|")], ["one", "two", ""]),
     "pastes": (
-        [
-            (PASTED, "one two  [A |"),
-            (LEFT * 2, "one two  [|A "),
-            (PASTED, "one two  [one two  [A |A "),
-        ],
+        [(PASTED, "one two  [A |"), (LEFT * 2, "one two  [|A ")]
+        + [(PASTED, "one two  [one two  [A |A ")],
         [],
     ),
     "a paste, cut by pauses": (
@@ -164,15 +162,16 @@ TYPED = {
         [],
     ),
     "history": (
-        [
-            (b"one\rtwo\r", "|"),
-            (UP, "two|"),
-            (UP, "one|"),
-            (UP, "one|"),
-            (DOWN, "two|"),
+        [(b"one\rtwo\r", "|"), (UP, "two|"), (UP, "one|"), (UP, "one|"), (DOWN, "two|")]
+        + [
             (DOWN, "|"),
-        ]
-        + [(DOWN, "|"), (UP * 2, "one|"), (b"\r", "|"), (UP, "one|"), (UP, "two|"), (b"\r", "|")],
+            (DOWN, "|"),
+            (UP * 2, "one|"),
+            (b"\r", "|"),
+            (UP, "one|"),
+            (UP, "two|"),
+            (b"\r", "|"),
+        ],
         ["one", "two", "one", "two"],
     ),
     "what Up left": (
@@ -237,8 +236,7 @@ def test_stop(start):
     prompt.draw([(b"a" + START + b"b", "a|")])
     for drawn in ("ab |", "ab b |"):
         count = prompt.output.count(b"\033[?2004h")
-        prompt.stop()
-        prompt.continue_in_foreground()
+        prompt.stop_and_continue()
         prompt.wait_for(lambda: prompt.output.count(b"\033[?2004h") > count, "modes")
         prompt.draw([(b"\r" + END, drawn), (START + b"b", drawn)])
     prompt.send(END + b"\x04")
@@ -371,6 +369,13 @@ class Serving(Terminal):
         lines = self.output.decode().split("\r\n")[:-1]
         return [line.removeprefix(start) for line in lines if line.startswith(start)]
 
+    def check_all(self, count, keys, *names):
+        """All of so many type keys, and they are printed for each."""
+        for place in range(count):
+            self.type(place, keys)
+        for place in range(count):
+            self.wait_for_printed(place, *names)
+
     def wait_for_printed(self, place, *keys):
         """They are the next ones."""
         begin = self.checked[place]
@@ -484,7 +489,8 @@ class Many(Serving):
         """Their settings and modes are as they were."""
         for place in places:
             assert termios.tcgetattr(self.ends[place]) == self.saved[place]
-            assert os.read(self.typing[place], 64) == b"\033[?2004h\033[?2004l"
+            written = fdspawn(self.typing[place], timeout=SECONDS).read(16)
+            assert written == b"\033[?2004h\033[?2004l"
 
     def close(self):
         super().close()
@@ -509,11 +515,8 @@ def test_server(server):
     for _ in range(10):
         server.take_in()
     assert {*server.names} == {f"terminal {it}" for it in range(1, 11)}
-    for keys, names in [(b"\x18\033[A", ["ctrl+x", "up"]), ("é\r".encode(), ["é", "enter"])]:
-        for place in range(10):
-            server.type(place, keys)
-        for place in range(10):
-            server.wait_for_printed(place, *names)
+    server.check_all(10, b"\x18\033[A", "ctrl+x", "up")
+    server.check_all(10, "é\r".encode(), "é", "enter")
     server.end_by(signal.SIGTERM)
 
 
@@ -564,11 +567,8 @@ def test_terminals_that_leave(server):
 def test_many(many):
     """Of a hundred pseudo-terminals; keys of all of them, and twice."""
     it = many(100)
-    for keys, names in [(b"\x18\033[A", ["ctrl+x", "up"]), ("é\x7f".encode(), ["é", "backspace"])]:
-        for place in range(100):
-            it.type(place, keys)
-        for place in range(100):
-            it.wait_for_printed(place, *names)
+    it.check_all(100, b"\x18\033[A", "ctrl+x", "up")
+    it.check_all(100, "é\x7f".encode(), "é", "backspace")
     it.end_by(signal.SIGTERM)
     it.check_left(*range(100))
 
@@ -586,10 +586,7 @@ def test_escape_of_all(many):
     """Limits of many that run at a time."""
     it = many(100)
     for _ in range(2):
-        for place in range(100):
-            it.type(place, b"\033")
-        for place in range(100):
-            it.wait_for_printed(place, "escape")
+        it.check_all(100, b"\033", "escape")
 
 
 def test_settings_of_many(many):

@@ -100,6 +100,12 @@ def test_paste_of_100_kilobytes_in_pieces():
 
 
 # Pieces. The bytes that come before, the pieces, whether more may come, and what they give.
+A, UP_ARROW, BRACKET, ONE = (
+    "key U+0061 NONE",
+    "key UpArrow NONE",
+    "key U+005B ALT",
+    "key U+0031 NONE",
+)
 PIECES = {
     "no pieces": (b"", [], 1, "0 wait"),
     "flush by no pieces": (b"\033", [], 0, "0 key Escape NONE, 0 wait"),
@@ -107,25 +113,13 @@ PIECES = {
     "empty pieces": (b"", [b"", b"\033", b"", b"[", b"A"], 1, "4 key UpArrow NONE, 0 wait"),
     "mouse in pieces": (b"", [b"\033[", b"<0;1;2M"], 0, "1 mouse 1 2 LEFT NONE, 0 wait"),
     "ALT in pieces": (b"", [b"\033", b"["], 0, "1 key U+005B ALT, 0 wait"),
-    "numbers": (
-        b"",
-        [b"a", b"\033", b"[Ab"],
-        0,
-        "0 key U+0061 NONE, 2 key UpArrow NONE, 2 key U+0062 NONE, 0 wait",
-    ),
+    "numbers": (b"", [b"a", b"\033", b"[Ab"], 0, f"0 {A}, 2 {UP_ARROW}, 2 key U+0062 NONE, 0 wait"),
     "paste in pieces": (b"", [b"\033[2", b"00~ab\033[", b"201~"], 1, "2 paste 2:6162, 0 wait"),
     "only the last piece is flushed": (
-        b"",
-        [b"\033", b"x\033", b"[1"],
-        0,
-        "1 key U+0078 ALT, 2 key U+005B ALT, 2 key U+0031 NONE, 0 wait",
+        *[b"", [b"\033", b"x\033", b"[1"], 0],
+        f"1 key U+0078 ALT, 2 {BRACKET}, 2 {ONE}, 0 wait",
     ),
-    "empty last piece": (
-        b"",
-        [b"\033[1", b""],
-        0,
-        "1 key U+005B ALT, 1 key U+0031 NONE, 0 wait",
-    ),
+    "empty last piece": (b"", [b"\033[1", b""], 0, f"1 {BRACKET}, 1 {ONE}, 0 wait"),
     "held before": (b"\033[<0;1", [b";2", b"M"], 1, "1 mouse 1 2 LEFT NONE, 0 wait"),
     "an open paste": (b"\033[200~a", [b"b", b"c"], 0, "9 wait"),
 }
@@ -140,15 +134,9 @@ def test_pieces(name):
 
 # The parser.
 def test_loop_over_all_events():
-    lines = "key U+0061 NONE, key UpArrow NONE, paste 1:62, 1 wait"
-    check(
-        "parser",
-        [
-            (command("loop", 1), "0 wait"),
-            (command("loop", 1, b"a\033[A\033[200~b\033[201~\033"), lines),
-            (command("loop", 0), "key Escape NONE, 0 wait"),
-        ],
-    )
+    text, lines = b"a\033[A\033[200~b\033[201~\033", f"{A}, {UP_ARROW}, paste 1:62, 1 wait"
+    asked = [(command("loop", 1), "0 wait"), (command("loop", 1, text), lines)]
+    check("parser", [*asked, (command("loop", 0), "key Escape NONE, 0 wait")])
 
 
 def test_has_item():
@@ -187,18 +175,11 @@ def test_each_row_is_found_whole():
     check("parser", asked)
 
 
-@pytest.mark.parametrize(
-    "text, is_open",
-    [
-        (b"\033[200~", "true"),
-        (b"\033[200~ab\033[201", "true"),
-        (b"\033[200~ab\033[201~", "false"),
-        (b"\033[200~\033[201~q", "false"),
-        (b"\033[200", "false"),
-        (b"q\033[200~", "false"),
-        (b"", "false"),
-    ],
-)
+CLOSED = [b"\033[200~ab\033[201~", b"\033[200~\033[201~q", b"\033[200", b"q\033[200~", b""]
+PASTES = dict.fromkeys([b"\033[200~", b"\033[200~ab\033[201"], "true")
+
+
+@pytest.mark.parametrize("text, is_open", (PASTES | dict.fromkeys(CLOSED, "false")).items())
 def test_pastes_without_an_end(text, is_open):
     asked = [(command("feed", 0, text), ""), ("awaits_paste_end", is_open)]
     check("parser", [*asked, ("reset", str(len(text))), ("awaits_paste_end", "false")])
@@ -288,22 +269,22 @@ class Program:
 
 
 # What comes, each with its time, and the events.
+BIG_A = "key U+0041 NONE"
 TIMES = [
     ([(0, b"\033"), (40, b"\033")], "90 key Escape ALT, 0 wait"),
     (
         [(0, b"\033"), (50, b"[A"), (99, b"\033"), (150, b"[A")],
-        "50 key UpArrow NONE, 149 key Escape NONE, 150 key U+005B NONE, 150 key U+0041 NONE, "
-        "0 wait",
+        f"50 {UP_ARROW}, 149 key Escape NONE, 150 key U+005B NONE, 150 {BIG_A}, 0 wait",
     ),
     (
         [(0, b"\033["), (900, b"1"), (1300, b"A")],
-        "100 key U+005B ALT, 900 key U+0031 NONE, 1300 key U+0041 NONE, 0 wait",
+        f"100 {BRACKET}, 900 {ONE}, 1300 {BIG_A}, 0 wait",
     ),
     ([(0, b"\033"), (40, b"["), (90, b"1;5A")], "90 key UpArrow CTRL, 0 wait"),
     (
         [(0, b"\033[1"), (900, b";5"), (1300, b"A")],
-        "1000 key U+005B ALT, 1000 key U+0031 NONE, 1000 key U+003B NONE, 1000 key U+0035 NONE, "
-        "1300 key U+0041 NONE, 0 wait",
+        f"1000 {BRACKET}, 1000 {ONE}, 1000 key U+003B NONE, 1000 key U+0035 NONE, 1300 {BIG_A}, "
+        "0 wait",
     ),
     ([(0, b"\xe2"), (9000, b"\x82\xac")], "9000 key U+20AC NONE, 0 wait"),
     (
@@ -501,56 +482,32 @@ MAPS = [
     ([], [(b"boo", 1, "None"), (b"boo", 0, "None")]),
     (
         [(b"boa", 1), (b"boo", 2), (b"boom", 3)],
-        [
-            (b"b", 1, "NeedData"),
-            (b"bo", 1, "NeedData"),
-            (b"boa", 1, found("Exact", 3, 1)),
-            (b"boo", 1, found("Ambiguous", 3, 2)),
-            (b"boom", 1, found("Exact", 4, 3)),
-            (b"boom!", 1, found("Exact", 4, 3)),
-            (b"bz", 1, "None"),
-        ],
+        [(b"b", 1, "NeedData"), (b"bo", 1, "NeedData"), (b"boa", 1, "Exact 3 1")]
+        + [(b"boo", 1, "Ambiguous 3 2"), (b"boom", 1, "Exact 4 3"), (b"boom!", 1, "Exact 4 3")]
+        + [(b"bz", 1, "None")],
     ),
     (
         NESTED,
-        [
-            (b"boom!", 0, found("Exact", 4, 3)),
-            (b"boom!", 1, found("Ambiguous", 4, 3)),
-            (b"boom!x", 1, found("Exact", 4, 3)),
-            (b"boo", 0, found("Exact", 3, 2)),
-            (b"bo", 0, "NeedData"),
-            (b"", 1, "NeedData"),
-        ],
+        [(b"boom!", 0, "Exact 4 3"), (b"boom!", 1, "Ambiguous 4 3"), (b"boom!x", 1, "Exact 4 3")]
+        + [(b"boo", 0, "Exact 3 2"), (b"bo", 0, "NeedData"), (b"", 1, "NeedData")],
     ),
     (
         [(b"\x03", 1), (b"\x27", 2), (b"\x03XYZ", 3)],
-        [
-            (b"\x03", 1, found("Ambiguous", 1, 1)),
-            (b"\x03foo", 1, found("Exact", 1, 1)),
-            (b"\x03X", 1, found("Ambiguous", 1, 1)),
-        ],
+        [(b"\x03", 1, "Ambiguous 1 1"), (b"\x03foo", 1, "Exact 1 1")]
+        + [(b"\x03X", 1, "Ambiguous 1 1")],
     ),
     ([], [(b"", 1, "None")]),
-    ([(b"", 1)], [(b"x", 1, found("Exact", 0, 1))]),
+    ([(b"", 1)], [(b"x", 1, "Exact 0 1")]),
     (
         [(b"", 1), (b"ab", 2)],
-        [
-            (b"x", 1, found("Exact", 0, 1)),
-            (b"", 1, found("Ambiguous", 0, 1)),
-            (b"", 0, found("Exact", 0, 1)),
-            (b"a", 1, found("Ambiguous", 0, 1)),
-            (b"ab", 1, found("Exact", 2, 2)),
-        ],
+        [(b"x", 1, "Exact 0 1"), (b"", 1, "Ambiguous 0 1"), (b"", 0, "Exact 0 1")]
+        + [(b"a", 1, "Ambiguous 0 1"), (b"ab", 1, "Exact 2 2")],
     ),
     (
         [(LONG[:300], 1), (LONG[:100], 2)],
-        [
-            (LONG[:99], 1, "NeedData"),
-            (LONG[:100], 1, found("Ambiguous", 100, 2)),
-            (LONG[:299], 1, found("Ambiguous", 100, 2)),
-            (LONG[:300], 1, found("Exact", 300, 1)),
-            (LONG, 1, found("Exact", 300, 1)),
-        ],
+        [(LONG[:99], 1, "NeedData"), (LONG[:100], 1, "Ambiguous 100 2")]
+        + [(LONG[:299], 1, "Ambiguous 100 2"), (LONG[:300], 1, "Exact 300 1")]
+        + [(LONG, 1, "Exact 300 1")],
     ),
 ]
 
@@ -724,14 +681,8 @@ def advance(count):
 
 def test_appends_and_drops():
     asked = [*holds(b"")]
-    for text, count, left in [
-        (b"", 0, b""),
-        (b"abc", 0, b"abc"),
-        (b"de", 0, b"abcde"),
-        (b"", 2, b"cde"),
-        (b"", 0, b"cde"),
-        (b"", 3, b""),
-    ]:
+    steps = [(b"", 0, b""), (b"abc", 0, b"abc"), (b"de", 0, b"abcde"), (b"", 2, b"cde")]
+    for text, count, left in [*steps, (b"", 0, b"cde"), (b"", 3, b"")]:
         asked += [extend(text), advance(count), *holds(left)]
     check("buffer", asked)
 
@@ -781,11 +732,8 @@ def test_1000_reads_take_no_more_memory_than_two():
     commands, length = [], 0
     for _ in range(1000):
         length += 64
-        commands += [
-            command("extend_with", 0, b"a" * 64),
-            f"advance {length - length % 5}",
-            "capacity",
-        ]
+        commands += [command("extend_with", 0, b"a" * 64), f"advance {length - length % 5}"]
+        commands += ["capacity"]
         length %= 5
     assert len(set(answers("buffer", commands)[5::3])) == 1
 

@@ -12,7 +12,6 @@ import signal
 import socket
 import subprocess
 import sys
-import termios
 import threading
 from dataclasses import replace
 from pathlib import Path
@@ -20,7 +19,7 @@ from pathlib import Path
 import pytest
 from conftest import run_without_terminal
 from relay_child import long_text
-from terminal import END, ENDING_SIGNALS, LONG_PAUSE, PAUSE, SECONDS, START, Terminal
+from terminal import BEFORE_SHELL, END, ENDING_SIGNALS, LONG_PAUSE, PAUSE, SECONDS, START, Terminal
 from terminal_data import FOLDER, load
 
 from hedrugal import KeyPress, KeyReport, KittyKeyboardFlags, Parser, encode_paste
@@ -130,6 +129,18 @@ def start(program, tmp_path):
         yield lambda *has, **how: stack.enter_context(Relay(program, tmp_path, *has, **how))
 
 
+@pytest.fixture(params=[False])
+def relay(start, request):
+    """A relay on a terminal without Kitty's protocol, or with it. It ends after the case."""
+    it = start(request.param)
+    yield it
+    it.end()
+
+
+on_kitty = pytest.mark.parametrize("relay", [True], indirect=True)
+on_both = pytest.mark.parametrize("relay", [True, False], indirect=True)
+
+
 # Modes that the child sets, what the terminal sends by Kitty's protocol, and what the child gets.
 KITTY_TO_LEGACY = {
     "a character": (b"", b"\033[97;;97u", b"a"),
@@ -176,20 +187,17 @@ LEGACY_TO_ANY = {
 }
 
 
-@pytest.mark.parametrize("modes, sent, got", KITTY_TO_LEGACY.values(), ids=KITTY_TO_LEGACY)
-def test_kitty_outside(start, modes, sent, got):
-    relay = start(True)
-    relay.passes(modes)
-    relay.check_keys(sent, got)
-    relay.end()
+KEYS = [
+    pytest.param(has_kitty, *it, id=name)
+    for has_kitty, table in ((True, KITTY_TO_LEGACY), (False, LEGACY_TO_ANY))
+    for name, it in table.items()
+]
 
 
-@pytest.mark.parametrize("modes, sent, got", LEGACY_TO_ANY.values(), ids=LEGACY_TO_ANY)
-def test_legacy_outside(start, modes, sent, got):
-    relay = start()
+@pytest.mark.parametrize("relay, modes, sent, got", KEYS, indirect=["relay"])
+def test_keys(relay, modes, sent, got):
     relay.passes(modes)
     relay.check_keys(sent, got)
-    relay.end()
 
 
 # What the child gets for these, where 127 erases and where 8 does. Ctrl-H sends 8 in both.
@@ -220,14 +228,13 @@ def test_backspace(start, erase, modes, got):
     relay.end()
 
 
-def test_newline_mode(start):
+@on_kitty
+def test_newline_mode(relay):
     """A terminal by Kitty's protocol tells the key alone. Another one adds the line feed itself."""
-    relay = start(True)
     relay.passes(b"\033[20h", b"\033[20h")
     relay.check_keys(b"\033[13u\033[13;3u", b"\r\n\033\r\n")
     relay.passes(b"\033[20l", b"\033[20l")
     relay.check_keys(b"\033[13u", b"\r")
-    relay.end()
 
 
 def recorded(name, mode, kind="press"):
@@ -327,8 +334,7 @@ def switches(modes):
 
 
 @pytest.mark.parametrize("modes, told, sent, got", REPORTS.values(), ids=REPORTS)
-def test_mouse(start, modes, told, sent, got):
-    relay = start()
+def test_mouse(relay, modes, told, sent, got):
     relay.check_keys(ALL, b"")
     relay.passes(f"\033[?{modes}h".encode(), switches(told))
     relay.check_keys(sent, got)
@@ -336,28 +342,23 @@ def test_mouse(start, modes, told, sent, got):
     relay.expect_exact("|")
     assert not relay.modes() - {2004}
     relay.check_keys(ALL, b"")
-    relay.end()
 
 
-def test_two_buttons(start):
+def test_two_buttons(relay):
     """A release says of which of the two it is, unless it comes in an older form."""
-    relay = start()
     down, up = b"\033[<0;1;1M\033[<2;1;1M", b"\033[<0;1;1m\033[<2;1;1m"
     relay.passes(b"\033[?1002;1006h", switches("1002 1006"))
     relay.check_keys(down + up, down + up)
     relay.passes(b"\033[?1006l")
     relay.check_keys(down + up, b'\033[M !!\033[M"!!' + 2 * b"\033[M#!!")
-    relay.end()
 
 
-def test_focus(start):
-    relay = start()
+def test_focus(relay):
     relay.check_keys(b"\033[I\033[O", b"")
     relay.passes(b"\033[?1004h", b"\033[?1004h")
     relay.check_keys(b"\033[I\033[O", b"\033[I\033[O")
     relay.passes(b"\033[?1004l", b"\033[?1004l")
     relay.check_keys(b"\033[I", b"")
-    relay.end()
 
 
 # What the terminal sends; what the child gets with mode 2004, and without.
@@ -383,24 +384,20 @@ PASTES = {
 
 
 @pytest.mark.parametrize("sent, bracketed, typed", PASTES.values(), ids=PASTES)
-def test_pastes(start, sent, bracketed, typed):
-    relay = start()
+def test_pastes(relay, sent, bracketed, typed):
     relay.check_keys(sent, typed)
     relay.passes(b"\033[?2004h")
     relay.check_keys(sent, bracketed)
     relay.passes(b"\033[?2004l")
     relay.check_keys(sent, typed)
-    relay.end()
 
 
 @pytest.mark.parametrize("bracketed", [True, False])
-def test_long_paste(start, bracketed):
+def test_long_paste(relay, bracketed):
     """It comes in parts, wherever these are cut, and is one paste."""
     text = "é\r\n\033[201\n".encode() * 50000
-    relay = start()
     relay.passes(b"\033[?2004h" if bracketed else b"")
     relay.check_keys(START + text + END, encode_paste(text, bracketed))
-    relay.end()
 
 
 @pytest.mark.timed
@@ -414,20 +411,19 @@ def test_start_that_comes_too_slowly(start):
     relay.end()
 
 
-def test_question_within_a_paste(start):
+def test_question_within_a_paste(relay):
     """The reply is no part of the pasted text."""
-    relay, text = start(), b"a" * 200000
+    text = b"a" * 200000
     relay.passes(b"\033[?2004h\033[>5u")
     relay.send(START + text)
     relay.child.gets(START + text[: len(text) // 2])
     relay.passes(b"\033[?u")
     relay.check_keys(END, text[len(text) // 2 :] + END + b"\033[?5u")
-    relay.end()
 
 
-def test_modes_at_once(start):
+@on_kitty
+def test_modes_at_once(relay):
     """Several in one sequence, which is written byte by byte."""
-    relay = start(True)
     for byte in b"\033[?25;1;1002;1006;2004;1004h":
         relay.child.do(b"w", bytes([byte]))
     relay.passes(b"", switches("25 1002 1006 1004"))
@@ -438,12 +434,11 @@ def test_modes_at_once(start):
         b"\033[?25;1;1002;1006;2004;1004l", switches("25 1004 1006 1002").replace(b"h", b"l")
     )
     relay.check_keys(keys, b"\033[Aa\r")
-    relay.end()
 
 
-def test_flags_are_stacked(start):
+@on_kitty
+def test_flags_are_stacked(relay):
     """By pushes and pops, apart for each screen, and so are those of the terminal."""
-    relay = start(True)
     up = b"\033[1;1:2A"
     relay.passes(b"\033[>1u\033[>3u\033[?u")
     relay.check_keys(up, b"\033[?3u" + up)
@@ -457,7 +452,6 @@ def test_flags_are_stacked(start):
     relay.check_keys(up + b"\033[27u", b"\033[A\033[27u")
     relay.passes(b"\033[<u\033[?u")
     relay.check_keys(b"\033[27u", b"\033[?0u\033")
-    relay.end()
 
 
 @pytest.mark.parametrize("has_kitty", [True, False])
@@ -474,14 +468,13 @@ def test_relay_in_a_relay(start, program, has_kitty):
     relay.end()
 
 
+@on_kitty
 @pytest.mark.parametrize("reset", [b"\033c", b"\033[!p"])
-def test_reset(start, reset):
+def test_reset(relay, reset):
     """The terminal goes on to tell what it told before."""
-    relay = start(True)
     relay.passes(b"\033[?1h\033[>31u\033[>4;2m")
     relay.passes(reset, reset + b"\033=\033[?2004h\033[>4;2m\033[=31;1u")
     relay.check_keys(b"\033[A\033[97;;97u", b"\033[Aa")
-    relay.end()
 
 
 # What the terminal sends is passed on, whether the child asked for it or not.
@@ -496,22 +489,18 @@ REPLIES = {
 
 
 @pytest.mark.parametrize("reply", REPLIES.values(), ids=REPLIES)
-def test_replies(start, reply):
-    relay = start()
+def test_replies(relay, reply):
     relay.check_keys(reply, reply)
-    relay.end()
 
 
-@pytest.mark.parametrize("has_kitty", [True, False])
-def test_position(start, has_kitty):
+@on_both
+def test_position(relay):
     """The reply has the form that was asked for, and without a question it is a key."""
-    relay = start(has_kitty)
     relay.passes(b"\033[>31u\033[6n", b"\033[6n")
     relay.check_keys(b"\033[1;5R", b"\033[1;5R")
     relay.passes(b"\033[?6n", b"\033[?6n")
     relay.check_keys(b"\033[?1;5R", b"\033[?1;5R")
     relay.check_keys(b"\033[1;5R", b"\033[13;5~")
-    relay.end()
 
 
 @pytest.mark.timed
@@ -528,25 +517,12 @@ def test_attributes(start):
     relay.end()
 
 
-# Runs a program, and then prints what is left for the shell.
-PRINT_LEFT = """import os, termios, time, tty
-time.sleep(0.3)
-tty.setraw(0, termios.TCSANOW)
-os.set_blocking(0, False)
-try:
-    left = os.read(0, 1000)
-except BlockingIOError:
-    left = b""
-print("left", left, end="|")"""
-BEFORE_SHELL = ["sh", "-c", f'"$0" "$@"; exec {sys.executable} -c \'{PRINT_LEFT}\'']
-
-
 @pytest.mark.timed
 def test_end_before_a_reply(start):
     """It is waited for, and what was typed behind it is the shell's."""
     relay = start(before=BEFORE_SHELL, replies=False)
     relay.child.do(b"x")
-    relay.play([OFF, 0.1, HAS_KITTY + ATTRIBUTES + b"ls\r", "left b'ls\\r'|"])
+    relay.play([OFF, 0.1, HAS_KITTY + ATTRIBUTES + b"ls\r", "left b'ls\\r'\r\n"])
 
 
 @pytest.mark.timed
@@ -554,7 +530,7 @@ def test_end_where_nothing_replies(start):
     """relay soon ends, and what came is discarded."""
     relay = start(before=BEFORE_SHELL, replies=False)
     relay.child.do(b"x")
-    relay.play([OFF, b"\033[?31", "left b''|"])
+    relay.play([OFF, b"\033[?31", "left b''\r\n"])
 
 
 def test_end_with_keys_that_nobody_read(start):
@@ -564,7 +540,7 @@ def test_end_with_keys_that_nobody_read(start):
     relay.child.do(b"x")
     relay.play([PAUSE, b"ls\r"])
     screen(relay, 60000)
-    relay.play(["left b'ls\\r'|"])
+    relay.play(["left b'ls\\r'\r\n"])
 
 
 def test_end_with_a_mouse(start):
@@ -572,15 +548,13 @@ def test_end_with_a_mouse(start):
     relay = start(before=BEFORE_SHELL)
     relay.passes(b"\033[?1003h", switches("1003 1006"))
     relay.child.do(b"x")
-    relay.play([OFF + ASKS_ATTRIBUTES, MOVE + ATTRIBUTES + b"ls\r", "left b'ls\\r'|"])
+    relay.play([OFF + ASKS_ATTRIBUTES, MOVE + ATTRIBUTES + b"ls\r", "left b'ls\\r'\r\n"])
 
 
-def test_long_reply(start):
+def test_long_reply(relay):
     """What is longer than the parser's limit isn't passed on, nor any part of it."""
-    relay = start()
     relay.check_keys(b"\033]52;c;" + b"QUJD" * 50000 + b"\033\\", b"")
     relay.check_keys(REPLIES["a colour"], REPLIES["a colour"])
-    relay.end()
 
 
 @pytest.mark.timed
@@ -622,12 +596,10 @@ def test_sequence_that_comes_while_it_is_stopped(start, tmp_path):
     relay.end()
 
 
-def test_new_size(start):
-    relay = start()
+def test_new_size(relay):
     relay.child.is_told(127, 80, 24)
     relay.resize(100, 40)
     relay.child.is_told(signal.SIGWINCH, 100, 40)
-    relay.end()
 
 
 @pytest.mark.parametrize("number", ENDING_SIGNALS, ids=lambda it: it.name)
@@ -660,22 +632,16 @@ def test_child_that_a_signal_ends(start, number):
 def stop_and_continue(relay, number=signal.SIGTSTP, on=""):
     """Another program has the terminal meanwhile, as it was. Then it is told all again. It is asked
     nothing if a paste or a reply is open: its own would be a part of that."""
-    if number == signal.SIGTSTP:
-        relay.stop()
-    else:
-        relay.kill(number)
-        relay.wait_for_stop()
-        termios.tcsetattr(relay.child_fd, termios.TCSANOW, relay.settings_before)
-    relay.continue_in_foreground()
+    relay.stop_and_continue(number)
     relay.expect_exact(ON + on)
     relay.child.is_told(signal.SIGWINCH, 80, 24)
     assert relay.is_raw()
 
 
+@on_kitty
 @pytest.mark.parametrize("number", [signal.SIGTSTP, signal.SIGSTOP], ids=lambda it: it.name)
-def test_stop(start, number):
+def test_stop(relay, number):
     """A paste of which the child has a part stays one."""
-    relay = start(True)
     on = b"\033[?1049h\033[>31u" + switches("1003 1006")
     relay.passes(b"\033[?1049;1003;2004h", on)
     relay.send(START + b"a" * 100000)
@@ -686,7 +652,6 @@ def test_stop(start, number):
         relay.child.changed.wait_for(lambda: relay.child.read[-1:] == b"$", SECONDS)
     assert re.fullmatch(rb"a*b\033\[201~\033\[M..\$", relay.child.read)
     relay.child.read.clear()
-    relay.end()
 
 
 @pytest.mark.timed
@@ -737,10 +702,6 @@ def test_stop_within_a_question(start):
     relay.end()
 
 
-def is_stopped(relay):
-    return Path(f"/proc/{relay.job}/stat").read_text().rpartition(")")[2].split()[0] == "T"
-
-
 @pytest.mark.parametrize("number", [signal.SIGCONT, signal.SIGSTOP], ids=lambda it: it.name)
 def test_stop_where_nobody_has_the_terminal(start, number):
     """Nothing comes of it, within a paste or a sequence."""
@@ -749,11 +710,7 @@ def test_stop_where_nobody_has_the_terminal(start, number):
     for _ in range(2):
         for sent in [START, b"a\n", END, b"\033[1;", b"5A"]:
             relay.send(sent)
-            relay.kill(number)
-            if number == signal.SIGSTOP:
-                relay.wait_for_stop()
-                relay.continue_in_foreground()
-                relay.wait_for(lambda: not is_stopped(relay), "SIGCONT")
+            relay.continue_with(number)
         relay.check_keys(b"", START + b"a\r" + END + b"\033[1;5A")
     relay.end()
     assert relay.output.count(ON.encode()) == 1
@@ -773,16 +730,6 @@ def test_terminal_that_is_gone(start):
     relay.hang_up()
     relay.wait_for_end()
     relay.child.is_told(signal.SIGHUP)
-
-
-@pytest.mark.parametrize("number", [signal.SIGHUP, signal.SIGTERM], ids=lambda it: it.name)
-def test_signal_while_nobody_reads(program, number):
-    """It ends soon, although its output blocks."""
-    with Terminal([*program, "sleep", "1000"], is_stopped=True) as terminal:
-        terminal.wait_for(terminal.is_raw, "raw mode")
-        terminal.kill(number)
-        assert terminal.told.poll(10)
-        terminal.check_end(-number)
 
 
 def most_memory(relay):
@@ -807,9 +754,9 @@ def test_long_output(start):
     relay.check_end(5)
 
 
-def test_both_ways(start):
+def test_both_ways(relay):
     """The child writes megabytes and reads nothing, while as many are pasted. Neither is kept."""
-    relay, text = start(), b"0123456789abcde\r" * (MEGABYTES // 16)
+    text = b"0123456789abcde\r" * (MEGABYTES // 16)
     relay.passes(b"\033[?2004h")
     memory = most_memory(relay)
     relay.child.do(b"p")
@@ -821,12 +768,10 @@ def test_both_ways(start):
     relay.child.gets(START + text + END)
     paste.join()
     assert most_memory(relay) - memory < MEGABYTES // 2
-    relay.end()
 
 
-def test_questions_without_end(start):
+def test_questions_without_end(relay):
     """A child that asks and reads nothing gets some of the replies, and relay keeps few."""
-    relay = start()
     relay.child.do(b"p")
     for _ in range(20):
         relay.passes(b"\033[?u" * 10000)
@@ -834,8 +779,6 @@ def test_questions_without_end(start):
     with relay.child.changed:
         assert relay.child.changed.wait_for(lambda: len(relay.child.read) > 10000, SECONDS)
     assert most_memory(relay) < 64 << 20
-    relay.child.do(b"x")
-    relay.check_end(0)
 
 
 OTHER_CHILDREN = {

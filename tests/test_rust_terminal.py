@@ -6,36 +6,18 @@ import fcntl
 import os
 import re
 import signal
-import termios
 import time
+from functools import partial
 
 import pytest
 from conftest import TOP
-from terminal import (
-    END,
-    ENDING_SIGNALS,
-    LONG_PAUSE,
-    PAUSE,
-    SLOW_LINE,
-    START,
-    TIOCGPTPEER,
-    Terminal,
-)
+from terminal import BEFORE_SHELL, CONTINUE, END, ENDING_SIGNALS, LONG_PAUSE, PAUSE, SLOW_LINE
+from terminal import START, STOP_AND_CONTINUE, TIOCGPTPEER, Terminal, start_output
 from test_live import SIZE, Live
 
 MODES = {1003, 1004, 1006, 1049, 2004}
 # Sets the terminal of the program so that a read of nothing fails at once.
 NO_WAIT = "python3 -c 'import os; os.set_blocking(0, False)'"
-# Runs a program, and then prints what is left for the shell.
-PRINT_LEFT = """import os, time
-time.sleep(0.3)
-os.set_blocking(0, False)
-try:
-    left = os.read(0, 1000)
-except BlockingIOError:
-    left = b""
-print("left", left)"""
-BEFORE_SHELL = ["sh", "-c", f'trap : TERM; "$0" "$@"; python3 -c \'{PRINT_LEFT}\'']
 ATTRIBUTES = b"\033[?62c"
 BACKGROUND = "\033]11;?\033\\\033[c"
 # How long what was open at a stop waits for its end.
@@ -45,15 +27,6 @@ GAP = 1.0
 class Cases(Terminal):
     FIRST = "q ends"
     turned_on = MODES
-
-    def stop_by(self, number):
-        """A shell has the terminal as it was."""
-        self.kill(number)
-        self.wait_for_stop()
-        if number == signal.SIGTSTP:
-            self.check_restored()
-        else:
-            termios.tcsetattr(self.child_fd, termios.TCSANOW, self.settings_before)
 
     def read_as_shell(self):
         """What nobody has read."""
@@ -74,7 +47,7 @@ class Cases(Terminal):
         self.check_end(0)
 
     def check_raw(self):
-        self.wait_for(self.is_raw, "raw mode")
+        self.wait_for_raw()
         self.wait_for(lambda: self.modes() == self.turned_on, "modes")
 
     def check_restored(self):
@@ -103,10 +76,39 @@ def start(program, on_terminal):
     return run
 
 
-def test_guard(start):
-    guard = start("guard")
-    guard.play([b"a\x03\r", "byte 97\r\n", "byte 3\r\n", "byte 13\r\n"])
-    guard.quit()
+@pytest.fixture
+def play(start):
+    """Starts a program, plays steps, and ends it by q."""
+
+    def run(steps, *words, **how):
+        cases = start(*(words or [""]), **how)
+        cases.play(steps)
+        cases.quit()
+        return cases
+
+    return run
+
+
+# Steps that ask for the cursor without an end in time, and for 10 ms; and what ends a question.
+ASK, ASK_SOON = [b"T", "\033[6n\033[c"], [b"t", "\033[6n\033[c", "is_whole: false"]
+F3 = [b"\033[1;5R", "key ctrl+f3\r\n"]
+CURSOR_TOLD = "CursorPosition { row: 2, column: 3 }"
+stopped = pytest.mark.parametrize(
+    "number", [signal.SIGTSTP, signal.SIGSTOP], ids=lambda it: it.name
+)
+guard_and_loop = pytest.mark.parametrize("words", [["guard"], [""]], ids=["guard", "loop"])
+
+
+def check_absent(text, it):
+    assert text not in it.output
+
+
+def stop_and_continue(number):
+    return lambda it: it.stop_and_continue(number)
+
+
+def test_guard(play):
+    play([b"a\x03\r", "byte 97\r\n", "byte 3\r\n", "byte 13\r\n"], "guard")
 
 
 @pytest.mark.parametrize("words", [["guard"], ["", "true"]], ids=["guard", "loop"])
@@ -119,53 +121,35 @@ def test_signal(start, words, number):
     assert (b"ended by Some" in cases.output) == (len(words) > 1)
 
 
-@pytest.mark.parametrize("words", [["guard"], [""]], ids=["guard", "loop"])
-@pytest.mark.parametrize("number", [signal.SIGTSTP, signal.SIGSTOP], ids=lambda it: it.name)
-def test_stop_and_continue(start, words, number):
-    cases = start(*words)
-    for _ in range(2):
-        cases.stop_by(number)
-        cases.continue_in_foreground()
-        cases.check_raw()
-    cases.quit()
+@guard_and_loop
+@stopped
+def test_stop_and_continue(play, words, number):
+    play([stop_and_continue(number), Cases.check_raw] * 2, *words)
 
 
-@pytest.mark.parametrize("number", [signal.SIGTSTP, signal.SIGSTOP], ids=lambda it: it.name)
-def test_modes_of_the_program(start, number):
+@stopped
+def test_modes_of_the_program(play, number):
     """What was told to the guard last is turned off before its own modes, and on after them."""
     on, off = b"\033[?1004h\033[?2031h", b"\033[?2031l\033[?1004l"
-    cases = start("")
-    cases.play([b"o", "own\r\n"])
-    assert b"2031" not in cases.output
-    cases.stop_by(number)
-    cases.continue_in_foreground()
-    cases.expect_exact(on)
-    cases.quit()
+    check_none = partial(check_absent, b"2031")
+    cases = play([b"o", "own\r\n", check_none, stop_and_continue(number), on.decode()])
     assert (cases.output.count(on), cases.output.count(off)) == (1, 2)
     assert b"told" not in cases.output and b"either" not in cases.output
 
 
 @pytest.mark.timed
-def test_guard_stopped_while_keys_come(start):
+def test_guard_stopped_while_keys_come(play):
     """A thread reads, and no read fails, although a handler writes what must not wait."""
-    guard = start("thread")
-    for _ in range(100):
-        guard.send(b"abc")
-        guard.kill(signal.SIGTSTP)
-        guard.wait_for_stop()
-        guard.continue_in_foreground()
-        guard.wait_for(guard.is_raw, "raw mode")
-        guard.play([0.01])
-    guard.check_raw()
-    guard.quit()
+    once = [b"abc", signal.SIGTSTP, Terminal.wait_for_stop, CONTINUE, Terminal.wait_for_raw, 0.01]
+    play([*once * 100, Cases.check_raw], "thread")
 
 
-def test_guard_where_no_shell_could_continue_it(start):
-    guard = start("guard", is_orphaned=True)
-    guard.kill(signal.SIGTSTP)
-    guard.wait_for(lambda: guard.output.count(b"\033[?2004h") == 2, "modes")
-    guard.check_raw()
-    guard.quit()
+def test_guard_where_no_shell_could_continue_it(play):
+    def is_back(it):
+        return it.output.count(b"\033[?2004h") == 2
+
+    wait = [signal.SIGTSTP, lambda it: it.wait_for(lambda: is_back(it), "modes"), Cases.check_raw]
+    play(wait, "guard", is_orphaned=True)
 
 
 def test_guard_ended_while_it_is_stopped(start):
@@ -175,12 +159,10 @@ def test_guard_ended_while_it_is_stopped(start):
     guard.end_by(signal.SIGTERM, signal.SIGCONT)
 
 
-def test_signal_that_was_ignored(start):
+def test_signal_that_was_ignored(play):
     """It stays ignored, as nohup wants it."""
-    cases = start("", before=["sh", "-c", 'trap "" HUP; exec "$0" "$@"'])
-    cases.kill(signal.SIGHUP)
-    cases.play([b"x", "key x\r\n"])
-    cases.quit()
+    before = ["sh", "-c", 'trap "" HUP; exec "$0" "$@"']
+    play([signal.SIGHUP, b"x", "key x\r\n"], before=before)
 
 
 @pytest.mark.parametrize("word", ["", "hook"])
@@ -193,29 +175,23 @@ def test_panic(start, word):
     assert is_last == (word == "hook")
 
 
-def test_second_guard(start):
+def test_second_guard(play):
     """It is refused, and the first goes on."""
-    cases = start("")
-    cases.play([b"g", "Err(AlreadyExists)\r\n", b"x", "key x\r\n"])
-    cases.check_raw()
-    cases.quit()
+    play([b"g", "Err(AlreadyExists)\r\n", b"x", "key x\r\n", Cases.check_raw])
 
 
 def test_busy_program(start):
     """It heeds no signal: a second later the terminal is restored, its modes too."""
     cases = start("")
-    cases.play([b"s", "asleep\r\n"])
-    cases.kill(signal.SIGTERM)
+    cases.play([b"s", "asleep\r\n", signal.SIGTERM])
     cases.check_end(-signal.SIGTERM)
 
 
-@pytest.mark.parametrize("words", [["guard"], [""]], ids=["guard", "loop"])
+@guard_and_loop
 def test_blocked_output(start, words):
     """What the guard can't write is left out. The settings are restored, and the program ends."""
     cases = start(*words)
-    cases.stop_output()
-    cases.send(b"x" * 100)
-    cases.kill(signal.SIGTERM)
+    cases.play([Terminal.stop_output, b"x" * 100, signal.SIGTERM])
     assert cases.wait_for_end() == -signal.SIGTERM
     assert cases.settings() == cases.settings_before
 
@@ -227,98 +203,69 @@ def test_child_that_changes_the_settings(start):
     cases.check_end(0)
 
 
-def test_lent(start):
+def test_lent(play):
     """A child has the terminal as it was, and changes it. Then it is raw again."""
-    cases = start("", "stty -a; read line; stty erase y; echo got $line", erase=b"\x08")
-    cases.play([b"l", "erase = ^H"])
-    cases.check_restored()
-    cases.play([b"text\n", "got text\r\n", "lent true\r\n"])
-    cases.check_raw()
-    cases.play([b"x", "key x\r\n"])
-    cases.quit()
+    steps = [b"l", "erase = ^H", Cases.check_restored, b"text\n", "got text\r\n", "lent true\r\n"]
+    steps += [Cases.check_raw, b"x", "key x\r\n"]
+    play(steps, "", "stty -a; read line; stty erase y; echo got $line", erase=b"\x08")
 
 
-def test_stopped_while_it_is_lent(start):
-    cases = start("", "echo begun; read line")
-    cases.play([b"l", "begun\r\n"])
-    cases.kill(signal.SIGTSTP)
-    cases.wait_for_stop()
-    cases.continue_in_foreground()
-    cases.play([b"\n", "lent true\r\n"])
-    cases.check_raw()
-    cases.quit()
+def test_stopped_while_it_is_lent(play):
+    steps = [b"l", "begun\r\n", signal.SIGTSTP, Terminal.wait_for_stop, CONTINUE]
+    play([*steps, b"\n", "lent true\r\n", Cases.check_raw], "", "echo begun; read line")
 
 
 def test_interrupted_while_it_is_lent(start):
     """SIGINT is for the child, and SIGTERM ends the program at once."""
     cases = start("", "echo begun; sleep 60")
-    cases.play([b"l", "begun\r\n"])
-    cases.kill(signal.SIGINT)
-    cases.kill(signal.SIGTERM)
+    cases.play([b"l", "begun\r\n", signal.SIGINT, signal.SIGTERM])
     cases.check_end(-signal.SIGTERM)
 
 
-def test_read_that_would_block(start):
+def test_read_that_would_block(play):
     """The terminal is set so that a read of nothing fails. No key is lost."""
-    cases = start("", NO_WAIT)
-    cases.play([b"c", "command true\r\n", b"x", "key x\r\n", b"\033", "key escape\r\n"])
-    cases.quit()
+    steps = [b"c", "command true\r\n", b"x", "key x\r\n", b"\033", "key escape\r\n"]
+    play(steps, "", NO_WAIT)
 
 
-def test_signals_within_a_paste(start):
+def test_signals_within_a_paste(play):
     """What came before a new size is kept."""
-    cases = start("")
-    cases.send(START + b"ab")
-    cases.resize(100, 40)
-    cases.expect_exact("size 100 x 40\r\n")
-    cases.play([b"c\033[201~", 'Paste("abc")'])
-    cases.quit()
+    play([START + b"ab", (100, 40), "size 100 x 40\r\n", b"c" + END, 'Paste("abc")'])
 
 
-def test_question_and_a_new_size(start):
+def test_question_and_a_new_size(play):
     """What comes beside the replies stays for the loop."""
-    cases = start("")
-    cases.play([b"a", "\033[6n\033[c", b"x\033[2;3R"])
-    cases.resize(100, 40)
-    cases.play([PAUSE, b"\033[?62c", "CursorPosition { row: 2, column: 3 }", "is_whole: true"])
-    cases.play(["key x\r\n", "size 100 x 40"])
-    cases.quit()
+    play(
+        [b"a", "\033[6n\033[c", b"x\033[2;3R", (100, 40), PAUSE, ATTRIBUTES, CURSOR_TOLD]
+        + ["is_whole: true", "key x\r\n", "size 100 x 40"]
+    )
 
 
-@pytest.mark.parametrize("number", [signal.SIGTSTP, signal.SIGSTOP], ids=lambda it: it.name)
-def test_question_and_a_stop(start, number):
+@stopped
+def test_question_and_a_stop(play, number):
     """It ends there. What was read before stays, and a reply that comes later is an event."""
-    cases = start("")
-    cases.play([b"a", "\033[6n\033[c", b"x\033[2;3R", PAUSE])
-    cases.stop_by(number)
-    cases.continue_in_foreground()
-    cases.play(["CursorPosition { row: 2, column: 3 }", "is_whole: false"])
-    cases.check_raw()
-    cases.play(["key x\r\n", f"resumed\r\n{SIZE}\r\n"])
-    cases.play([b"\033[1;5R", "key ctrl+f3\r\n", ATTRIBUTES, "Csi("])
-    cases.quit()
+    play(
+        [b"a", "\033[6n\033[c", b"x\033[2;3R", PAUSE, stop_and_continue(number), CURSOR_TOLD]
+        + ["is_whole: false", Cases.check_raw, "key x\r\n", f"resumed\r\n{SIZE}\r\n"]
+        + [*F3, ATTRIBUTES, "Csi("]
+    )
 
 
-def test_question_that_would_block(start):
+def test_question_that_would_block(play):
     """The terminal is set so that a write which has to wait fails. The question waits."""
-    cases = start("", NO_WAIT)
-    cases.play([b"c", "command true\r\n"])
-    cases.stop_output()
-    cases.play([b"a", PAUSE])
-    cases.stop_output(termios.TCOON)
-    cases.play(["\033[6n\033[c", b"\033[?62c", "is_whole: true"])
-    cases.quit()
+    steps = [b"c", "command true\r\n", Terminal.stop_output, b"a", PAUSE, start_output]
+    play([*steps, "\033[6n\033[c", ATTRIBUTES, "is_whole: true"], "", NO_WAIT)
 
 
 @pytest.mark.parametrize("number", range(2, 12))
-def test_question_and_refused_memory(start, number):
+def test_question_and_refused_memory(play, number):
     """The replies and the other events then come in their order."""
-    cases, keys = start("", str(number)), b"x" * 50
-    cases.play([b"m", "\033[6n\033[c", keys + b"\033[2;3R\033[?1;2$yy\033[?62c", "OutOfMemory\r\n"])
-    mode, attributes = list(b"?1;2$y"), list(b"?62c")
-    cases.play(["key x\r\n" * len(keys), "CursorPosition { row: 2, column: 3 }", f"Csi({mode})"])
-    cases.play(["key y\r\n", f"Csi({attributes})"])
-    cases.quit()
+    keys, mode, attributes = b"x" * 50, list(b"?1;2$y"), list(b"?62c")
+    play(
+        [b"m", "\033[6n\033[c", keys + b"\033[2;3R\033[?1;2$yy\033[?62c", "OutOfMemory\r\n"]
+        + ["key x\r\n" * len(keys), CURSOR_TOLD, f"Csi({mode})", "key y\r\n", f"Csi({attributes})"],
+        *["", str(number)],
+    )
 
 
 def test_terminal_that_is_gone(start):
@@ -358,26 +305,10 @@ def start_layer(layer, on_terminal):
     return run
 
 
-def stop_and_continue(live, number):
+def stop_layer(live, number):
     """By SIGTSTP it leaves the terminal. After SIGSTOP the shell had it."""
-    if number == signal.SIGTSTP:
-        live.stop()
-    else:
-        live.kill(number)
-        live.wait_for_stop()
-        termios.tcsetattr(live.child_fd, termios.TCSANOW, live.settings_before)
-    live.continue_in_foreground()
+    live.stop_and_continue(number)
     live.wait_for_raw_again()
-
-
-def is_stopped(terminal):
-    with open(f"/proc/{terminal.job}/stat") as stat:
-        return stat.read().rpartition(")")[2].split()[0] == "T"
-
-
-stopped = pytest.mark.parametrize(
-    "number", [signal.SIGTSTP, signal.SIGSTOP], ids=lambda it: it.name
-)
 
 
 @pytest.mark.parametrize("number", [signal.SIGCONT, signal.SIGSTOP], ids=lambda it: it.name)
@@ -387,11 +318,7 @@ def test_continued_where_nobody_had_the_terminal(start_layer, number):
     live.send(START)
     for byte in text[:20]:
         live.send(bytes([byte]))
-        live.kill(number)
-        if number == signal.SIGSTOP:
-            live.wait_for_stop()
-            live.continue_in_foreground()
-            live.wait_for(lambda: not is_stopped(live), "SIGCONT")
+        live.continue_with(number)
     live.resize(100, 40)
     live.wait_for_line("size 100 x 40")
     live.play([text[20:] + END + START + b"b", PAUSE, END, "paste of 1 bytes\r\n"])
@@ -404,7 +331,7 @@ def test_stopped_within_a_paste(start_layer, number):
     """What comes up to its end belongs to it, also after pauses. A later paste has no limit."""
     live = start_layer()
     live.play([START + b"a\r", PAUSE])
-    stop_and_continue(live, number)
+    stop_layer(live, number)
     live.play([b"b\r", 0.7, b"c\r", 0.7, b"d" + END + START + b"e\r", LONG_PAUSE, b"f" + END])
     live.quit(SIZE, "paste of 7 bytes", "paste of 3 bytes")
 
@@ -414,7 +341,7 @@ def test_settings_after_a_stop(start_layer, number):
     """Backspace and LF are the keys that they were before."""
     live, keys = start_layer(erase=b"\x08"), ["Backspace", "Char U+007F", "Char U+000A"]
     live.play([b"\x08\x7f\n", *(f"{key}\r\n" for key in keys)])
-    stop_and_continue(live, number)
+    stop_layer(live, number)
     live.send(b"\x08\x7f\n")
     live.quit(*keys, SIZE, *keys)
 
@@ -425,7 +352,7 @@ def test_stopped_within_a_paste_that_has_no_end(start_layer, number):
     """It is told a second later. Then all is as ever."""
     live = start_layer()
     live.play([START + b"ab", LONG_PAUSE])
-    stop_and_continue(live, number)
+    stop_layer(live, number)
     begin = time.monotonic()
     live.wait_for_line("paste of 2 bytes")
     assert GAP - 0.1 < time.monotonic() - begin < GAP + 0.5
@@ -439,7 +366,7 @@ def test_stopped_within_a_paste_that_has_no_end(start_layer, number):
 def test_stopped_within_a_string(start_layer, number, rest):
     live, begun = start_layer(), b"\033]11;rgb:1e/"
     live.play([begun, PAUSE])
-    stop_and_continue(live, number)
+    stop_layer(live, number)
     begin = time.monotonic()
     live.send(rest)
     kind = "Osc" if rest else "StringCut"
@@ -455,9 +382,8 @@ def test_stopped_within_a_string(start_layer, number, rest):
 def test_stopped_within_a_beginning(start_layer, number, begun):
     """It is forgotten, unless its limit passed before."""
     live = start_layer()
-    live.send(b"x" + begun)
-    live.wait_for_line("Char U+0078")
-    stop_and_continue(live, number)
+    live.play([b"x" + begun, "Char U+0078\r\n"])
+    stop_layer(live, number)
     live.play([b"A", "Char U+0041\r\n"])
     lines = [it for it in live.lines()[2:] if it not in (SIZE, "Escape", "Char U+005B alt")]
     assert lines == ["Char U+0041"]
@@ -465,13 +391,9 @@ def test_stopped_within_a_beginning(start_layer, number, begun):
     super(Live, live).check_end(0)
 
 
-def test_guard_continued_where_nobody_had_the_terminal(start):
-    guard = start("guard")
-    for _ in range(20):
-        guard.kill(signal.SIGCONT)
-    guard.play([b"a", "byte 97\r\n"])
+def test_guard_continued_where_nobody_had_the_terminal(play):
+    guard = play([*[signal.SIGCONT] * 20, b"a", "byte 97\r\n"], "guard")
     assert guard.output.count(b"\033[?2004h") == 1
-    guard.quit()
 
 
 @pytest.mark.parametrize(
@@ -484,85 +406,82 @@ def test_guard_continued_where_nobody_had_the_terminal(start):
     ],
     ids=["a paste", "a string", "a beginning", "keys"],
 )
-def test_lent_within(start, begun, rest, line):
+def test_lent_within(play, begun, rest, line):
     """What was read is told, what is open goes on, and another beginning is forgotten."""
-    cases = start("", "echo begun")
-    cases.play([b"l" + begun, "begun", "lent true\r\n", rest, line])
-    cases.play([START + b"second" + END, 'Paste("second")'])
-    cases.quit()
+    steps = [b"l" + begun, "begun", "lent true\r\n", rest, line]
+    play([*steps, START + b"second" + END, 'Paste("second")'], "", "echo begun")
 
 
-def test_slow_terminal(start):
+def test_slow_terminal(play):
     """A question for the cursor stays open until its last reply. That to a later question is its
     own."""
-    cases = start("")
-    cases.play([b"t", "\033[6n\033[c", "[], is_whole: false", PAUSE])
-    cases.play([b"u", BACKGROUND, "[], is_whole: false", b"b", BACKGROUND])
-    cases.play([b"\033[1;5R" + ATTRIBUTES + b"\033]11;old\007" + ATTRIBUTES])
-    cases.play([b"\033]11;new\007" + ATTRIBUTES])
     own = f"[Osc({list(b'11;new')}), Csi({list(ATTRIBUTES[2:])})], is_whole: true"
-    cases.play([own, "CursorPosition { row: 1, column: 5 }", "Csi("])
-    cases.play([f"Osc({list(b'11;old')})", "Csi(", b"\033[1;5R", "key ctrl+f3\r\n"])
-    cases.quit()
-
-
-def test_question_for_the_cursor_behind_a_late_one(start):
-    """The first stays open with its reply, and the second opens it anew."""
-    cases = start("")
-    cases.play([b"t", "\033[6n\033[c", "is_whole: false", b"T", "\033[6n\033[c"])
-    cases.play(
-        [ATTRIBUTES + b"\033[1;6R\033[1;5R" + ATTRIBUTES, "row: 1, column: 6", "is_whole: true"]
+    play(
+        [b"t", "\033[6n\033[c", "[], is_whole: false", PAUSE]
+        + [b"u", BACKGROUND, "[], is_whole: false", b"b", BACKGROUND]
+        + [b"\033[1;5R" + ATTRIBUTES + b"\033]11;old\007" + ATTRIBUTES]
+        + [b"\033]11;new\007" + ATTRIBUTES, own, "CursorPosition { row: 1, column: 5 }", "Csi("]
+        + [f"Osc({list(b'11;old')})", "Csi(", *F3]
     )
-    cases.play(["Csi(", "key ctrl+f3\r\n"])
-    cases.quit()
+
+
+def test_question_for_the_cursor_behind_a_late_one(play):
+    """The first stays open with its reply, and the second opens it anew."""
+    late = ATTRIBUTES + b"\033[1;6R\033[1;5R" + ATTRIBUTES
+    play([*ASK_SOON, *ASK, late, "row: 1, column: 6", "is_whole: true", "Csi(", F3[1]])
 
 
 @pytest.mark.timed
-def test_terminal_that_never_answers(start):
+def test_terminal_that_never_answers(play):
     """After two seconds nothing is owed: what comes then answers no later question."""
-    cases = start("")
-    cases.play([b"t", "is_whole: false", 2.1, b"\033[1;5R", "key ctrl+f3\r\n"])
-    cases.play([ATTRIBUTES, "Csi(", b"b", BACKGROUND, b"\033]11;new\007" + ATTRIBUTES])
-    cases.play([f"[Osc({list(b'11;new')}), Csi(", "is_whole: true"])
-    cases.quit()
+    play(
+        [b"t", "is_whole: false", 2.1, *F3, ATTRIBUTES, "Csi(", b"b", BACKGROUND]
+        + [b"\033]11;new\007" + ATTRIBUTES, f"[Osc({list(b'11;new')}), Csi(", "is_whole: true"]
+    )
 
 
-def test_more_questions_than_may_be_open(start):
+def test_more_questions_than_may_be_open(play):
     """The last one isn't written. Each reply makes room."""
-    cases = start("")
-    cases.play([b"n", "Answers { events: [], is_whole: false }\r\n"])
-    assert cases.output.count(BACKGROUND.encode()) == 16
-    cases.play([ATTRIBUTES, "Csi(", b"b", BACKGROUND, ATTRIBUTES * 16, "is_whole: true"])
-    cases.quit()
+
+    def check_count(it):
+        assert it.output.count(BACKGROUND.encode()) == 16
+
+    play(
+        [b"n", "Answers { events: [], is_whole: false }\r\n", check_count, ATTRIBUTES, "Csi("]
+        + [b"b", BACKGROUND, ATTRIBUTES * 16, "is_whole: true"]
+    )
 
 
-def test_flags_of_kittys_protocol(start):
+def test_flags_of_kittys_protocol(play):
     """They are turned on and off, and nothing is asked. Keys are read in each form, whenever the
     terminal begins to send another."""
-    cases = start("kitty")
-    cases.play([b"\x03", "key ctrl+c\r\n", b"\033[99;5u", "key ctrl+c\r\n"])
-    cases.play([b"\033[1;9A\033[1;5R", "key super+up\r\nkey ctrl+f3\r\n"])
-    cases.play([b"\033[?1u", "KeyboardFlags(KittyKeyboardFlags(DISAMBIGUATE_ESCAPE_CODES))\r\n"])
-    cases.stop()
-    cases.continue_in_foreground()
-    cases.play(["resumed\r\n", b"\x03\033[99;5u", "key ctrl+c\r\nkey ctrl+c\r\n"])
-    cases.quit()
+    cases = play(
+        [b"\x03", "key ctrl+c\r\n", b"\033[99;5u", "key ctrl+c\r\n"]
+        + [b"\033[1;9A\033[1;5R", "key super+up\r\nkey ctrl+f3\r\n"]
+        + [b"\033[?1u", "KeyboardFlags(KittyKeyboardFlags(DISAMBIGUATE_ESCAPE_CODES))\r\n"]
+        + STOP_AND_CONTINUE
+        + ["resumed\r\n", b"\x03\033[99;5u", "key ctrl+c\r\nkey ctrl+c\r\n"],
+        "kitty",
+    )
     on, off = b"\033[?2004h\033[>1u", b"\033[<u\033[?2004l"
     assert (cases.output.count(on), cases.output.count(off)) == (2, 2)
     assert not re.search(rb"\033\[[?>]?[0-9]*[cn]|\033\[\?u", cases.output)
 
 
-def test_flood_while_asking(start):
+def test_flood_while_asking(play):
     """So many events are kept, and the rest stays where it is."""
-    cases = start("")
-    cases.play([b"f", BACKGROUND, b"x" * 70000, "is_whole: false", "70000 events\r\n"])
-    cases.quit()
+    play([b"f", BACKGROUND, b"x" * 70000, "is_whole: false", "70000 events\r\n"])
 
 
 @pytest.fixture
 def start_below_shell(start):
     """Starts a program below a shell, which then prints what is left for it."""
     return lambda word: start(word, before=BEFORE_SHELL)
+
+
+def answered(pause=0):
+    """A question for the cursor that is answered after so many seconds."""
+    return [*ASK, pause, b"\033[1;1R" + ATTRIBUTES, "is_whole: true"]
 
 
 @pytest.mark.parametrize("word", ["plain", "kitty"])
@@ -581,12 +500,9 @@ def test_reply_that_is_owed_at_the_end(start_below_shell, word, late):
     with the last byte of the reply, while the terminal is raw. The first reply tells how slow the
     line is."""
     cases = start_below_shell(word)
-    cases.play([b"T", "\033[6n\033[c", SLOW_LINE, b"\033[1;1R" + ATTRIBUTES, "is_whole: true"])
-    cases.play([b"t", "\033[6n\033[c", "is_whole: false", b"q"])
-    cases.play(["\033[?2004l", SLOW_LINE])
+    cases.play([*answered(SLOW_LINE), *ASK_SOON, b"q", "\033[?2004l", SLOW_LINE])
     assert cases.is_raw()
-    for byte in b"y" + late + b"\033[1;5R" + ATTRIBUTES[:-1]:
-        cases.send(bytes([byte]))
+    cases.play(bytes([it]) for it in b"y" + late + b"\033[1;5R" + ATTRIBUTES[:-1])
     cases.send(ATTRIBUTES[-1:] + b"ls\r")
     cases.check_left(b"ls\r")
 
@@ -594,8 +510,7 @@ def test_reply_that_is_owed_at_the_end(start_below_shell, word, late):
 @pytest.mark.timed
 def test_reply_that_is_owed_at_a_signal(start_below_shell):
     cases = start_below_shell("plain")
-    cases.play([b"T", "\033[6n\033[c", 0.3, b"\033[1;1R" + ATTRIBUTES, "is_whole: true"])
-    cases.play([b"t", "\033[6n\033[c", "is_whole: false"])
+    cases.play([*answered(0.3), *ASK_SOON])
     os.killpg(cases.job, signal.SIGTERM)
     cases.play(["\033[?2004l", 0.2, b"\033[1;5R" + ATTRIBUTES + b"ls\r"])
     cases.check_left(b"ls\r")
@@ -622,8 +537,7 @@ def test_reply_that_is_overdue_at_the_end(start_below_shell):
 def test_mouse_report_at_the_end(start_below_shell):
     """A terminal that answers is asked once more, and no report comes behind its reply."""
     cases = start_below_shell("")
-    cases.play([b"T", "\033[6n\033[c", b"\033[1;1R" + ATTRIBUTES, "is_whole: true"])
-    cases.play([b"e", "ending\r\n", b"\033[<35;1;1M", "\033[?1049l\033[c"])
+    cases.play([*answered(), b"e", "ending\r\n", b"\033[<35;1;1M", "\033[?1049l\033[c"])
     cases.play([b"\033[<35;2;1M" + ATTRIBUTES + b"ls\r"])
     cases.check_left(b"ls\r")
 
@@ -636,49 +550,44 @@ def test_mouse_report_of_a_terminal_that_never_answered(start_below_shell):
     assert b"\033[c" not in cases.output
 
 
-def test_reply_that_is_owed_at_a_stop(start):
-    cases = start("plain")
-    cases.play([b"T", "\033[6n\033[c", PAUSE, b"\033[1;1R" + ATTRIBUTES, "is_whole: true"])
-    cases.play([b"t", "\033[6n\033[c", "is_whole: false"])
-    cases.kill(signal.SIGTSTP)
-    cases.play(["\033[?2004l", PAUSE, b"\033[1;5R" + ATTRIBUTES])
-    cases.wait_for_stop()
-    cases.continue_in_foreground()
-    cases.play(["resumed\r\n", b"x", "key x\r\n", b"\033[1;5R", "key ctrl+f3\r\n"])
+def test_reply_that_is_owed_at_a_stop(play):
+    steps = [*answered(PAUSE), *ASK_SOON, signal.SIGTSTP, "\033[?2004l", PAUSE]
+    steps += [b"\033[1;5R" + ATTRIBUTES, Terminal.wait_for_stop, CONTINUE, "resumed\r\n"]
+    cases = play([*steps, b"x", "key x\r\n", *F3], "plain")
     assert cases.output.count(b"Csi(") == 1
-    cases.quit()
+
+
+def check_left_by_guard(guard, left):
+    """It stops while the program is in a write, and so much is left for the shell."""
+    guard.play([Terminal.stop_output, b"xls\r", PAUSE, signal.SIGTSTP, Terminal.wait_for_stop])
+    assert guard.read_as_shell() == left
+    guard.kill(signal.SIGKILL)
+    guard.wait_for_end()
 
 
 def test_reply_that_is_owed_at_a_stop_of_the_guard(start):
     """It is discarded there, and so it isn't owed at the next stop."""
     guard = start("guard", "plain")
-    guard.play([b"o", "byte 111\r\n"])
-    guard.stop_by(signal.SIGTSTP)
-    guard.continue_in_foreground()
-    guard.check_raw()
-    guard.stop_output()
-    guard.send(b"xls\r")  # the program is in a write
-    guard.play([PAUSE])
-    guard.kill(signal.SIGTSTP)
-    guard.wait_for_stop()
-    assert guard.read_as_shell() == b"ls\r"
-    guard.kill(signal.SIGKILL)
-    guard.wait_for_end()
+    guard.play([b"o", "byte 111\r\n", *STOP_AND_CONTINUE, Cases.check_raw])
+    check_left_by_guard(guard, b"ls\r")
 
 
-def test_reply_that_is_owed_while_it_is_lent(start):
-    cases = start("plain", "read line; echo got $line.")
-    cases.play([b"T", "\033[6n\033[c", PAUSE, b"\033[1;1R" + ATTRIBUTES, "is_whole: true"])
-    cases.play([b"t", "\033[6n\033[c", "is_whole: false", b"l", "\033[?2004l"])
-    cases.play([b"\033[1;5R" + ATTRIBUTES + b"text\n", "got text.\r\n", "lent true\r\n"])
-    cases.quit()
+def test_reply_that_is_owed_while_it_is_lent(play):
+    steps = [
+        *answered(PAUSE),
+        *ASK_SOON,
+        b"l",
+        "\033[?2004l",
+        b"\033[1;5R" + ATTRIBUTES + b"text\n",
+    ]
+    play([*steps, "got text.\r\n", "lent true\r\n"], "plain", "read line; echo got $line.")
 
 
 @pytest.mark.parametrize("word", ["plain", ""], ids=["plain", "mouse"])
 @pytest.mark.parametrize("number", ENDING_SIGNALS, ids=lambda it: it.name)
 def test_signal_while_a_reply_is_owed(start, word, number):
     cases = start(word)
-    cases.play([b"t", "\033[6n\033[c", "is_whole: false"])
+    cases.play(ASK_SOON)
     begin = time.monotonic()
     cases.kill(number)
     cases.check_end(-number)
@@ -688,15 +597,7 @@ def test_signal_while_a_reply_is_owed(start, word, number):
 @pytest.mark.parametrize("words, left", [(["guard", "plain"], b"ls\r"), (["guard"], b"")])
 def test_typed_ahead_at_a_stop_of_the_guard(start, words, left):
     """Its handler reads nothing: a mouse report may come, or all is kept."""
-    guard = start(*words)
-    guard.stop_output()
-    guard.send(b"xls\r")  # the program is in a write
-    guard.play([PAUSE])
-    guard.kill(signal.SIGTSTP)
-    guard.wait_for_stop()
-    assert guard.read_as_shell() == left
-    guard.kill(signal.SIGKILL)
-    guard.wait_for_end()
+    check_left_by_guard(start(*words), left)
 
 
 def test_typed_before_the_program_begins(program):
@@ -714,13 +615,9 @@ def test_half_a_line_of_standard_output(start):
     assert cases.output.index(b"half a line") < cases.output.index(b"\033[?1049l")
 
 
-def test_forked_child_that_drops_the_guard(start):
+def test_forked_child_that_drops_the_guard(play):
     """The terminal is its parent's."""
-    guard = start("fork")
-    guard.play(["child ", b"x", "status 0\r\n"])
-    guard.check_raw()
-    guard.play([b"x", "byte 120\r\n"])
-    guard.quit()
+    play(["child ", b"x", "status 0\r\n", Cases.check_raw, b"x", "byte 120\r\n"], "fork")
 
 
 @pytest.mark.parametrize("number", ENDING_SIGNALS, ids=lambda it: it.name)
@@ -728,9 +625,7 @@ def test_forked_child_that_ends_by_a_signal(start, number):
     guard = start("fork")
     guard.expect(rb"child (\d+)\r\n")
     os.kill(int(guard.match[1]), number)
-    guard.play([f"status {int(number)}\r\n"])
-    guard.check_raw()
-    guard.play([b"x", "byte 120\r\n"])
+    guard.play([f"status {int(number)}\r\n", Cases.check_raw, b"x", "byte 120\r\n"])
     guard.quit()
 
 
@@ -748,25 +643,14 @@ def test_guards_dropped_while_signals_come(program):
 def test_layer_whose_output_would_block(start_layer):
     """The terminal is set so that a write which has to wait fails. The program waits."""
     live = start_layer("sh", "-c", f'{NO_WAIT}; exec "$0" "$@"')
-    live.stop_output()
-    live.play([b"x" * 100, PAUSE])
-    live.stop_output(termios.TCOON)
+    live.play([Terminal.stop_output, b"x" * 100, PAUSE, start_output])
     live.quit(*["Char U+0078"] * 100)
 
 
 def test_editor_whose_output_would_block(example):
-    words = [
-        "sh",
-        "-c",
-        f'{NO_WAIT}; exec "$0" "$@"',
-        *example("rust", "edit"),
-        TOP / "docs/edit.keys",
-    ]
-    with Terminal(words) as edit:
-        edit.expect_exact(" ends\r\n")
-        edit.stop_output()
-        edit.play([b"ab", PAUSE])
-        edit.stop_output(termios.TCOON)
+    words = ["sh", "-c", f'{NO_WAIT}; exec "$0" "$@"', *example("rust", "edit")]
+    with Terminal([*words, TOP / "docs/edit.keys"]) as edit:
+        edit.play([" ends\r\n", Terminal.stop_output, b"ab", PAUSE, start_output])
         edit.play(["text: a|\r\ntext: ab|\r\n", b"\030\003"])
         edit.check_end(0)
 
@@ -810,39 +694,31 @@ def tui(example):
         yield terminal
 
 
-def test_crossterm(tui):
-    tui.play([b"\033[1;5A", "Up", b"\033", "Esc"])
-    tui.resize(60, 20)
-    tui.play(["Resize", b"q"])
-    assert tui.wait_for_end() == 0
+def check_restored(tui, status=0):
+    """The settings are those from before crossterm set them."""
+    assert tui.wait_for_end() == status
     assert tui.settings() == tui.settings_before
+
+
+def test_crossterm(tui):
+    tui.play([b"\033[1;5A", "Up", b"\033", "Esc", (60, 20), "Resize", b"q"])
+    check_restored(tui)
 
 
 def test_crossterm_ended_by_a_signal(tui):
-    """The settings are those from before crossterm set them."""
-    tui.play([b"x", "Char"])
-    tui.kill(signal.SIGTERM)
-    assert tui.wait_for_end() == -signal.SIGTERM
-    assert tui.settings() == tui.settings_before
+    tui.play([b"x", "Char", signal.SIGTERM])
+    check_restored(tui, -signal.SIGTERM)
 
 
 def test_crossterm_stopped(tui):
     """A shell has those settings meanwhile."""
-    tui.play([b"x", "Char"])
-    tui.kill(signal.SIGTSTP)
-    tui.wait_for_stop()
+    tui.play([b"x", "Char", signal.SIGTSTP, Terminal.wait_for_stop])
     assert tui.settings() == tui.settings_before
-    tui.continue_in_foreground()
-    tui.play(["(80, 24)", b"y", "Char", b"q"])
-    assert tui.wait_for_end() == 0
-    assert tui.settings() == tui.settings_before
+    tui.play([CONTINUE, "(80, 24)", b"y", "Char", b"q"])
+    check_restored(tui)
 
 
 def test_crossterm_and_blocked_output(tui):
     """The program heeds no signal, as one that has turned raw mode off and reads no more."""
-    tui.play([b"x", "Char"])
-    tui.stop_output()
-    tui.play([b"y", PAUSE])
-    tui.kill(signal.SIGTERM)
-    assert tui.wait_for_end() == -signal.SIGTERM
-    assert tui.settings() == tui.settings_before
+    tui.play([b"x", "Char", Terminal.stop_output, b"y", PAUSE, signal.SIGTERM])
+    check_restored(tui, -signal.SIGTERM)

@@ -4,7 +4,7 @@ import re
 from collections import Counter
 
 import pytest
-from terminal_data import data_files, load
+from terminal_data import data_files, left_out, load
 
 from hedrugal import (
     FocusGained,
@@ -50,18 +50,38 @@ OTHERWISE = {
 }
 
 
-def pastes():
-    """The texts that were pasted, up to a zero byte: the program that held them ended there."""
-    path = next(path for path in data_files() if path.stem == "xfce4-terminal")
-    for line in load(path)[1]:
-        if line.kind == "paste":
+# The rule for pastes is that of VTE, which two terminals have.
+VTE = ("gnome-terminal", "xfce4-terminal")
+NOT_VTE = "all: another terminal than VTE makes other texts of it"
+OTHER_TEXT = "all: VTE pasted a selection of before, or a text cut at its first U+0080"
+UP_TO_NUL = "the text from its NUL on: the program that held the text ended it there"
+
+
+def less_of_paste(terminal, line):
+    """Why less is compared than the whole text, in the words of README.md."""
+    if terminal not in VTE:
+        return NOT_VTE
+    text = bytes.fromhex(line.details)
+    if line.bytes in (b"\x1b[200~clip\x1b[201~", b"a") and b"\0" not in text:
+        return OTHER_TEXT
+    return UP_TO_NUL if b"\0" in text else ""
+
+
+PASTES = [(path.stem, it) for path in data_files() for it in load(path)[1] if it.kind == "paste"]
+
+
+@pytest.mark.parametrize("terminal", VTE)
+def test_pastes(terminal):
+    for of, line in PASTES:
+        if of == terminal and less_of_paste(of, line) != OTHER_TEXT:
             text = bytes.fromhex(line.details).split(b"\0")[0]
-            yield pytest.param(text, line.modes == "2004", line.bytes, id=line.what)
+            assert encode_paste(text, line.modes == "2004") == line.bytes, line
 
 
-@pytest.mark.parametrize("text, bracketed, sent", pastes())
-def test_pastes(text, bracketed, sent):
-    assert encode_paste(text, bracketed) == sent
+def test_pastes_left_out():
+    counts = Counter(less_of_paste(*it) for it in PASTES)
+    assert counts.pop("") == 39
+    assert counts == left_out("test_senders.py, pastes")
 
 
 def coordinate(part, encoding):
@@ -70,15 +90,18 @@ def coordinate(part, encoding):
 
 def written(what, mode, data):
     """What is written for a recorded report, as a press or as what it was. A wheel that is released
-    counts as turned once more in some terminals. None if it is no single report in that form."""
+    counts as turned once more in some terminals. Or why it isn't compared, in the words of
+    README.md."""
     tracking, _, form = mode.partition("+")
     *held, name = what.split()[0].replace("-corner", "").split("+")
-    if form not in ENCODING or name not in BUTTONS:
-        return None
+    if form not in ENCODING:
+        return "all: the modes 1005 and 1016, which `SentMouse` doesn't have"
+    if name not in BUTTONS:
+        return "all: moves and side buttons, which `SentMouse` doesn't have"
     encoding, pattern = ENCODING[form]
     found = re.fullmatch(pattern, data, re.DOTALL)
     if not found:
-        return None
+        return "all: several reports, or none in the form of the mode"
     x, y = (coordinate(part, encoding) for part in found.groups())
     modifiers = Modifiers(0)
     for flag in held:
@@ -89,19 +112,25 @@ def written(what, mode, data):
     return {SentMouse(x, y, it, modifiers).encode(TRACKING[tracking], encoding) for it in reports}
 
 
-@pytest.mark.parametrize("path", data_files(), ids=lambda path: path.stem)
-def test_mouse_reports(path):
-    same, others = 0, []
-    for line in load(path)[1]:
-        for mode in line.modes.split(",") if line.kind == "mouse" else []:
-            sent = written(line.what, mode, line.bytes)
-            if sent and line.bytes in sent:
-                same += 1
-            elif sent:
-                others.append(f"{mode.partition('+')[2]} {line.what}")
-    pattern = OTHERWISE.get(path.stem, ("nothing", ""))[0]
-    assert [it for it in others if not re.match(pattern, it)] == []
-    assert same >= (1 if path.stem == "dvtm" else 60) and bool(others) == (path.stem in OTHERWISE)
+def test_mouse_reports():
+    """The reports of each terminal and mode."""
+    counts = Counter()
+    for path in data_files():
+        same, others = 0, []
+        for line in load(path)[1]:
+            for mode in line.modes.split(",") if line.kind == "mouse" else []:
+                sent = written(line.what, mode, line.bytes)
+                if isinstance(sent, str):
+                    counts[sent] += 1
+                elif line.bytes in sent:
+                    same += 1
+                else:
+                    others.append(f"{mode.partition('+')[2]} {line.what}")
+        pattern, why = OTHERWISE.get(path.stem, ("nothing", ""))
+        assert [it for it in others if not re.match(pattern, it)] == []
+        assert same >= (1 if path.stem == "dvtm" else 60) and bool(others) == bool(why)
+        counts[f"{path.stem}: {why}"] += len(others)
+    assert +counts == left_out("test_senders.py, mouse")
 
 
 FOCUS = {"gained": FocusGained(), "lost": FocusLost()}

@@ -12,8 +12,7 @@ import sys
 
 import pytest
 from conftest import TOP
-from plain_reader import Reading, read as plain_read
-from presses import ALT, CAPS_LOCK, CTRL, NUM_LOCK, SHIFT, canonical, press, second
+from terminal_data import left_out
 from terminal_judge import is_exact, read, reader_of, told
 from terminal_tables import DOCUMENT, in_document, load_all, peers, set_up, tables
 
@@ -42,36 +41,6 @@ LEAST_OF_ALL, LEAST_WITHOUT_REASON = 95.2, 100
 MOST_PAIRS = 98
 # In at most so many modes of a terminal another parser reads more.
 MOST_FEWER = 0
-
-
-def plain_key(key):
-    """A key as presses.py names it."""
-    from hedrugal import Function, KeyCode
-
-    if isinstance(key, Function):
-        return f"f{key.number}"
-    return key.name.lower().replace("_", "") if isinstance(key, KeyCode) else key
-
-
-def plain_press(event):
-    """What an event tells, as plain_reader.py says it: `key` or `release`, and a press."""
-    from hedrugal import KeyEventKind, KeyPress, KeyReport
-
-    if not isinstance(event, KeyReport):
-        return None
-    report = event
-    of = plain_key(report.key), report.modifiers.value, report.text, report.shifted
-    is_release = report.kind is KeyEventKind.RELEASE
-    check_press(KeyPress.of_report(event), canonical(*of, is_release), event)
-    if not is_release and not report.text:
-        key, held, _, shifted = of
-        check_press(KeyPress.second(event), second(key, held, shifted, report.base), event)
-    return ("release" if is_release else "key", press(*of))
-
-
-def check_press(found, wanted, event):
-    """Compares a press that the library gives with that of presses.py."""
-    assert (found and (plain_key(found.key), found.held.value)) == wanted, event
 
 
 def keys_of(terminal):
@@ -146,22 +115,6 @@ def test_pairs():
     assert len(pairs) <= MOST_PAIRS
 
 
-@pytest.mark.parametrize("terminal", TERMINALS)
-def test_plain_reader(terminal):
-    """The plain reader reads the same keys, and finds as many events. It knows nothing of half a
-    character."""
-    for line, mode in keys_of(terminal):
-        if line.bytes.decode("utf-8", "ignore").encode() != line.bytes:
-            continue
-        reader = reader_of(terminal)
-        events, rest = read(reader, line.bytes)
-        reading = Reading(erase=8 if reader == "erase" else 127)
-        wanted, wanted_rest = plain_read(line.bytes, reading)
-        found = [plain_press(event) for event in events]
-        wanted = [it if it[0] in ("key", "release") else None for it in wanted]
-        assert (found, rest) == (wanted, wanted_rest), (line, mode)
-
-
 def test_port():
     """What termwiz's dialect reads as the key that was pressed, the extended one reads so, too."""
     for terminal, line, mode in presses():
@@ -169,44 +122,77 @@ def test_port():
             assert is_exact(reader_of(terminal), line), (terminal, mode, line)
 
 
+def lines_of(kind):
+    """The lines of a kind, each with its terminal."""
+    found = [(terminal, line) for terminal in TERMINALS for line in FILES[terminal][1]]
+    return [it for it in found if it[1].kind == kind]
+
+
 # A report of the modes 1006 and 1016, one of 1015, and one of the others.
 ONE_REPORT = rb"\x1b\[<[\d;]+[Mm]|\x1b\[[\d;]+M|\x1b\[M[ -\xff]{3}"
+NOT_ONE = "all: it is more or less than one report"
+WRONG = "all: dvtm tells a release, and Vim doesn't add 32 in the mode 1015"
+
+
+def mouse_done(line):
+    """The modifiers that were held, the button, and what was done with it."""
+    pressed, _, what = line.what.replace("-corner", "").rpartition(" ")
+    *held, button = pressed.split("+")
+    return held, button, what
+
+
+def less_of_mouse(terminal, line):
+    """Why less is compared than the button and the modifiers, in the words of README.md."""
+    held, button, what = mouse_done(line)
+    if not re.fullmatch(ONE_REPORT, line.bytes):
+        return NOT_ONE
+    if re.fullmatch(WRONG_REPORTS.get(terminal, b""), line.bytes, re.S):
+        return WRONG
+    if "1000" not in line.modes:
+        return "button, modifiers: 1002 and 1003 report moves too, and mode 9 no modifiers"
+    if what == "release" and (not line.bytes.endswith(b"m") or "Wheel" in button):
+        return "button, modifiers: the release names no button, or is that of a wheel"
+    if what == "drag":
+        return "button, modifiers: the mode 1000 has no drags"
+    if button in SIDE_BUTTONS and terminal in WITHOUT_SIDE_BUTTONS:
+        return "button, modifiers: urxvt tells a side button as a wheel, and VTE as the left button"
+    if not {*held}.isdisjoint(UNTOLD.get(terminal, ())):
+        return "modifiers: QTerminal and Vim don't tell Ctrl and Alt, and PuTTY doesn't tell Alt"
+    return ""
 
 
 @pytest.mark.parametrize("terminal", TERMINALS)
 def test_mouse(terminal):
     """A report tells the button and the modifiers. None is a key. The short form of a report is
     read by a parser that was told so."""
-    from hedrugal import Modifiers, MouseButtons, MouseKind
+    from hedrugal import KeyReport, Modifiers, MouseButtons, MouseKind
 
     def flags(kind, names):
         return functools.reduce(lambda all_, it: all_ | kind[it], names, kind.NONE)
 
     for line in FILES[terminal][1]:
-        if line.kind != "mouse" or not re.fullmatch(ONE_REPORT, line.bytes):
+        less = line.kind == "mouse" and less_of_mouse(terminal, line)
+        if line.kind != "mouse" or less in (NOT_ONE, WRONG):
             continue
-        if re.fullmatch(WRONG_REPORTS.get(terminal, b""), line.bytes, re.S):
-            continue
-        pressed, _, what = line.what.replace("-corner", "").rpartition(" ")
-        *held, button = pressed.split("+")
+        held, button, what = mouse_done(line)
         held = [it.upper() for it in held if it not in UNTOLD.get(terminal, ())]
-        modifiers = flags(Modifiers, held)
         reader = "x10" if line.bytes.startswith(b"\x1b[M") else "extended"
-        events, rest = read(reader, line.bytes)
-        assert len(events) == 1 and not rest and not plain_press(events[0]), line
-        # In the mode 1003 a move may come in between, and few terminals say what was released.
-        if "1000" not in line.modes or what == "release" and not line.bytes.endswith(b"m"):
+        ((event,), rest) = read(reader, line.bytes)
+        assert not isinstance(event, KeyReport) and not rest, line
+        if less.startswith("button"):
             continue
-        event = events[0]
-        if what == "press" and button in BUTTONS:
-            buttons = flags(MouseButtons, BUTTONS[button].split("+"))
-            assert (event.buttons, event.modifiers) == (buttons, modifiers), line
-            kind = MouseKind.WHEEL if "Wheel" in button else MouseKind.PRESS
-            assert (event.kind, event.button) == (kind, NUMBERS[button]), line
-        if button in SIDE_BUTTONS and terminal not in WITHOUT_SIDE_BUTTONS:
-            wanted = SIDE_BUTTONS[button], MouseKind[what.upper()], modifiers
-            assert (event.button, event.kind, event.modifiers) == wanted, line
-            assert event.buttons is MouseButtons.NONE, line
+        kind = MouseKind.WHEEL if "Wheel" in button else MouseKind[what.upper()]
+        buttons = BUTTONS[button] if what == "press" and button in BUTTONS else "NONE"
+        number = NUMBERS.get(button) or SIDE_BUTTONS[button]
+        assert (event.kind, event.button) == (kind, number), line
+        assert event.buttons == flags(MouseButtons, buttons.split("+")), line
+        assert event.modifiers == flags(Modifiers, held), line
+
+
+def test_mouse_left_out():
+    counts = collections.Counter(less_of_mouse(*it) for it in lines_of("mouse"))
+    assert counts.pop("") > 500
+    assert counts == left_out("test_terminals.py, mouse")
 
 
 @pytest.mark.parametrize("terminal", TERMINALS)
@@ -243,21 +229,44 @@ def test_pastes(terminal):
             assert is_forged or len(events) == 1, line
 
 
+def less_of_reply(terminal, line):
+    """Why less is compared than that it is no key, in the words of README.md."""
+    if line.bytes == b"PuTTY":
+        return "all: PuTTY answers ENQ with its name, which is typed"
+    if terminal == "dvtm" and line.what == "DSR6":
+        return "that it is a position: dvtm counts rows from 0"
+    return ""
+
+
 @pytest.mark.parametrize("terminal", TERMINALS)
 def test_replies(terminal):
-    """Replies aren't keys, but for PuTTY's name, its answer to ENQ. The cursor's position in the
-    first row is F3, unless the program asked for it. dvtm counts rows from 0."""
-    from hedrugal import CursorPosition
+    """Replies aren't keys. The cursor's position in the first row is F3, unless the program asked
+    for it."""
+    from hedrugal import CursorPosition, KeyPress
 
     for line in FILES[terminal][1]:
-        if line.kind == "reply" and line.bytes != b"PuTTY":
-            for reader in ("extended", "asked"):
-                events, _ = read(reader, line.bytes)
-                keys = [it[1] for it in map(plain_press, events) if it]
-                is_third = all(it.endswith("f3") for it in keys) and b"R" in line.bytes
-                assert not keys or is_third and reader != "asked", (line, reader, keys)
-                if line.what == "DSR6" and reader == "asked" and terminal != "dvtm":
-                    assert any(isinstance(it, CursorPosition) for it in events), line
+        less = line.kind == "reply" and less_of_reply(terminal, line)
+        if line.kind != "reply" or less.startswith("all"):
+            continue
+        for reader in ("extended", "asked"):
+            events, _ = read(reader, line.bytes)
+            keys = [str(it) for it in map(KeyPress.of_event, events) if it]
+            is_third = all(it.endswith("f3") for it in keys) and b"R" in line.bytes
+            assert not keys or is_third and reader != "asked", (line, reader, keys)
+            if line.what == "DSR6" and reader == "asked" and not less:
+                assert any(isinstance(it, CursorPosition) for it in events), line
+
+
+def test_left_out():
+    counts = collections.Counter(less_of_reply(*it) for it in lines_of("reply"))
+    assert counts.pop("") > 500
+    assert counts == left_out("test_terminals.py, replies")
+    plain = sum("2004" not in line.modes for _, line in lines_of("paste"))
+    assert {"all: it isn't bracketed": plain} == left_out("test_terminals.py, pastes")
+    rare = sum(not line.everyday or line.layout != "" for _, line in lines_of("press"))
+    assert {"all: it is no everyday press, or of another layout": rare} == left_out(
+        "test_terminals.py, pairs"
+    )
 
 
 def test_every_line_is_read():
@@ -284,40 +293,6 @@ def test_document(name):
     text = DOCUMENT.read_text()
     first, last = in_document(name, text)
     assert text[first:last] == tables(FILES, judged())[name]
-
-
-@pytest.mark.parametrize(
-    "report, wanted",
-    [
-        (("applicationuparrow", CTRL), "ctrl+up"),
-        (("\0", 0), "ctrl+space"),
-        (("\x1f", ALT), "ctrl+alt+_"),
-        (("\b", 0), "ctrl+h"),
-        (("\n", ALT), "ctrl+alt+j"),
-        (("\x7f", 0), "ctrl+backspace"),
-        (("\t", CTRL), "ctrl+tab"),
-        (("A", CTRL), "ctrl+shift+a"),
-        (("!", SHIFT), "!"),
-        ((" ", SHIFT), "shift+space"),
-        (("a", ALT | SHIFT), "alt+A"),
-        (("a", CTRL | SHIFT | CAPS_LOCK, "", "A"), "ctrl+shift+a"),
-        (("1", CTRL | SHIFT, "", "!"), "ctrl+!"),
-        (("a", CAPS_LOCK, "A"), "A"),
-        (("q", 0, "@"), "@"),
-        (("\0", 0, "fi"), "none"),
-        (("numpad5", NUM_LOCK, "5"), "5"),
-        ((57414, CTRL), "ctrl+enter"),
-        (("leftcontrol", CTRL), "none"),
-        (("a", CTRL, "", None, True), "none"),
-        (("с", CTRL), "ctrl+с"),
-        (("б", ALT | SHIFT, "", "Б"), "alt+Б"),
-        (("\u200b", 0), "U+200B"),
-        ((57428, 0), "kitty57428"),
-    ],
-)
-def test_presses(report, wanted):
-    """Further presses: a report, and its name."""
-    assert press(*report) == wanted
 
 
 def write_tables():

@@ -1,164 +1,54 @@
-"""The parser with a clock. The program of crates/test_calls makes the calls of a run, and
-plain_timed.py says what each has to answer.
+"""The parser with a clock. The program of crates/test_calls makes the calls of a run, and the slow
+parser of rust/tests/extended/plain/timed.rs says in the same words what each has to answer.
 
 A call is a name, a number and bytes. Times are in milliseconds."""
 import ast
+import functools
 import random
 import re
 import subprocess
 
 import pytest
 from conftest import TOP
-from plain_bytes import END, START, Reading
-from plain_timed import BUSY, REFUSED, PlainTimed
-from presses import KITTY_NAMES, press
-from test_rattle import TEST_CALLS, answers, command
+from test_rattle import TEST_CALLS, answers, command, pasted
+
+from hedrugal import Function, KeyCode, KeyEventKind, KeyPress, KeyReport, KittyModifiers
 
 LONGEST = 2**64 - 1
-# A limit that is none, as a command has it.
+START, END = b"\x1b[200~", b"\x1b[201~"
+# The limits of a policy, and one that is none, as a command has it.
+LIMITS = ["escape", "alt_key", "sequence", "string", "character", "paste"]
 NO_LIMIT = 2**32
-LIMITS = "escape alt_key sequence string character paste".split()
-READINGS = {
-    "dialect": ("is_termwiz", bool),
-    "x10_mouse": ("has_x10_mouse", bool),
-    "questions": ("questions", int),
-    "erase": ("erase", int),
-    "newline": ("is_enter", bool),
-}
+BUSY, REFUSED = "busy", "refused"
+# What waits, where not all is told: any answer is right.
+UNTOLD = "?"
 
 
-# What the model answers.
-class PlainRun:
-    """A run of the model, whose calls have the names of the program's commands."""
+class Asked:
+    """A program, asked one call after another."""
 
-    def __init__(self):
-        self.parser = PlainTimed()
+    def __init__(self, *words):
+        self.words = words
 
-    def call(self, name, number=0, data=b""):
-        parser = self.parser
-        if name in ("new", "sharing"):
-            self.parser = PlainTimed(is_termwiz=bool(number))
-        elif name == "feed":
-            return parser.feed(number, data)
-        elif name == "next":
-            return plain_event(parser.next())
-        elif name in ("idle", "interrupted", "timeout"):
-            return getattr(parser, name)(number)
-        elif name in ("parts", "no-parts"):
-            return parser.set_parts(number if name == "parts" else None)
-        elif name in LIMITS:
-            return parser.set_policy(name, number if number < NO_LIMIT else None)
-        elif name in READINGS:
-            field, kind = READINGS[name]
-            return parser.set_reading(**{field: kind(number)})
-        elif name == "waiting_len":
-            return len(parser.text)
-        elif name == "reading":
-            return parser.reading
-        elif name == "policy":
-            return dict(parser.policy)
-        elif name != "shrink":
-            return getattr(parser, name)()
-        return ""
+    def __enter__(self):
+        pipes = {"stdin": subprocess.PIPE, "stdout": subprocess.PIPE, "text": True}
+        self.process = subprocess.Popen(self.words, **pipes)
+        return self
+
+    def __exit__(self, *_):
+        self.process.communicate(timeout=60)
+        assert self.process.returncode == 0
+
+    def call(self, *call):
+        self.process.stdin.write(command(*call) + "\n")
+        self.process.stdin.flush()
+        return self.process.stdout.readline()[:-1]
 
 
-def plain_event(event):
-    """An event of the model, with all that the plain reader tells of a key."""
-    if event[0] == "reply":
-        row, column = re.findall(r"\d+", event[1])[:2]
-        return ("reply", int(row), int(column))
-    if event[0] not in ("key", "release"):
-        return event
-    kind, key, held, told = event
-    key = KITTY_NAMES.get(key, key)
-    return (kind, key, held, told.get("text", ""), told.get("shifted"))
-
-
-# What the program answers.
-def quoted(text):
-    """What Debug prints of a character or a text."""
-    return ast.literal_eval(re.sub(r"\\u\{(\w+)\}", lambda it: f"\\U{it[1]:0>8}", text))
-
-
-KEY_REPORT = re.compile(
-    r"Key\(KeyReport \{ key: (\w+)\((.*)\), modifiers: (\d+), kind: (\w+), shifted: (.*), "
-    r"base: .*, text: KeyText \{ inner: (\".*\") \} \}\)"
-)
-MOUSE_REPORT = re.compile(
-    r"Mouse\(MouseReport \{ x: (\d+), y: (\d+), modifiers: (.*), buttons: .*, kind: (\w+), "
-    r"button: (?:None|Some\((\d+)\)) \}\)"
-)
-HELD = {"SHIFT": 1, "ALT": 2, "CTRL": 4}
-
-
-def told_key(kind, key):
-    if kind == "Functional":
-        return int(key)
-    if key.startswith("Char("):
-        return quoted(key[5:-1])
-    return re.sub(r"function\((\d+)\)", r"f\1", key.lower())
-
-
-def told_event(line):
-    """An event, as the model has it."""
-    if m := re.fullmatch(r"(part of )?paste \d+:(\w*)", line):
-        return ("part of paste" if m[1] else "paste", bytes.fromhex(m[2]).decode())
-    if m := KEY_REPORT.fullmatch(line):
-        key = told_key(m[1], m[2])
-        shifted = None if m[5] == "None" else quoted(m[5][5:-1])
-        kind = "release" if m[4] == "Release" else "key"
-        return (kind, KITTY_NAMES.get(key, key), int(m[3]), quoted(m[6]), shifted)
-    if m := MOUSE_REPORT.fullmatch(line):
-        held = sum(bit for name, bit in HELD.items() if name in m[3])
-        return ("mouse", int(m[1]), int(m[2]), held, m[4], int(m[5]) if m[5] else None)
-    if line in ("FocusGained", "FocusLost"):
-        return ("focus", "I" if line == "FocusGained" else "O")
-    name, *numbers = re.findall(r"^\w+|\d+", line)
-    numbers = [int(it) for it in numbers]
-    if name == "CursorPosition":
-        return ("reply", *numbers)
-    if name in ("Resized", "KeyboardFlags"):
-        return ("resized" if name == "Resized" else "flags", *numbers)
-    if name == "Csi":
-        return ("csi", bytes(numbers).decode("latin-1"))
-    kind = re.search(r"kind: (\w+)", line)
-    words = {"StringPart": "part of ", "StringCut": "cut "}
-    return (words.get(name, "") + (kind[1] if kind else name).lower(), bytes(numbers))
-
-
-def told_reading(line):
-    """A reading, as the model has it."""
-    dialect, x10_mouse, questions, erase, newline = re.findall(r": (\w+)", line)
-    return Reading(
-        dialect == "Termwiz",
-        x10_mouse == "true",
-        int(questions),
-        8 if erase == "Backspace" else 127,
-        newline == "Enter",
-    )
-
-
-def told_policy(line):
-    limits = re.findall(r"(\w+): (?:Some\((\d+)\)|None)", line)
-    return {name: int(limit) if limit else None for name, limit in limits}
-
-
-def answer_of(call, line):
-    """The answer of a call, as the model has it."""
-    name = call[0]
-    if name in ("timeout", "skip", "reset", "waiting_len"):
-        return None if line == "None" else int(line)
-    if name == "next" and line not in ("none", REFUSED):
-        return told_event(line)
-    if name in ("reading", "policy"):
-        return told_reading(line) if name == "reading" else told_policy(line)
-    return line
-
-
-def run(calls):
-    """What the program answers to the calls of a run."""
-    lines = answers("timed", [command(*it) for it in calls])
-    return [answer_of(call, line) for call, line in zip(calls, lines, strict=True)]
+@pytest.fixture(scope="module")
+def model(example):
+    with Asked(*example("rust", "plain_answers")) as it:
+        yield it
 
 
 def check_runs(runs):
@@ -166,7 +56,7 @@ def check_runs(runs):
     calls = []
     for each in runs:
         calls += [("new", 0), *(call for call, _ in each)]
-    given = iter(run(calls))
+    given = iter(answers("timed", [command(*it) for it in calls]))
     for each in runs:
         next(given)
         for place, (call, wanted) in enumerate(each):
@@ -191,15 +81,39 @@ def call_of(words):
     return (name, int(words[0]), bytes_of(words[1:])) if words else (name, 0, b"")
 
 
-def told_name(event):
+KEY_REPORT = re.compile(
+    r"Key\(KeyReport \{ key: (\w+)\((.*)\), modifiers: (\d+), kind: Press, shifted: (.*), "
+    r"base: .*, text: KeyText \{ inner: (\".*\") \} \}\)"
+)
+NAMED = {it.name.replace("_", "").lower(): it for it in KeyCode}
+
+
+def quoted(text):
+    """What Debug prints of a character or a text."""
+    return ast.literal_eval(re.sub(r"\\u\{(\w+)\}", lambda it: f"\\U{it[1]:0>8}", text))
+
+
+def key_of(kind, key):
+    if kind == "Functional":
+        return int(key)
+    if key.startswith("Char("):
+        return quoted(key[5:-1])
+    number = re.fullmatch(r"Function\((\d+)\)", key)
+    return Function(int(number[1])) if number else NAMED[key.lower()]
+
+
+def told_name(line):
     """A short name of an event: of a key its press."""
-    kind, *more = event
-    if kind == "key":
-        key, held, text, shifted = more
-        return press(key, held, text, shifted)
-    if kind in ("paste", "part of paste"):
-        return f"{kind}({more[0]})".replace("\r", " CR")
-    return kind
+    if m := KEY_REPORT.fullmatch(line):
+        shifted = None if m[4] == "None" else quoted(m[4][5:-1])
+        held, text = KittyModifiers(int(m[3])), quoted(m[5])
+        key = key_of(m[1], m[2])
+        return str(KeyPress.of_report(KeyReport(key, held, KeyEventKind.PRESS, shifted, text=text)))
+    if m := re.fullmatch(r"(part of |)paste \d+:(\w*)", line):
+        return f"{m[1]}paste({bytes.fromhex(m[2]).decode()})".replace("\r", " CR")
+    if m := re.match(r"StringCut \{ kind: (\w+)", line):
+        return f"cut {m[1].lower()}"
+    return re.match(r"\w+", line)[0]
 
 
 # Calls and what is told. After each | `next` is called until it answers none. What other calls
@@ -257,7 +171,7 @@ MORE_RUNS = [
     ("feed 0 ESC | feed 40 ESC | idle 89 | idle 90", "- | - | - | alt+escape"),
     ("feed 0 ESC `]52;c;QQ` | idle 5008 | idle 5009", "- | - | cut osc"),
     ("feed 0 ESC `]lq` | idle 999 | idle 1000", "- | - | alt+], l, q"),
-    ("feed 0 ESC `[` | idle 98 | feed 99 `I`", "- | - | focus"),
+    ("feed 0 ESC `[` | idle 98 | feed 99 `I`", "- | - | FocusGained"),
     (
         "feed 0 ESC ESC | feed 40 `]11;a` | feed 4000 `b` | idle 5046 | idle 5047",
         "- | escape | - | - | cut osc",
@@ -293,7 +207,7 @@ MORE_RUNS = [
     ("feed 0 0xe2 | interrupted 5 | feed 6 0x82 0xac", "- | - | U+FFFD, U+FFFD"),
     ("feed 0 ESC, interrupted 5 | interrupted 5 | idle 99", "busy | - | -"),
     # Questions.
-    ("expect | feed 0 ESC `[1;5R` ESC `[1;5R`", "- | reply, ctrl+f3"),
+    ("expect | feed 0 ESC `[1;5R` ESC `[1;5R`", "- | CursorPosition, ctrl+f3"),
     ("expect | interrupted 0 | feed 0 ESC `[1;5R`", "- | - | ctrl+f3"),
     ("expect | reset | feed 0 ESC `[1;5R`", "- | 0 | ctrl+f3"),
     ("expect, expect, forget | feed 0 ESC `[1;5R`", "- | ctrl+f3"),
@@ -337,36 +251,19 @@ def told_by(call, groups):
     """What is told by calls: after each group up to the `next` that answers none."""
     for group in groups:
         told = [call(*call_of(it)) for it in group.split(", ")]
-        told = [str(it) for it in told if it not in ("", None)]
+        told = [it for it in told if it not in ("", "None")]
         while (event := call("next")) != "none":
             told.append(told_name(event))
         yield ", ".join(told) or "-"
 
 
-class Program:
-    """The program, asked one call after another."""
-
-    def __enter__(self):
-        pipes = {"stdin": subprocess.PIPE, "stdout": subprocess.PIPE, "text": True}
-        self.process = subprocess.Popen([TEST_CALLS, "timed"], **pipes)
-        return self
-
-    def __exit__(self, *_):
-        self.process.communicate(timeout=60)
-        assert self.process.returncode == 0
-
-    def call(self, *call):
-        self.process.stdin.write(command(*call) + "\n")
-        self.process.stdin.flush()
-        return answer_of(call, self.process.stdout.readline()[:-1])
-
-
 @pytest.mark.parametrize("calls, told", WORKED_RUNS + MORE_RUNS)
-def test_worked_runs(calls, told):
+def test_worked_runs(model, calls, told):
     """By the model and by the program."""
     groups = calls.split(" | ")
-    assert " | ".join(told_by(PlainRun().call, groups)) == told
-    with Program() as program:
+    model.call("new")
+    assert " | ".join(told_by(model.call, groups)) == told
+    with Asked(TEST_CALLS, "timed") as program:
         assert " | ".join(told_by(program.call, groups)) == told
 
 
@@ -456,9 +353,10 @@ class DrawnRun:
     """A run that is drawn, with the model's answers. It takes what is left to wait from the model,
     so that calls come just in time, and just too late."""
 
-    def __init__(self, seed):
+    def __init__(self, model, seed):
         self.draws = draws = Draws(seed)
-        self.model = PlainRun()
+        self.model = model
+        model.call("new")
         self.calls = []
         self.due = 0
         self.now = draws.choice([0, 0, 1000, LONGEST - 2000])
@@ -478,11 +376,14 @@ class DrawnRun:
         self.tell_all()
 
     def call(self, name, number=0, data=b""):
-        is_told = self.model.parser.is_told
+        is_told = name == "idle" and self.is_told()
         answer = self.model.call(name, number, data)
         self.calls.append(((name, number, data), answer))
-        self.due += name == "idle" and is_told and not self.model.parser.is_told
+        self.due += is_told and not self.is_told()
         return answer
+
+    def is_told(self):
+        return self.model.call("waiting") != UNTOLD
 
     def tell_all(self):
         while self.call("next") != "none":
@@ -496,10 +397,11 @@ class DrawnRun:
         if self.draws.random() < 0.8:
             self.tell_all()
         left = self.call("timeout", self.now)
-        if left is None or self.draws.random() < 0.3:
+        if left == "None" or self.draws.random() < 0.3:
             self.now = self.draws.time(self.now)
         else:
-            self.now = min(LONGEST, max(0, self.now + left + self.draws.choice([-1, 0, 0, 1])))
+            later = self.now + int(left) + self.draws.choice([-1, 0, 0, 1])
+            self.now = min(LONGEST, max(0, later))
         self.call("idle", self.now)
 
     def lend(self):
@@ -514,7 +416,7 @@ class DrawnRun:
 
     def ask(self):
         self.call(self.draws.choice(["waiting_len", "waiting_len", "reading", "policy"]))
-        if self.model.parser.is_told:
+        if self.is_told():
             self.call("waiting")
 
     def steps(self):
@@ -525,18 +427,20 @@ class DrawnRun:
         self.now = self.draws.time(self.now)
 
 
-def drawn_runs(seed):
-    return [DrawnRun(seed * 1000 + it) for it in range(50)]
+@functools.cache
+def drawn_runs(model, seed):
+    return [DrawnRun(model, seed * 1000 + it) for it in range(50)]
 
 
 @pytest.mark.parametrize("seed", range(20))
-def test_random_runs(seed):
-    check_runs([it.calls for it in drawn_runs(seed)])
+def test_random_runs(model, seed):
+    check_runs([it.calls for it in drawn_runs(model, seed)])
 
 
-def by_model(calls):
+def by_model(model, calls):
     """Calls with the model's answers; and at last all is told."""
-    model, found = PlainRun(), []
+    model.call("new")
+    found = []
     for call in calls:
         found.append((call, model.call(*call)))
     while not found or found[-1][1] != "none":
@@ -544,17 +448,20 @@ def by_model(calls):
     return found
 
 
-def test_runs_of_all_kinds_are_drawn():
+def kind_of(line):
+    """What an event is, and which kind of string. A release is told apart."""
+    return " ".join(re.findall(r"^part of paste|^\w+|Osc|Dcs|Apc|Release", line)).strip()
+
+
+def test_runs_of_all_kinds_are_drawn(model):
     """What the random runs show: each event, each kind of what waits, what is due, and refusals."""
-    drawn = [it for seed in range(20) for it in drawn_runs(seed)]
+    drawn = [it for seed in range(20) for it in drawn_runs(model, seed)]
     calls = [it for run in drawn for it in run.calls]
-    told = {
-        answer if answer in ("none", BUSY) else answer[0] for it, answer in calls if it[0] == "next"
-    }
-    strings = {f"{word}{kind}" for word in ("", "cut ") for kind in ("osc", "dcs", "apc")}
-    assert told == strings | set(
-        "none key release mouse focus reply csi flags resized paste".split() + ["part of paste"]
-    )
+    told = {kind_of(answer) for call, answer in calls if call[0] == "next"}
+    names = """none, Key, Key Release, Mouse, Mouse Release, FocusGained, FocusLost, CursorPosition,
+        Csi, KeyboardFlags, Resized, paste, part of paste, Osc, Dcs, Apc, StringCut Osc,
+        StringCut Dcs, StringCut Apc"""
+    assert told == set(re.split(r",\s+", names))
     kinds = {answer for call, answer in calls if call[0] == "waiting"}
     assert kinds == set("Nothing Escape Sequence Character Paste String".split())
     assert sum(it.due for it in drawn) > 1000
@@ -564,7 +471,7 @@ def test_runs_of_all_kinds_are_drawn():
 
 # Long texts.
 @pytest.mark.parametrize("length", [100, 40_000, 65_535, 70_000])
-def test_a_long_string_that_was_interrupted(length):
+def test_a_long_string_that_was_interrupted(model, length):
     """A part of it is told, and the rest is due a second later."""
     text = b"\x1b]52;c;" + b"Q" * 150_000
     calls = [("feed", 0, text[:100]), ("next",), ("interrupted", 5)]
@@ -572,38 +479,38 @@ def test_a_long_string_that_was_interrupted(length):
         now = 10 + place // 100
         calls += [("feed", now, text[place : place + length]), *[("next",)] * 3]
     calls += [("timeout", now), ("idle", now + 999), ("next",), ("idle", now + 1000)]
-    run = by_model(calls)
-    told = [it[0] for call, it in run if call[0] == "next" and it != "none"]
-    assert told == ["part of osc", "part of osc", "cut osc"]
+    run = by_model(model, calls)
+    told = [kind_of(it) for call, it in run if call[0] == "next" and it != "none"]
+    assert told == ["StringPart Osc", "StringPart Osc", "StringCut Osc"]
     check_runs([run])
 
 
-def test_stalled_pastes_of_1_megabyte():
+def test_stalled_pastes_of_1_megabyte(model):
     """Each is told a limit after its last byte."""
     body = b"0123456789abcdef" * 65536
     calls = [("paste", 10_000)]
     for now in 5, 20_000:
         calls += [("feed", now, START + body), ("next",), ("timeout", now)]
         calls += [("idle", now + 9999), ("next",), ("idle", now + 10_000), *[("next",)] * 2]
-    run = by_model(calls)
-    assert [it for call, it in run if call[0] == "timeout"] == [10_000] * 2
+    run = by_model(model, calls)
+    assert [it for call, it in run if call[0] == "timeout"] == ["10000"] * 2
     told = [it for call, it in run if call[0] == "next"]
-    assert told == ["none", "none", ("paste", body.decode()), "none"] * 2
+    assert told == ["none", "none", pasted(body), "none"] * 2
     check_runs([run])
 
 
 @pytest.mark.parametrize("limit", [0, 1000, 100_000, 2**20])
-def test_a_long_paste_in_parts(limit):
+def test_a_long_paste_in_parts(model, limit):
     body = bytes(range(32, 127)) * 3000 + "€".encode() * 5000
     calls = [("parts", limit)]
     text = START + body + END + b"q"
     for place in range(0, len(text), 8191):
         calls += [("feed", place, text[place : place + 8191]), *[("next",)] * 4, ("waiting_len",)]
-    run = by_model(calls)
+    run = by_model(model, calls)
     told = [it for call, it in run if call[0] == "next" and it != "none"]
-    assert "".join(it[1] for it in told[:-1]) == body.decode()
-    assert [it[0] for it in told] == ["part of paste"] * (len(told) - 2) + ["paste", "key"]
-    lengths = [it for call, it in run if call[0] == "waiting_len"]
+    assert "".join(it.partition(":")[2] for it in told[:-1]) == body.hex()
+    assert [kind_of(it) for it in told] == ["part of paste"] * (len(told) - 2) + ["paste", "Key"]
+    lengths = [int(it) for call, it in run if call[0] == "waiting_len"]
     assert max(lengths) <= 6 + max(limit, 5)
     check_runs([run])
 
@@ -660,21 +567,21 @@ REFUSABLE = [
 ]
 
 
-def check_refused(calls, lines):
+def check_refused(model, calls, lines):
     """Checks what is answered where some calls are refused: these change nothing. Returns their
     places."""
-    model, places = PlainRun(), []
+    model.call("new")
+    places = []
     for place, (call, line) in enumerate(zip(calls, lines, strict=True)):
-        answer, is_told = answer_of(call, line), model.parser.is_told
-        if answer == REFUSED and call[0] in ("next", "feed"):
+        if line == REFUSED and call[0] in ("next", "feed"):
             places.append(place)
-        elif (wanted := model.call(*call)) != answer:
-            # What waits isn't known before all is told.
-            assert call[0] == "waiting" and not is_told, (call, answer, wanted)
+        else:
+            wanted = model.call(*call)
+            assert wanted in (line, UNTOLD), (call, line, wanted)
     return places
 
 
-def test_each_request_refused(requests):
+def test_each_request_refused(model, requests):
     """A `next` or a `feed` that is refused changes nothing, and the run goes on."""
     _, _, before = requests([])
     _, _, sizes = requests(REFUSABLE)
@@ -682,7 +589,7 @@ def test_each_request_refused(requests):
     for number in range(len(before) + 1, len(sizes) + 1):
         status, lines, _ = requests(REFUSABLE, number)
         if status == 0:
-            (place,) = check_refused(REFUSABLE, lines)
+            (place,) = check_refused(model, REFUSABLE, lines)
             refused.add(place)
         else:
             # A line of the program was refused.
@@ -692,15 +599,18 @@ def test_each_request_refused(requests):
 
 
 @pytest.mark.parametrize("seed", range(12))
-def test_random_runs_with_a_refusal(requests, seed):
-    calls = [it for it, _ in DrawnRun(seed).calls]
+def test_random_runs_with_a_refusal(model, requests, seed):
+    calls = [it for it, _ in DrawnRun(model, seed).calls]
     _, _, before = requests([])
     _, _, sizes = requests(calls)
     draws = random.Random(seed)
     for _ in range(40):
         number = draws.randrange(len(before), len(sizes)) + 1
         status, lines, _ = requests(calls, number)
-        assert len(check_refused(calls, lines)) == 1 if status == 0 else REFUSED not in lines
+        if status == 0:
+            assert len(check_refused(model, calls, lines)) == 1
+        else:
+            assert REFUSED not in lines
 
 
 def test_a_parser_over_a_shared_table_asks_for_no_memory(requests):
