@@ -12,7 +12,6 @@
 . "$(dirname "$0")/common.sh"
 set -u
 export LC_ALL=C.UTF-8 PATH=$PATH:/usr/sbin # has chroot
-[ "${1-}" != --help ] || { show_help; exit; }
 top=$(realpath -- "$(dirname "$0")/..")
 cd "$top" || exit
 processor=${1:-amd64} cases=${2:-all}
@@ -78,7 +77,7 @@ program="cargo init --quiet --vcs none ~/program; cd ~/program; ln -s ~/hedrugal
 
 # The longest tests in Python, for pytest, and the files of those that start programs.
 longest_in_python='completions or parse-rows or encodings or nothing_else or dicts or test_backend or test_documents or test_library'
-longest_in_python+=' or test_memory or test_threads or test_terminal'
+longest_in_python+=' or test_memory or test_threads'
 
 # Makes the packages for both processors, of another clone.
 make_packages() {

@@ -91,6 +91,5 @@ table() { # names..
 case ${1-} in
     part | table) "$@" ;;
     wait) wait_for "${@:2}" ;;
-    --help) show_help ;;
     *) refuse_word "${1-}" ;;
 esac

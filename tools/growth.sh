@@ -4,16 +4,15 @@
 #
 #     tools/growth.sh FEED          (make check-growth)
 #
-# tools/growth/growth.c reads texts in several ways, and tools/growth/judge.awk has the bounds. tools/growth/chords.c reads and prints names, binds
-# chords and looks them up, and tools/growth/pastes.c sends pasted texts: tools/growth/tasks.awk has their bounds. callgrind counts the
-# instructions and a wrapped malloc the memory, so that each run finds the same numbers. Only the seconds of binding and unbinding are measured.
+# tools/growth/growth.c reads texts in several ways, and tools/growth/judge.awk has the bounds. tools/growth/tasks.c reads and prints names, binds
+# chords, looks them up and sends pasted texts: tools/growth/tasks.awk has the bounds. callgrind counts the instructions and a wrapped malloc
+# the memory, so that each run finds the same numbers. Only the seconds of binding and unbinding are measured.
 #
 # The C library is that of HEDRUGAL_LIBRARY, else of out/lib. FEED is a static library that calls parse_as_vec, which make builds of
 # tools/growth/feed.rt.txt. The last line is 'N passed, N failed', the status 1 if a case failed.
 set -u
 export LC_ALL=C
 . "$(dirname "$0")/common.sh"
-[ "${1-}" != --help ] || { show_help; exit; }
 [ $# = 1 ] || refuse 'wants the file of the static library feed'
 need rt 'the Rattle kit'
 feed=$(realpath -- "$1") || exit
@@ -34,10 +33,10 @@ count() { # program
         paste -d ' ' "$work/$1.tasks" -
 }
 
-build growth -Wl,--wrap=memcpy,--wrap=memmove,--wrap=memset "$feed" "$(dirname "$(rt doc)")/c/liblibc_c.a" && build chords && build pastes || exit 1
+build growth -Wl,--wrap=memcpy,--wrap=memmove,--wrap=memset "$feed" "$(dirname "$(rt doc)")/c/liblibc_c.a" && build tasks || exit 1
 { timeout 60 "$work/growth" parsers && timeout 240 "$work/growth" long; } > "$work/others" &
 others=$!
-{ count chords && count pastes && timeout 60 "$work/chords" figures; } > "$work/tasks" &
+{ count tasks && timeout 60 "$work/tasks" figures; } > "$work/carried" &
 tasks=$!
 count growth > "$work/passes" && wait $others && wait $tasks || exit 1
-awk -f tools/growth/tasks.awk -f tools/growth/judge.awk "$work/passes" "$work/others" "$work/tasks"
+awk -f tools/growth/tasks.awk -f tools/growth/judge.awk "$work/passes" "$work/others" "$work/carried"

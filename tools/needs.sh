@@ -6,7 +6,6 @@
 # The part all stands for each of them but performance, terminals and arm64. With --install it first installs what Debian has of it, where this user can.
 set -eu
 . "$(dirname "$0")/common.sh"
-[ "${1-}" != --help ] || { show_help; exit; }
 installs=no
 [ "${1-}" != --install ] || { installs=yes; shift; }
 [ $# -gt 0 ] || refuse 'wants the names of parts'

@@ -11,7 +11,6 @@
 set -eu
 export LC_ALL=C
 . "$(dirname "$0")/common.sh"
-[ "${1-}" != --help ] || { show_help; exit; }
 [ $# = 1 ] || [ $# = 2 ] || refuse 'wants the name of the program, and at most a folder'
 [[ ${2-} != -* ]] || refuse_word "$2"
 name=$1 folder=${2:+$(realpath -m -- "$2")}

@@ -17,8 +17,11 @@ turn, and of each the least time counts. What is printed is what docs/PERFORMANC
 The parsers are Termwiz and Extended (the parser from C, in either dialect), Rust, Rust Extended,
 Python and Python Extended (the same from there), Python Keys (the parser for prompt_toolkit),
 libtermkey, crossterm and prompt_toolkit. The last three are those of Debian's packages. If one
-can't be built its column says why; `tools/needs.sh --install performance` installs them. To compare
-two commits there is tools/measure.sh."""
+can't be built its column says why; `tools/needs.sh --install performance` installs them.
+
+With --against COMMIT it measures the parser from C alone, in either dialect, beside that of the
+library in COMMIT's folder prebuilt, or of HEDRUGAL_OTHER. Each gets its reads from its own
+tools/measure/hedrugal.c."""
 import argparse
 import datetime
 import glob
@@ -80,8 +83,8 @@ class Builder:
     """Builds programs in a folder, over a library. A program is a list of words, which a file and
     the size of the reads follow."""
 
-    def __init__(self, work, library):
-        self.work, self.library = work, library
+    def __init__(self, work, library, tools=TOOLS):
+        self.work, self.library, self.tools = work, library, tools
         os.mkdir(work)
 
     def linked(self, *words):
@@ -93,19 +96,14 @@ class Builder:
     def from_c(self, dialect, *flags):
         library = [f"-I{self.library}", f"{self.library}/libhedrugal.a"]
         words = [f"-DDIALECT=HED_DIALECT_{dialect}", *flags]
-        return self.linked(*words, f"{TOOLS}/hedrugal.c", *library)
+        return self.linked(*words, f"{self.tools}/hedrugal.c", *library)
 
     def tasks(self):
-        """Those of tools/growth/chords.c, without its wrapped malloc."""
+        """Those of tools/growth/tasks.c, without its wrapped malloc."""
         program, library = f"{self.work}/tasks", f"{self.library}/libhedrugal.a"
-        sources = [f"{TOP}/tools/growth/chords.c", f"{TOOLS}/counts.c"]
+        sources = [f"{TOP}/tools/growth/tasks.c", f"{TOOLS}/counts.c"]
         run("cc", "-O2", f"-I{self.library}", "-o", program, *sources, library)
         return [program, "figures"]
-
-    def written(self):
-        program, library = f"{self.work}/written", f"{self.library}/libhedrugal.a"
-        run("cc", "-O2", f"-I{self.library}", "-o", program, f"{TOOLS}/written.c", library)
-        return [program]
 
     def cargo(self, manifest, *words):
         words = ["build", "--quiet", "--offline", "--release", "--manifest-path", manifest, *words]
@@ -182,7 +180,7 @@ RUST_LAYERS = {
 # How many bytes of text are typed at once, and of how many.
 LAYER_SIZES = {"one by one": 1, "512 at once": 512}
 LAYER_BYTES = 1 << 16
-# The tasks of tools/growth/chords.c.
+# The tasks of tools/growth/tasks.c.
 TASKS = {
     "read name": "to read the name `ctrl+x ctrl+s`",
     "print name": "to print it",
@@ -196,32 +194,37 @@ TASKS = {
     "bind drawn": "to bind a chord, of 10,000 in no order",
     "unbind drawn": "to unbind a chord of these, in no order",
 }
-# The kinds of events of tools/measure/written.c.
+# Those that write events.
 KINDS = {
-    "character": "a typed character",
-    "arrow": "an arrow key",
-    "row": "Alt and a letter, which has rows of the table",
-    "alt": "Alt and a character that has none",
-    "mouse": "a mouse report",
-    "paste": "a paste of 11 bytes",
-    "report": "a key report",
-    "focus": "a change of the focus",
-    "position": "a position of the cursor",
-    "size": "a new size",
-    "flags": "flags of Kitty's protocol",
-    "side": "a side button",
-    "csi": "a control sequence (DA1)",
-    "osc": "an OSC: a colour",
-    "dcs": "a DCS: a version",
-    "apc": "an APC: a reply of Kitty's graphics",
+    "write character": "a typed character",
+    "write arrow": "an arrow key",
+    "write row": "Alt and a letter, which has rows of the table",
+    "write alt": "Alt and a character that has none",
+    "write mouse": "a mouse report",
+    "write paste": "a paste of 11 bytes",
+    "write report": "a key report",
+    "write focus": "a change of the focus",
+    "write position": "a position of the cursor",
+    "write size": "a new size",
+    "write flags": "flags of Kitty's protocol",
+    "write side": "a side button",
+    "write csi": "a control sequence (DA1)",
+    "write osc": "an OSC: a colour",
+    "write dcs": "a DCS: a version",
+    "write apc": "an APC: a reply of Kitty's graphics",
 }
+
+
+def builder_of(chosen, work):
+    """That over the library, which is built first."""
+    progress("building the library")
+    run("make", "-s", "library", f"LIBRARY={chosen.library or ''}")
+    return Builder(f"{work}/built", chosen.library or f"{TOP}/out/lib")
 
 
 def build(chosen, work):
     """Returns the programs, why some couldn't be built, and what is measured besides."""
-    progress("building the library")
-    run("make", "-s", "library", f"LIBRARY={chosen.library or ''}")
-    builder = Builder(f"{work}/built", chosen.library or f"{TOP}/out/lib")
+    builder = builder_of(chosen, work)
     programs, missing = {}, {}
     for name in chosen.only:
         progress(f"building {name}")
@@ -236,7 +239,7 @@ def build(chosen, work):
     progress("building the layers")
     is_whole = {"Extended", "Rust", "Python Extended", "crossterm"} <= {*programs}
     layers = [Layers(work, builder.layers())] if is_whole else []
-    from_c = [Tasks(builder.tasks()), Written(builder.written())] if "Extended" in programs else []
+    from_c = [Tasks(builder.tasks())] if "Extended" in programs else []
     return programs, missing, from_c, layers
 
 
@@ -276,8 +279,6 @@ class Cell:
 class Tasks:
     """The least nanoseconds of each task, a time, and its bytes of heap."""
 
-    title, heads = "Names and bindings", ["From C", "ns", "bytes of heap"]
-
     def __init__(self, words):
         self.words, self.costs = words, {}
 
@@ -288,27 +289,10 @@ class Tasks:
             task, cost = f"{name} {of}", (time / times, heap / times)
             self.costs[task] = min(cost, self.costs.get(task, cost))
 
-    def rows(self):
-        for task, title in TASKS.items():
+    def rows(self, titles):
+        for task, title in titles.items():
             time, heap = self.costs[task]
             yield [title, figure(time), f"{heap:.0f}" if task.startswith("bind") else ""]
-
-
-class Written:
-    """The least nanoseconds of each kind of event that is written."""
-
-    title, heads = "Events to bytes", ["From C", "ns"]
-
-    def __init__(self, words):
-        self.words, self.times = words, {}
-
-    def measure(self):
-        for kind, time in map(str.split, run(*self.words).splitlines()):
-            self.times[kind] = min(float(time), self.times.get(kind, float(time)))
-
-    def rows(self):
-        for kind, title in KINDS.items():
-            yield [title, figure(self.times[kind])]
 
 
 class Layers:
@@ -383,6 +367,38 @@ def costs(many):
         yield row + [figure(cell.nanoseconds) for cell in found]
 
 
+def other_builder(chosen, work):
+    """That over the library of another commit."""
+    other = f"{work}/other"
+    run("git", "archive", "-o", f"{other}.tar", chosen.against, "prebuilt", "c", "tools/measure")
+    os.mkdir(other)
+    run("tar", "xf", f"{other}.tar", "-C", other)
+    prebuilt = f"{other}/prebuilt/{os.uname().machine}-linux"
+    shutil.copy(f"{os.environ.get('HEDRUGAL_OTHER', prebuilt)}/libhedrugal.a", f"{other}/c")
+    return Builder(f"{work}/other-built", f"{other}/c", f"{other}/tools/measure")
+
+
+def comparison(chosen, work):
+    """Measures the parser from C beside that of another commit, and returns the text."""
+    builders = builder_of(chosen, work), other_builder(chosen, work)
+    programs = {it: [each.from_c(it) for each in builders] for it in ("TERMWIZ", "EXTENDED")}
+    cells = {}
+    for name in chosen.inputs or TITLES:
+        given = Input(work, name, chosen.kilobytes << 10)
+        for dialect, both in programs.items():
+            cells[name, dialect] = [Cell(it, given, chosen.read) for it in both]
+    for number in range(chosen.runs):
+        progress(f"pass {number + 1} of {chosen.runs}")
+        for cell in sum(cells.values(), []):
+            cell.measure()
+    rows = []
+    for (name, dialect), (here, other) in cells.items():
+        costs = [it.numbers[0] / it.events for it in (here, other)]
+        differs = "other events" if here.events != other.events else ""
+        rows.append([name, dialect, *map(figure, costs), f"{costs[0] / costs[1]:.3f}", differs])
+    return table(["Input", "Dialect", "ns an event", chosen.against, "ratio", ""], rows)
+
+
 def report(chosen, work):
     """Builds and measures, and returns the text."""
     programs, missing, from_c, layers = build(chosen, work)
@@ -414,7 +430,10 @@ def report(chosen, work):
         table(["Parser", "how many", *costs_of.split(", ")], costs(many)),
     ]
     for it in from_c:
-        parts += [f"## {it.title}", table(it.heads, it.rows())]
+        heads = ["From C", "ns", "bytes of heap"]
+        parts += ["## Names and bindings", table(heads, it.rows(TASKS))]
+        written = (row[:2] for row in it.rows(KINDS))
+        parts += ["## Events to bytes", table(heads[:2], written)]
     for it in layers:
         parts += [
             "## Nanoseconds for a character through a layer over a terminal",
@@ -429,8 +448,12 @@ def number_of(text):
     return int(text)
 
 
+def words_of(text):
+    return text.split(",")
+
+
 def numbers_of(text):
-    return [number_of(number) for number in text.split(",")]
+    return [*map(number_of, words_of(text))]
 
 
 def options():
@@ -439,16 +462,12 @@ def options():
     add = parser.add_argument
     add("inputs", nargs="*", metavar="INPUT", help=f"{', '.join(TITLES)} (all)")
     add("--library", metavar="DIR", type=os.path.abspath, help="the library's folder (out/lib)")
-    add(
-        "--only",
-        metavar="PARSERS",
-        type=lambda text: text.split(","),
-        help="such as Termwiz,Extended",
-    )
+    add("--only", metavar="PARSERS", type=words_of, help="such as Termwiz,Extended")
     add("--runs", metavar="N", type=number_of, default=9, help="passes of each program (9)")
     add("--read", metavar="N", type=number_of, default=64, help="bytes of a read (64)")
     add("--kilobytes", metavar="N", type=number_of, default=256, help="of an input (256)")
     add("--parsers", metavar="LIST", type=numbers_of, default=[10000], help="how many (10000)")
+    add("--against", metavar="COMMIT", help="measures beside the library of this commit")
     add("--write", action="store_true", help="writes it all into docs/PERFORMANCE.md")
     chosen = parser.parse_args()
     chosen.only = chosen.only or [*PARSERS]
@@ -457,6 +476,8 @@ def options():
             parser.error(f"what is '{word}'? It knows {', '.join(all_)}")
     if chosen.write and (chosen.inputs or chosen.only != [*PARSERS]):
         parser.error("--write wants all inputs and all parsers")
+    if chosen.against and (chosen.write or chosen.only != [*PARSERS]):
+        parser.error("--against goes with neither --write nor --only")
     return chosen
 
 
@@ -464,7 +485,7 @@ def main():
     chosen = options()
     with tempfile.TemporaryDirectory() as work:
         try:
-            text = report(chosen, work)
+            text = (comparison if chosen.against else report)(chosen, work)
         except Missing as reason:
             sys.exit(f"performance: {reason}")
     print(text)

@@ -5,7 +5,7 @@
 #
 # REFUSALS and KEYSHOW are the programs of the crates test_calls and keyshow, else those that rt and make have built. It runs each
 # case of the first and a stream through the second again and again, and refuses one more request for memory each time
-# (tools/refusals/refuse.c, preloaded), until a run meets no refusal.
+# (tests/requests.c, preloaded), until a run meets no refusal.
 #
 # A case passes if the runs print the lines that tools/refusals/seen.txt has for it and no others, each of them at least once;
 # the first of its lines in the run that meets no refusal, and only there. keyshow passes if each run that meets a refusal
@@ -14,7 +14,6 @@
 set -u
 export LC_ALL=C
 . "$(dirname "$0")/common.sh"
-[ "${1-}" != --help ] || { show_help; exit; }
 [ $# -le 2 ] || refuse 'wants two programs at most'
 here=$(cd "$(dirname "$0")/.." && pwd)
 refusals=$(realpath -m -- "${1:-$here/crates/test_calls/out/test_calls}")
@@ -23,13 +22,13 @@ need cc gcc nm binutils
 cd "$here" || exit
 work=$(mktemp -d)
 trap 'rm -rf "$work"' EXIT
-cc -O1 -shared -fPIC -o "$work/refuse.so" tools/refusals/refuse.c || exit 1
+cc -O1 -shared -fPIC -o "$work/refuse.so" tests/requests.c || exit 1
 
-# All requests have to be calls of malloc or realloc, which refuse.c replaces.
+# All requests have to be calls of malloc or realloc, which requests.c replaces.
 for program in "$refusals" "$keyshow"; do
     [ -x "$program" ] || refuse "there is no $program"
     if nm -D "$program" | grep -qE ' U (calloc|aligned_alloc|memalign|posix_memalign|reallocarray|mmap)'; then
-        echo "refusals: $program asks for memory by a call that tools/refusals/refuse.c doesn't replace" >&2
+        echo "refusals: $program asks for memory by a call that tests/requests.c doesn't replace" >&2
         exit 1
     fi
 done
@@ -50,11 +49,12 @@ awk -F ' *[|] *' '
         for (i = 4; i <= NF; i++) print line($i + 0, " / refused" substr($i, 1 + length($i + 0)))
     }' tools/refusals/seen.txt > "$work/lines"
 
-# Runs a program with one request refused. Sets `status`: 124 if it didn't end in time. The file met has a line if it made that many.
+# Runs a program with one request refused. Sets `status`, which is 124 if it didn't end in time, and `requests`, one for each that it made.
 run_refused() { # number program words..
     status=0
     timeout -k 5 60 env REFUSE="$1" LD_PRELOAD="$work/refuse.so" "${@:2}" \
-        < "$work/stream" > "$work/out" 2> "$work/err" 3> "$work/met" || status=$?
+        < "$work/stream" > "$work/out" 2> "$work/err" 3> "$work/requests" || status=$?
+    mapfile -t requests < "$work/requests"
 }
 
 # Refuses each request of a program in turn, until a run meets no refusal or `judge` says what is wrong with it, in `wrong`.
@@ -64,7 +64,7 @@ refuse_each() { # case judge program words..
     for ((number = 1; ; number++)); do
         run_refused "$number" "${@:3}"
         "$2" "$number"
-        if [ -n "$wrong" ] || [ ! -s "$work/met" ]; then break; fi
+        if [ -n "$wrong" ] || [ ${#requests[@]} -lt "$number" ]; then break; fi
     done
     if [ -z "$wrong" ]; then
         echo "$1: passed, no refusal is met from request $number on"
@@ -78,11 +78,11 @@ refuse_each() { # case judge program words..
 }
 
 # Judges a run of test_calls. Status 3 is a refusal before the case's call, which comes before any other answer.
-judge_case() {
+judge_case() { # number
     local line granted
     line=$(cat "$work/out")
     granted=$(head -n 1 "$work/wanted")
-    if [ ! -s "$work/met" ]; then
+    if [ ${#requests[@]} -lt "$1" ]; then
         [ "$status $line" = "0 $granted" ] || { wrong='another answer without a refusal'; return; }
         echo "$line" >> "$work/seen"
         diff <(sort -u "$work/seen") <(sort "$work/wanted") > "$work/out" || wrong='not all lines of tools/refusals/seen.txt were seen'
@@ -95,7 +95,7 @@ judge_case() {
 
 # Judges a run of keyshow.
 judge_keyshow() { # number
-    if [ ! -s "$work/met" ]; then
+    if [ ${#requests[@]} -lt "$1" ]; then
         [ "$1" -gt 1 ] || wrong='no request was refused'
         [ "$status" = 0 ] && [ -s "$work/out" ] && cmp -s "$work/out" "$work/whole" || wrong='another output without a refusal, or none'
     else

@@ -12,7 +12,6 @@ set -eu
 . "$(dirname "$0")/common.sh"
 case ${1-amd64} in
     amd64 | arm64) processor=${1-amd64} ;;
-    --help) show_help; exit ;;
     *) refuse_word "$1" ;;
 esac
 need mmdebstrap mmdebstrap

@@ -3,9 +3,9 @@
 # the program, else it is out/bin/keyshow.
 #
 # The package is built with its tests and with its features that name other crates, of which each is checked alone too. It has to find the
-# library in each way that docs/rust.md names, and to say so if there is none. All tests but the longest also run under valgrind, and one
-# refuses every request for memory in turn. cargo asks no registry. The examples of the documentation are left to `cargo test`, which
-# tools/clone_test.sh runs. The last line is 'N passed, N failed', the status 1 if a case failed.
+# library in each way that docs/rust.md names, and to say so if there is none. The tests of InputParser and of the key map also run under
+# valgrind, but for the longest, and one test refuses every request for memory in turn. cargo asks no registry. The last line
+# is 'N passed, N failed', the status 1 if a case failed.
 . "$(dirname "$0")/common.sh"
 start_cases "$@"
 export KEYSHOW=$keyshow
@@ -47,7 +47,7 @@ rust_feature() { # name
 rust_features() {
     export RUSTDOCFLAGS='-D warnings'
     rust_with test --all-features --tests --examples && rust_with clippy --all-features --all-targets -- -D warnings &&
-        rust_with test --all-features --doc -- terminal crossterm && rust_with doc --all-features --no-deps
+        rust_with test --all-features --doc && rust_with doc --all-features --no-deps
 }
 
 # Builds a program over a copy of the package in a new folder, with these variables in place of the one that names the library, beside

@@ -1,5 +1,5 @@
 # Judges what tools/growth.sh counted of names, bindings, matchers and pastes that are sent; judge.awk follows. The third file has a line for each
-# task, as tools/growth/chords.c prints it. Unless the task was only timed, its instructions follow. A task of a larger size comes after the one
+# task, as tools/growth/tasks.c prints it. Unless the task was only timed, its instructions follow. A task of a larger size comes after the one
 # of a smaller size.
 BEGIN {
     # The most instructions of one time, beside those of the smaller size. A search among four times the chords takes two steps more.

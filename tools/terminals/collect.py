@@ -5,9 +5,8 @@ terminal, with what was pressed and the presses that are right.
     tools/terminals/collect.py FOLDER    reads FOLDER/*.tsv, writes tests/terminals/NAME.tsv of each
     tools/terminals/collect.py           makes the column `why` of all files anew
 
-FOLDER/NAME-LAYOUT.tsv has the keys of another layout, by their numbers, and in its last column what
-X11 calls the symbol on them. tests/terminals/README.md says what the columns mean. The reasons are
-those of the library of out/lib."""
+What a terminal sent for the keys of other layouts stays. tests/terminals/README.md says what the
+columns mean. The reasons are those of the library of out/lib."""
 import argparse
 import collections
 import re
@@ -19,20 +18,21 @@ sys.path.insert(0, str(TOP / "tests"))
 sys.dont_write_bytecode = True
 
 import conftest  # noqa: E402, F401, which finds the library
-from presses import ALT, CTRL, SHIFT, SUPER, printed  # noqa: E402
+from hedrugal import KeyPress  # noqa: E402
 from terminal_data import COLUMNS, FOLDER, KEY_MODES, Line, data_files, load  # noqa: E402
 from terminal_judge import is_exact, reader_of, told  # noqa: E402
 
-HELD = {"Shift": SHIFT, "Alt": ALT, "Ctrl": CTRL, "Super": SUPER}
+HELD = {"Super": 8, "Ctrl": 4, "Alt": 2, "Shift": 1}
+SUPER, CTRL, ALT, SHIFT = HELD.values()
 STRONG = CTRL | SUPER
 # What Shift makes of a key in the layout of the United States.
 SHIFTED = dict(zip("`1234567890-=[]\\;',./", '~!@#$%^&*()_+{}|:"<>?'))
 SIGNS = "".join(SHIFTED.values())
 NAMED = {f"F{it}": f"f{it}" for it in range(1, 25)}
-NAMED |= {it: f"{it.lower()}arrow" for it in "Up Down Left Right".split()}
-for it in "Enter Tab Backspace Escape Home End PageUp PageDown Insert Delete Pause".split():
+for it in """Up Down Left Right Enter Tab Backspace Escape Home End PageUp PageDown Insert Delete
+        Pause Menu""".split():
     NAMED[it] = it.lower()
-NAMED |= {"Space": " ", "Menu": "applications", "Print": "printscreen"}
+NAMED |= {"Space": " ", "Print": "printscreen"}
 # No press by themselves.
 MODIFIERS = "Shift_L Control_L Alt_L Super_L Caps_Lock Num_Lock Scroll_Lock".split()
 # The keys of the keypad by their names without Num Lock and with it: what is on them.
@@ -41,55 +41,11 @@ for off, on in zip(
     "Home Up PageUp Left Begin Right End Down PageDown Insert Delete".split(),
     "7 8 9 4 5 6 1 2 3 0 Decimal".split(),
 ):
-    key = NAMED.get(off, "keypadbegin")
+    key = NAMED.get(off, "begin")
     KEYPAD[on] = KEYPAD[off] = [key, on.replace("Decimal", ".")]
 for it in {"Add": "+", "Subtract": "-", "Multiply": "*", "Divide": "/", "Equal": "="}.items():
     KEYPAD[it[0]] = [it[1]]
 KEYPAD["Enter"] = ["enter"]
-
-# The layouts that have a third symbol on a key, by AltGr. In the others AltGr is Alt.
-HAS_ALTGR = ("de", "us_intl")
-# The keys of the United States by X11's numbers.
-OF_NUMBER = zip([*range(10, 22), *range(24, 36)], "1234567890-=qwertyuiop[]")
-OF_NUMBER = {str(it): key for it, key in OF_NUMBER}
-OF_NUMBER |= {str(38 + it): key for it, key in enumerate("asdfghjkl;'`")}
-OF_NUMBER |= {str(51 + it): key for it, key in enumerate("\\zxcvbnm,./")}
-# X11's names of symbols: those that are no character are dead keys.
-SYMBOLS = dict(
-    zip(
-        """ampersand asciitilde asterisk at backslash bar braceleft braceright bracketleft
-        bracketright colon comma equal greater less minus numbersign parenright period plus question
-        quotedbl quoteleft quoteright semicolon slash underscore""".split(),
-        "&~*@\\|{}[]:,=><-#).+?\"`';/_",
-    )
-)
-SYMBOLS |= dict(
-    zip(
-        """AE Aacute Adiaeresis Ccedilla Eacute Greek_OMEGA Odiaeresis Udiaeresis aacute adiaeresis
-        ae brokenbar ccedilla cent copyright degree division eacute emdash endash guillemotleft
-        guillemotright leftdoublequotemark macron masculine mu multiply notsign numerosign
-        odiaeresis oneeighth onehalf paragraph periodcentered questiondown rightdoublequotemark
-        rightsinglequotemark section seveneighths ssharp sterling threesuperior twosuperior
-        udiaeresis yen""".split(),
-        "ÆÁÄÇÉΩÖÜáäæ¦ç¢©°÷é—–«»“¯ºµ×¬№ö⅛½¶·¿”’§⅞ß£³²ü¥",
-    )
-)
-SYMBOLS |= {
-    f"Cyrillic_{name}": letter
-    for name, letter in zip(
-        "be e ef es ha hardsign io shorti softsign u ya yeru yu zhe".split(), "бэфсхъёйьуяыюж"
-    )
-}
-SYMBOLS |= {
-    f"Cyrillic_{name[9:].upper()}": letter.upper()
-    for name, letter in SYMBOLS.items()
-    if name.startswith("Cyrillic_")
-}
-
-# One key of another layout. Where a key came late, the next one's bytes begin with its own.
-ONE_KEY = re.compile(r"\x1b?(.|\x1b\[[\d:;]*[u~])", re.S)
-# That was seen in these terminals too: mosh keeps Ctrl-^ until the next key. VTE sent a key twice.
-TWO_KEYS = {"mosh": b"\x1e.+|O\x0f", "gnome-terminal": b"(\x1bA|\xe6\xbc\xa2){2}"}
 
 # Why a press isn't read: the names of the terminals, the bytes, and the reason. What a terminal
 # makes of a key beside its name:
@@ -120,16 +76,16 @@ UNIQUE = [
 ]
 
 
-def symbol(name):
-    """The character of a symbol's name or number, or None."""
-    if re.fullmatch("U?[0-9A-Fa-f]{4}", name) and not name.startswith("fe"):
-        return chr(int(name.lstrip("U"), 16))
-    return name if len(name) == 1 else SYMBOLS.get(name)
+def printed(press):
+    """The name of a press: of a character and what is held, or of a key's name and that."""
+    key, held = press
+    prefix = "".join(f"{name.lower()}+" for name, bit in HELD.items() if held & bit)
+    return prefix + (str(KeyPress(key)) if len(key) == 1 else key)
 
 
-def names(key, held, shifted=None, base=None):
+def names(key, held, shifted=None):
     """The names of a press and of its second one. `shifted` is what Shift makes of the key, if that
-    is told, and `base` the key at its place in the United States."""
+    is told."""
     first, second = (key, held), None
     is_letter = key != key.upper() and len(key) == len(key.upper()) == 1
     if len(key) == 1 and key != " " and held & SHIFT:
@@ -140,8 +96,6 @@ def names(key, held, shifted=None, base=None):
             first = shown, held & ~SHIFT
             if shown != key and held & ~SHIFT and not is_letter and key not in SIGNS:
                 second = key, held
-    if base and key >= "\x80" and held & (ALT | STRONG):
-        return [printed(first), *names(base, held, shifted_in_us(base))[:1]]
     return [printed(it) for it in (first, second) if it]
 
 
@@ -155,7 +109,7 @@ def shifted_in_us(key):
 
 
 def held_by(mods):
-    return sum(HELD[it] for it in {*mods.split("+")} - {"-", "AltGr"})
+    return sum(HELD[it] for it in {*mods.split("+")} - {"-"})
 
 
 def key_presses(name, mods):
@@ -175,34 +129,17 @@ def key_presses(name, mods):
     return names(key, held, shifted_in_us(key) if len(key) == 1 else None)
 
 
-def is_everyday(name, mods, typed=""):
+def is_everyday(name, mods):
     """Whether a key is none of F13 to F24, of the keypad, or a modifier or lock alone, and neither
     is Super held nor the character beyond ASCII."""
     is_other = re.match(r"KP_|F1[3-9]|F2\d", name) or name in MODIFIERS or "Super" in mods
-    return not is_other and (name + typed).isascii()
+    return not is_other and name.isascii()
 
 
-def us_presses(recorded):
+def presses_of(recorded):
     """Of each key and modifiers the presses, and whether it is an everyday key."""
     keys = {(name, mods) for mode, name, mods, *_ in recorded if mode in KEY_MODES}
     return {it: (key_presses(*it), is_everyday(*it)) for it in keys}
-
-
-def layout_presses(layout, recorded):
-    """The same of another layout. What a dead key gives is left out."""
-    symbols = {(name, mods): symbol(it) for _, name, mods, _, _, it in recorded}
-    found = {}
-    for _, name, mods, *_ in recorded:
-        level = ["AltGr"] * ("AltGr" in mods and layout in HAS_ALTGR)
-        held = held_by(mods if level else mods.replace("AltGr", "Alt"))
-        key = symbols.get((name, "+".join(level) or "-"))
-        shifted = symbols.get((name, "+".join(["Shift", *level])))
-        typed = shifted if held & SHIFT else key
-        if typed:
-            base = OF_NUMBER.get(name.split(":")[0])
-            told = names(key, held, shifted, base) if key else names(typed, held & ~SHIFT)
-            found[name, mods] = told, is_everyday(name, mods, typed)
-    return found
 
 
 def pressed_name(name, mods):
@@ -221,26 +158,22 @@ def joined(field):
     return bytes.fromhex(field.replace("|", ""))
 
 
-def is_odd(terminal, layout, name, data, note):
-    """Whether the bytes aren't those of the key alone."""
+def is_odd(terminal, name, data, note):
+    """Whether the bytes aren't those of the key."""
     # With Ctrl and Shift held urxvt composes a character by its number (ISO 14755). It comes when
     # they are up. The recorder presses z to see whether a terminal lives.
-    if note == "late" and (terminal == "urxvt" or data == b"z" != name.encode()):
-        return True
-    if layout:
-        return not ONE_KEY.fullmatch(data.decode("utf-8", "replace"))
-    return re.fullmatch(TWO_KEYS.get(terminal, b""), data, re.S)
+    return note == "late" and (terminal == "urxvt" or data == b"z" != name.encode())
 
 
-def key_lines(terminal, layout, recorded):
+def key_lines(terminal, recorded):
     """The lines of presses and releases, without reasons."""
-    presses = layout_presses(layout, recorded) if layout else us_presses(recorded)
+    presses = presses_of(recorded)
     sent = collections.defaultdict(dict)
     for mode, name, mods, down, up, note in recorded:
         if mode in KEY_MODES and note != "skipped" and (name, mods) in presses:
             for kind, field in (("press", down), ("release", up)):
                 data = joined(field)
-                is_left_out = is_pasted(name, data) or is_odd(terminal, layout, name, data, note)
+                is_left_out = is_pasted(name, data) or is_odd(terminal, name, data, note)
                 if data and not is_left_out:
                     sent[kind, mode].setdefault((name, mods), data)
     for mode in ("mok1", "mok2"):
@@ -271,12 +204,12 @@ def key_lines(terminal, layout, recorded):
             everyday = sum(presses[it][1] for it in them)
             key = (kind, data, " ".join(sorted(main)), also, keypad, (len(them), everyday))
             found.setdefault(key, []).append(mode)
-    return lines_of(found, layout)
+    return lines_of(found)
 
 
-def lines_of(found, layout=""):
+def lines_of(found):
     return [
-        Line(kind, layout, ",".join(modes), *more, "", *numbers)
+        Line(kind, "", ",".join(modes), *more, "", *numbers)
         for (kind, *more, numbers), modes in found.items()
     ]
 
@@ -372,13 +305,12 @@ def write(terminal, head, lines):
 
 
 def recordings(folder):
-    """The recordings by terminals: the version, and the rows of each layout."""
+    """The recordings by terminals: the version, and the rows."""
     found = {}
     for path in sorted(Path(folder).glob("*.tsv")):
         for text in path.read_text().splitlines():
             name, version, *row = (text + "\t" * 7).split("\t")[:8]
-            layout = path.stem[len(name) + 1 :]
-            found.setdefault(name, (version, {}))[1].setdefault(layout, []).append(row)
+            found.setdefault(name, (version, []))[1].append(row)
     return found
 
 
@@ -395,9 +327,8 @@ def main():
         parser.error(f"there is no recording in {folder}")
     for name, (version, recorded) in recordings(folder).items() if folder else ():
         heads[name] = f"# {name}: {version.split()[-1]} of Debian\n"
-        files[name] = other_lines(recorded.get("", []))
-        for layout in sorted(recorded, reverse=True):
-            files[name][:0] = key_lines(name, layout, recorded[layout])
+        others = [it for it in files.get(name, ()) if it.layout]
+        files[name] = key_lines(name, recorded) + others + other_lines(recorded)
     with_reasons(files)
     for name, lines in files.items():
         write(name, heads[name], lines)

@@ -194,14 +194,8 @@ class Driver:
 
     def spawn(self, words, **env):
         log = open(os.path.join(self.folder, "log"), "ab")
-        it = subprocess.Popen(
-            words,
-            stdin=subprocess.DEVNULL,
-            stdout=log,
-            stderr=log,
-            env=os.environ | env,
-            start_new_session=True,
-        )
+        how = {"stdin": subprocess.DEVNULL, "stdout": log, "stderr": log}
+        it = subprocess.Popen(words, env=os.environ | env, start_new_session=True, **how)
         self.processes.append(it)
         return it
 
@@ -319,8 +313,7 @@ class Driver:
         return frame, max(below, key=lambda it: it[0])[1] if below else frame
 
     def move_to(self, x, y):
-        xtest.fake_input(self.display, X.MotionNotify, x=x, y=y)
-        self.display.sync()
+        self.fake(X.MotionNotify, x=x, y=y)
 
     def focus(self):
         """Gives the focus to the terminal, and puts the pointer into it."""
@@ -366,24 +359,22 @@ class Driver:
             pieces += [it.split(b"\t")[1].decode() for it in lines if b"\t" in it]
             until = time.time() + quiet
 
-    def fake(self, kind, code):
-        xtest.fake_input(self.display, kind, code)
+    def fake(self, kind, code=0, x=0, y=0):
+        xtest.fake_input(self.display, kind, code, x=x, y=y)
+        self.display.sync()
 
     def tap(self, code):
         self.fake(X.KeyPress, code)
         self.fake(X.KeyRelease, code)
-        self.display.sync()
 
     def click(self, button):
         self.fake(X.ButtonPress, button)
         self.fake(X.ButtonRelease, button)
-        self.display.sync()
 
     def hold(self, mods, kind):
         for bit, code in MOD_CODES if kind == X.KeyPress else reversed(MOD_CODES):
             if mods & bit:
                 self.fake(kind, code)
-        self.display.sync()
 
     def is_alive(self):
         """Presses z until it arrives. What came with it is in `stray`."""
@@ -414,11 +405,9 @@ class Driver:
         if has_mods and mods:
             self.take(0.15, 0.04)
         self.fake(X.KeyPress, code)
-        self.display.sync()
         quiet = 0.025 if has_release else QUIET
         down = self.take(FIRST, quiet)
         self.fake(X.KeyRelease, code)
-        self.display.sync()
         up = self.take(FIRST if has_release else 0.0, quiet)
         self.hold(mods, X.KeyRelease)
         if has_mods and mods:
@@ -601,10 +590,8 @@ class Driver:
         self.move_to(x + width - 25, y + height - 25)
         self.take(0.03)
         self.fake(X.ButtonPress, 1)
-        self.display.sync()
         down = self.take(0.08)
         self.fake(X.ButtonRelease, 1)
-        self.display.sync()
         self.row(mode, "Left-corner", "-", down, self.take(0.05), "")
 
     def button(self, mode, button, mods):
@@ -613,13 +600,11 @@ class Driver:
         self.take(0.03)
         self.hold(mods, X.KeyPress)
         self.fake(X.ButtonPress, button)
-        self.display.sync()
         down, dragged = self.take(0.08), []
         if button <= 3:
             self.move_to(x + width // 3 + 60, y + height // 3 + 60)
             dragged = self.take(0.06)
         self.fake(X.ButtonRelease, button)
-        self.display.sync()
         up = self.take(0.05)
         self.hold(mods, X.KeyRelease)
         self.row(mode, BUTTONS[button], mods_name(mods), down, up, dragged)

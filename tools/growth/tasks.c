@@ -1,14 +1,20 @@
-/* What tools/growth.sh counts of names of keys, bindings and matchers.
+/* What tools/growth.sh counts of names of keys, bindings, matchers and pastes that are sent, and what tools/performance.py times.
  *
- *     chords            carries tasks out within `counted`, and prints a line of each
- *     chords figures    does so with those tasks whose time is told: tools/performance.py and tools/growth.sh read it
+ *     tasks            carries tasks out within `counted`, and prints a line of each
+ *     tasks figures    does so with those tasks whose time is told: tools/performance.py and tools/growth.sh read it
  *
  * A line has what the task does, with what, the size of that and how many times, then the bytes of memory that it took and its nanoseconds. */
+#include "counts.h"
 #include "hedrugal.h"
-#include "tasks.h"
 #include <stdint.h>
 #include <stdio.h>
 #include <string.h>
+
+/* Counts a task, which does something so many times to what has this size, and prints a line of it. */
+static void show(const char *name, const char *of, size_t size, size_t times, void (*task)(void *), void *it) {
+  cost took = counted(task, it);
+  printf("%s %s %zu %zu %zu %.0f\n", name, of, size, times, took.memory, took.time);
+}
 
 /* Texts: what each begins with, then a part again and again, and what it ends with; and what reading it answers. */
 static const struct text {
@@ -33,7 +39,7 @@ static const struct text {
   { "broken", "", "\360\237\230\200", "\377", HED_BAD_TEXT },
 };
 
-enum { SHORT_TEXT = 1 << 13, LONG_TEXT = 1 << 16 };
+enum { SHORT_TEXT = 1 << 13, LONG_TEXT = 1 << 16, TEXT_MOST = 256 };
 
 /* A text of which so many bytes are read, and how many times. */
 struct reading {
@@ -304,10 +310,87 @@ static void show_binding(size_t count, enum order order) {
   hed_bindings_free(&it.bindings);
 }
 
+/* A text that is pasted is a part again and again. */
+static const struct paste {
+  const char *name, *part;
+} pastes[] = {
+  { "plain", "all in one line " },  { "lines", "echo all lines of a text that is pasted into a shell >> notes\n" },
+  { "ideographs", "\346\274\242" }, { "escapes", "\033" },
+  { "ends", "\033[20\033[201~1~" }, { "broken", "\377" },
+};
+
+enum { SHORT_PASTE = 1 << 17, LONG_PASTE = 1 << 20, BRACKETS = 12 };
+static uint8_t pasted[LONG_PASTE], sent[3 * LONG_PASTE + BRACKETS];
+
+static void send_paste(void *given) {
+  const size_t *len = given;
+  size_t sent_len;
+  want(hed_encode_paste(pasted, *len, true, sent, sizeof sent, &sent_len) == HED_OK && sent_len <= 3 * *len + BRACKETS);
+}
+
+/* Pastes of two lengths. */
+static void show_sending(void) {
+  for (const struct paste *it = pastes; it < pastes + sizeof pastes / sizeof *pastes; it++) {
+    for (size_t at = 0, part = strlen(it->part); at < LONG_PASTE; at++) pasted[at] = (uint8_t)it->part[at % part];
+    for (size_t len = SHORT_PASTE; len <= LONG_PASTE; len *= LONG_PASTE / SHORT_PASTE) show("send", it->name, len, len, send_paste, &len);
+  }
+}
+
+/* The kinds of events, each by the bytes that it is read from. */
+static const struct kind {
+  const char *name, *bytes;
+} kinds[] = {
+  { "character", "a" },
+  { "arrow", "\033[A" },
+  { "row", "\033a" },
+  { "alt", "\033\303\251" },
+  { "mouse", "\033[<0;3;4M" },
+  { "paste", "\033[200~ls -l notes\033[201~" },
+  { "report", "\033[97;5:3u" },
+  { "focus", "\033[I" },
+  { "position", "\033[?24;80R" },
+  { "size", "\033[48;24;80;480;800t" },
+  { "flags", "\033[?5u" },
+  { "side", "\033[<128;3;4M" },
+  { "csi", "\033[?62;22c" },
+  { "osc", "\033]11;rgb:1e1e/1e1e/1e1e\033\\" },
+  { "dcs", "\033P>|xterm(390)\033\\" },
+  { "apc", "\033_Gi=31;OK\033\\" },
+};
+
+/* An event that is written, with its text, and how many times. */
+struct writing {
+  hed_parser parser;
+  hed_event event;
+  uint8_t text[TEXT_MOST];
+  size_t rounds;
+};
+
+static void write_event(void *given) {
+  const struct writing *it = given;
+  uint8_t out[TEXT_MOST];
+  size_t len;
+  for (size_t i = 0; i < it->rounds; i++)
+    want(hed_encode_event(&it->event, it->text, it->event.text_len, &it->parser, out, sizeof out, &len) == HED_OK);
+}
+
+static void show_writing(size_t rounds) {
+  struct writing it = { .parser = HED_PARSER_NONE, .rounds = rounds };
+  want(hed_parser_init(&it.parser, HED_DIALECT_EXTENDED) == HED_OK);
+  for (const struct kind *of = kinds; of < kinds + sizeof kinds / sizeof *kinds; of++) {
+    want(hed_parser_feed(&it.parser, 0, (const uint8_t *)of->bytes, strlen(of->bytes)) == HED_OK);
+    hed_parser_flush(&it.parser);
+    want(hed_parser_next(&it.parser, &it.event) == HED_OK && hed_parser_text(&it.parser, it.text, TEXT_MOST) == it.event.text_len);
+    show("write", of->name, strlen(of->bytes), rounds, write_event, &it);
+  }
+  hed_parser_free(&it.parser);
+}
+
 int main(int argc, char **argv) {
   make_chords();
   if (argc == 2 && strcmp(argv[1], "figures") == 0) {
     show_name(ROUNDS * PROBES);
+    show_writing(ROUNDS * PROBES / 10);
     show_lookups(ROUNDS);
     show_binding(FEWER, DRAWN);
     for (enum order order = RISING; order < DRAWN; order++) show_binding(MANY, order);
@@ -318,5 +401,6 @@ int main(int argc, char **argv) {
   show_lookups(1);
   for (size_t count = FEWER; count <= 4 * FEWER; count *= 4)
     for (enum order order = RISING; order < DRAWN; order++) show_binding(count, order);
+  show_sending();
   return 0;
 }
