@@ -25,6 +25,7 @@ pub mod PasteEvents
 pub mod ReadPastes
 pub mod RepliesReadBack
 pub mod ReportRows
+pub mod SaidReplies
 pub mod SideButtons
 pub mod SideReports
 pub mod SomeOptions

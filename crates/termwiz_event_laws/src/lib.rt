@@ -1,9 +1,10 @@
 //! Laws of written events, each the contract of a function without effect: what is written is read as the event, and no event that a
 //! reading emits is refused. They speak of the definitions alone. That `encode_event` follows them is said by its own contract. That of written
-//! pastes is in [`paste_laws`].
+//! pastes is in [`paste_laws`], and that of what replies say in [`reply_laws`].
 #![tactic(auto)]
 
 pub mod paste_laws;
+pub mod reply_laws;
 
 ghost use Rattle.termwiz_event_laws.specs.EventLaws.{AttributesReadBack, PositionsReadBack, ReadBack, SchemesReadBack, Whole};
 

@@ -1,0 +1,15 @@
+pub mod EscapeFlushes
+pub mod KittyThings
+pub mod LegacyTexts
+pub mod OneKeyAtOnce
+pub mod OneThings
+pub mod OtherThings
+pub mod PortThings
+pub mod ReadsOfSignals
+pub mod SomePresses
+pub mod TextsApart
+pub mod ThingsInTurn
+pub mod TimedPresses
+pub mod ToldReports
+pub mod WholeTexts
+pub mod WorkedPresses
