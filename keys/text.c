@@ -1,5 +1,6 @@
 #include "text.h"
 #include <stdarg.h>
+#include <stdbool.h>
 
 void text_add(text *it, const char *format, ...) {
   size_t room = TEXT_SIZE - it->length;
@@ -38,7 +39,8 @@ static size_t shown_length(const char *front) {
     if ((bytes[i] & 0xc0) != 0x80) return 0;
     code = code << 6 | (bytes[i] & 0x3f);
   }
-  return code >= least[length] ? length : 0;
+  bool is_surrogate = code >= 0xd800 && code < 0xe000;
+  return code >= least[length] && code <= 0x10ffff && !is_surrogate ? length : 0;
 }
 
 void text_print(FILE *out, const char *words) {

@@ -9,6 +9,7 @@ import re
 import signal
 import subprocess
 import time
+from typing import NamedTuple, Optional
 
 import pytest
 from conftest import HEDRUGAL_KEYS, TOP, entries_after
@@ -462,6 +463,50 @@ def test_stop_in_a_string(show):
     show([*begun, *ended, *begun, "-> osc cut 4:31313b72\r\n"], [], "--extended", size=WIDE)
 
 
+class Long(NamedTuple):
+    """What comes in parts: its kind, those of its parts, and what is around its text. Each part
+    brings `begin` too."""
+
+    kind: str
+    part: str
+    of: Optional[str]
+    opening: bytes
+    begin: bytes
+    end: bytes
+
+
+PASTE = Long("paste", "paste_part", None, START, b"", END)
+COMMAND = Long("osc", "string_part", "osc", b"\033]", b"52;", b"\007")
+# No two places have the same bytes around them.
+PATTERN = b"".join(b"%06x" % it for it in range(1 << 18))
+
+
+def check_parts(told, of, typed):
+    """Each byte of two long texts belongs to the part that brings it, or to their end."""
+    assert "".join(it["bytes"] for it in told) == typed.hex()
+    assert {(it["kind"], it.get("of")) for it in told} == {(of.part, of.of), (of.kind, None)}
+    assert [it["kind"] for it in told].count(of.kind) == 2 and told[-1]["kind"] == of.kind
+    for it in told:
+        brought = it["text"].encode() if "text" in it else bytes.fromhex(it["data"])
+        whole = of.opening + brought + (of.end if it["kind"] == of.kind else b"")
+        assert whole.endswith(bytes.fromhex(it["bytes"])), (it["read"], it["kind"])
+
+
+@pytest.mark.timed
+def test_stop_between_parts(start, tmp_path):
+    """Each byte belongs to the part that brings it also when it came before a stop."""
+    out = tmp_path / "out"
+    keys = start("--json", "--extended", output_to=out)
+    begun, rest = b"\033]52;" + PATTERN[:70000], PATTERN[70000:140000] + b"\007"
+    for times in (1, 2):
+        keys.send(begun)
+        keys.wait_for(lambda: out.read_text().count("string_part") == 2 * times - 1, "part")
+        keys.play([PAUSE, *STOP_AND_CONTINUE, Terminal.wait_for_raw, rest])
+        keys.wait_for(lambda: out.read_text().count('"kind":"osc"') == times, "end")
+    check_parts([*map(json.loads, out.read_text().splitlines())], COMMAND, 2 * (begun + rest))
+    keys.end()
+
+
 @pytest.mark.timed
 def test_key_that_is_due_after_a_stop(show):
     """Bytes that came meanwhile go first, since they may complete it."""
@@ -469,41 +514,11 @@ def test_key_that_is_due_after_a_stop(show):
     show([b"\033[1;5", UP_TO, *STOP, b"A", LONG_PAUSE, CONTINUE, told] * 2, [], size=WIDE)
 
 
-# Where nothing came in time the program stands still, as if it were stopped, before it sees that.
-STANDS_STILL = """
-#define _POSIX_C_SOURCE 200809L
-#include <poll.h>
-#include <time.h>
-int __real_poll(struct pollfd *ready, nfds_t count, int milliseconds);
-int __wrap_poll(struct pollfd *ready, nfds_t count, int milliseconds);
-int __wrap_poll(struct pollfd *ready, nfds_t count, int milliseconds) {
-  int found = __real_poll(ready, count, milliseconds);
-  if (found == 0 && milliseconds > 0) nanosleep(&(struct timespec){ 1, 0 }, NULL);
-  return found;
-}
-"""
-
-
 @pytest.mark.timed
-def test_bytes_that_come_before_it_looks(compiled, on_terminal, tmp_path):
+def test_bytes_that_come_before_it_looks(show, late_poll):
     """They may complete what is due."""
-    (tmp_path / "poll.c").write_text(STANDS_STILL)
-    sources = [*TOP.glob("keys/*.c"), TOP / "c/hedrugal_terminal.c", tmp_path / "poll.c"]
-    program = compiled("standing", "c11", "-Wl,--wrap=poll", f"-I{TOP}/c", *sources)
-    keys = on_terminal(Keys(program, size=WIDE))
-    for _ in range(2):
-        keys.play([b"\033", ESCAPE, 2 * PAUSE, b"[A", "(ESC) [ A -> key UpArrow NONE = up\r\n"])
-    keys.end()
-
-
-def test_sigtstp_where_no_shell_could_continue_it(start):
-    """It stops nothing: the modes are switched off and on again."""
-    keys = start("--focus", is_orphaned=True)
-    keys.kill(signal.SIGTSTP)
-    keys.wait_for(lambda: keys.output.count(b"\033[?1004h") == 2, "focus mode again")
-    assert keys.is_raw()
-    keys.send(b"b")
-    keys.end("   1  b -> key U+0062 NONE = b")
+    told = "(ESC) [ A -> key UpArrow NONE = up\r\n"
+    show([b"\033", ESCAPE, 2 * PAUSE, b"[A", told] * 2, [], size=WIDE, LD_PRELOAD=late_poll)
 
 
 def test_end_of_the_input(start):
@@ -599,6 +614,14 @@ NO_BUTTON = {"kind": "mouse", "x": 3, "y": 4, "buttons": [], "modifiers": []}
 LEFT = {**BACK, "buttons": ["LEFT"], "button": 1}
 SIZE = {"kind": "resized", "rows": 24, "columns": 80, "height": 480, "width": 800}
 OSC_CUT = {"kind": "string_cut", "of": "osc", "length": 2, "data": "343b"}
+
+
+def long_report(kind, opening, data, end=b""):
+    """The line has the first 16 of its bytes, and JSON all."""
+    told = {"kind": kind, "length": len(data), "data": data.hex()}
+    return opening + data + end, f"{kind} {len(data)}:{data[:16].hex()}..", told
+
+
 A_LINE = "key U+0061 SHIFT repeat shifted U+0041 base U+0063 text 1:41 = A"
 REPORTS = [
     (b"\033[97:65:99;2:2;65u", A_LINE, A),
@@ -620,6 +643,10 @@ REPORTS = [
     (b"\033[<0;3;4M", "mouse 3 4 LEFT NONE press 1", LEFT),
     (b"\033[35;3;4M", "mouse 3 4 NONE NONE release", {**NO_BUTTON, "action": "release"}),
     (b"\033[<35;3;4M", "mouse 3 4 NONE NONE move", {**NO_BUTTON, "action": "move"}),
+    long_report("csi", b"\033[", b"?1;2;3;4;5;6;7;8;9c"),
+    long_report("osc", b"\033]", b"52;c;YWJjZGVmZ2hp", b"\007"),
+    long_report("dcs", b"\033P", b">|abcdefghijklmnop", b"\033\\"),
+    long_report("apc", b"\033_", b"Gi=123456789012345;O", b"\033\\"),
 ]
 REPORTS_AS_LINE = " | ".join(f"{spelled(typed)} -> {line}" for typed, line, _ in REPORTS)
 REPORTS_AS_JSON = as_json((typed, told) for typed, _, told in REPORTS)
@@ -681,6 +708,14 @@ def test_printed(tmp_path, words, typed, lines):
     with open(tmp_path / "typed", "rb") as file:
         done = subprocess.run([HEDRUGAL_KEYS, *words.split()], stdin=file, capture_output=True)
     assert (done.returncode, done.stdout.decode(), done.stderr) == (0, lines, b"")
+
+
+def test_ctrl_d_twice_in_a_file(tmp_path):
+    """It ends nothing."""
+    (tmp_path / "typed").write_bytes(2 * (b"\x04\x04" + b"a" * 4094) + b"q")
+    status, out, errors = run(tmp_path / "typed")
+    assert (status, errors, out.count("U+0061")) == (0, "", 2 * 4094)
+    assert out.endswith("\n   3  q -> key U+0071 NONE = q\n")
 
 
 def test_reads_of_4096_bytes(tmp_path):
@@ -823,6 +858,14 @@ def test_pause_of_a_chord(start, bound):
     keys.end()
 
 
+@pytest.mark.timed
+def test_pause_after_each_key_of_a_chord(show, bound):
+    """It is as long after each, so that all keys together may take longer."""
+    keys = [b"a", UP_TO, 0.3, b"b", UP_TO, 0.3, b"c", UP_TO, 0.3, b"d", UP_TO, 0.3, b"e"]
+    steps = [*keys, "a b c d e -> copy\r\n"] * 2
+    show(steps, [], "--bindings", bound(b"copy a b c d e\n"), size=WIDE)
+
+
 def test_chord_without_moves(show, bound):
     """Where the cursor can't be moved, a list of keys stays, and what they did comes below."""
     lines = [f"   1  {CTRL_X}", "      ctrl+x -> waits up to 1 s for"]
@@ -851,19 +894,20 @@ def test_long_bindings(bound):
         assert run(f"--bindings={name}", typed=b"x") == (2, "", TOO_LONG)
 
 
-PASTE = ("paste", "paste_part", None), START, END
-COMMAND = ("osc", "string_part", "osc"), b"\033]52;", b"\007"
-
-
 @pytest.mark.parametrize("word, it", [("", PASTE), ("--extended", PASTE), ("--extended", COMMAND)])
 def test_parts(word, it):
-    """Each byte of two long texts belongs to one part, or to its end."""
-    (kind, part, of), begin, end = it
-    typed = 2 * (begin + b"x" * (3 << 19) + end)
-    told = [*map(json.loads, run("--json", *word.split(), typed=typed)[1].splitlines())]
-    assert "".join(it["bytes"] for it in told) == typed.hex()
-    assert {(it["kind"], it.get("of")) for it in told} == {(part, of), (kind, None)}
-    assert [it["kind"] for it in told].count(kind) == 2 and told[-1]["kind"] == kind
+    """Each byte of two long texts belongs to the part that brings it, or to their end."""
+    typed = 2 * (it.opening + it.begin + PATTERN + it.end)
+    told = run("--json", *word.split(), typed=typed)[1].splitlines()
+    check_parts([*map(json.loads, told)], it, typed)
+
+
+def test_part_decides_a_chord(bound):
+    """A key that is pending is decided before the text behind it, also while the paste is open."""
+    typed = 2 * (b"g" + START + PATTERN + END)
+    told = map(json.loads, run("--json", "--bindings", bound(), typed=typed)[1].splitlines())
+    decided = [(it["kind"], it["outcomes"]) for it in told if "outcomes" in it]
+    assert decided == 2 * [("paste_part", [did("g", "down")])]
 
 
 def test_file_on_a_terminal(tmp_path):
@@ -987,12 +1031,21 @@ NAMES = {
     "\033]0;title\007": r"\x1b]0;title\x07",
     "a\nb\177\2332J": r"a\x0ab\x7f\xc2\x9b2J",
     "\udc9b2J\udce0\udc82\udc9b\udce2\udc82": r"\x9b2J\xe0\x82\x9b\xe2\x82",
+    "\udcf0\udc80\udc82\udc9b\udced\udca0\udc80": r"\xf0\x80\x82\x9b\xed\xa0\x80",
+    "\udcf4\udc90\udc80\udc80\udcf8": r"\xf4\x90\x80\x80\xf8",
     "café\u00a0世😀\\x1b": "café\u00a0世😀\\x1b",
 }
 for name, shown in NAMES.items():
     REFUSED[f"no file {shown}"] = name, 1, f"{shown}: No such file or directory"
     REFUSED[f"unknown {shown}"] = unknown(f"--{name}")[:2] + unknown(f"--{shown}")[2:]
     REFUSED[f"also {shown}"] = f"x {name}", 2, f"wants one file, and '{shown}' is another; {MORE}"
+
+
+@pytest.mark.parametrize("name, shown", NAMES.items(), ids=NAMES.values())
+def test_wrong_bindings_in_a_file_of_this_name(tmp_path, name, shown):
+    (tmp_path / name).write_bytes(b"copy\ncopy\n")
+    wanted = "".join(f"{tmp_path}/{shown}:{line}:5: no chord\n" for line in (1, 2))
+    assert run("--bindings", f"{tmp_path}/{name}") == (2, "", wanted)
 
 
 @pytest.mark.parametrize("words, status, says", REFUSED.values(), ids=REFUSED)
