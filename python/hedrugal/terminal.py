@@ -496,34 +496,39 @@ class Terminal:
     def _take_late(self, end: float) -> bool:
         """Reads what the terminal still sends for this program, and no byte behind it. Returns
         whether nothing of it is left for the next program."""
-        count = 0 if self._was_away else self._questions.count
-        slowest = self._questions.slowest
-        if not count and not self._has_mouse:
+        if not self._questions.count and not self._has_mouse:
             return True
-        if not count and slowest is None:
+        # A signal's handler may be here in the middle of a call of the parser.
+        with Parser() as parser:
+            owed = Questions() if self._was_away else copy.copy(self._questions)
+            now = time.monotonic()
+            owed.expire(parser, now)
+            if not owed.count and not self._has_mouse:
+                return True
+            return self._take_owed(parser, owed, now, end)
+
+    def _take_owed(self, parser: Parser, owed: Questions, now: float, end: float) -> bool:
+        """Reads up to the last reply that is owed by now."""
+        slowest = self._questions.slowest
+        if not owed.count and slowest is None:
             return False
         if self._reader is not threading.current_thread() and self._reader.is_alive():
             # It may read first, and this thread would wait for another byte.
             return False
-        if not count:
+        if not owed.count:
             # The reply comes behind all mouse reports.
+            owed.ask(parser, b"", _LEAVING, now)
             write_at_once(self._output, _ATTRIBUTES, end)
-            count = 1
         end = min(end, time.monotonic() + max(_LATE, 2 * (slowest or 0.0)))
-        # A signal's handler may be here in the middle of a call of the parser.
-        with Parser() as parser:
-            questions = Questions()
-            for _ in range(count):
-                questions.ask(parser, b"", _LEAVING)
-            while questions.count and (left := end - time.monotonic()) > 0:
-                if not is_ready(self._input, select.POLLIN, left):
-                    break
-                byte = os.read(self._input, 1)
-                if not byte:
-                    break
-                for event in parser.feed(byte):
-                    questions.note(parser, event)
-            return not questions.count
+        while owed.count and (left := end - time.monotonic()) > 0:
+            if not is_ready(self._input, select.POLLIN, left):
+                break
+            byte = os.read(self._input, 1)
+            if not byte:
+                break
+            for event in parser.feed(byte):
+                owed.note(parser, event, now)
+        return not owed.count
 
     def _restore(self) -> None:
         """Does at the end of the block, or else of the process, what undoes its beginning."""
