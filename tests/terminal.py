@@ -6,22 +6,24 @@ import multiprocessing
 import os
 import re
 import signal
+import struct
 import subprocess
 import sys
 import termios
 import time
+import tty
 
+from conftest import SECONDS
 from pexpect import EOF, TIMEOUT
 from pexpect.fdpexpect import fdspawn
 
-# No wait ends earlier, so that a machine with much to do fails no case.
-SECONDS = 60
 # Longer than the 100 ms after which ESC and a byte are a key with Alt, and shorter than the second
 # after which a longer prefix is flushed; and longer than both.
 PAUSE, LONG_PAUSE = 0.2, 1.3
 # The time of a reply over a line that takes 400 ms each way.
 SLOW_LINE = 0.8
 START, END = b"\033[200~", b"\033[201~"
+END_OF_OUTPUT = b"\x1e\x1e"
 ENDING_SIGNALS = [signal.SIGHUP, signal.SIGINT, signal.SIGQUIT, signal.SIGTERM]
 IFLAG, LFLAG, CC = 0, 3, 6
 # Runs a program, and then prints what is left for the shell.
@@ -41,31 +43,43 @@ BEFORE_SHELL = ["sh", "-c", f'trap : TERM; "$0" "$@"; exec {sys.executable} -c \
 TIOCGPTPEER = 0x5441
 
 
-def change_settings(terminal, characters, on=0, off=0, off_in_input=0):
+def change_settings(terminal, characters, on=0, off=0, on_in_input=0, off_in_input=0):
     settings = termios.tcgetattr(terminal)
-    settings[IFLAG] &= ~off_in_input
+    settings[IFLAG] = settings[IFLAG] & ~off_in_input | on_in_input
     settings[LFLAG] = settings[LFLAG] & ~off | on
     for place, character in characters.items():
         settings[CC][place] = character
     termios.tcsetattr(terminal, termios.TCSANOW, settings)
 
 
-def set_unusual(terminal, erase=b"\x7f", has_icrnl=True):
+def set_unusual(terminal, erase=b"\x7f", has_icrnl=True, on_in_input=0, echoes=True, blocks=True):
     """Sets what is nobody's default, so that only a program that kept it can restore it."""
     unusual = {termios.VERASE: erase, termios.VKILL: b"\x14", termios.VINTR: b"\x07"}
+    off = termios.ECHOE if echoes else termios.ECHOE | termios.ECHO
     icrnl = 0 if has_icrnl else termios.ICRNL
-    change_settings(terminal, unusual, off=termios.ECHOE, off_in_input=icrnl)
+    change_settings(terminal, unusual, off=off, on_in_input=on_in_input, off_in_input=icrnl)
+    os.set_blocking(terminal, blocks)
+
+
+def stat_of(process):
+    """What the system tells of a process, from its state on."""
+    with open(f"/proc/{process}/stat") as stat:
+        return stat.read().rpartition(")")[2].split()
 
 
 def set_signals(handler):
-    for number in (signal.SIGHUP, signal.SIGTTOU):
+    """Of those that a shell ignores. A job has them by default, also where the tests, as a job in
+    the background, ignore some."""
+    for number in (signal.SIGHUP, signal.SIGINT, signal.SIGQUIT, signal.SIGTTOU):
         signal.signal(number, handler)
 
 
 def run_shell(words, env, group, told):
     """Runs a job in the foreground, and tells its id and each change of its status. When the job
     stops, the shell has the terminal; SIGUSR1 continues the job in the foreground. Both signals are
-    waited for, since a handler may run just before the shell waits for the job."""
+    waited for, since a handler may run just before the shell waits for the job. The terminal hangs
+    up when the shell ends, and what wasn't read is lost then. So it marks the end of the job's
+    output once it is told to, and ends when it is told again."""
     awaited = {signal.SIGCHLD, signal.SIGUSR1}
 
     def take_terminal():
@@ -89,13 +103,19 @@ def run_shell(words, env, group, told):
             if is_running:
                 os.tcsetpgrp(0, os.getpgrp())
             told.send(status)
+    told.recv()
+    with contextlib.suppress(OSError):
+        termios.tcflow(0, termios.TCOON)
+        os.write(0, END_OF_OUTPUT)
+    told.recv()
 
 
 class Terminal(fdspawn):
     """A pseudo-terminal on which a program runs. An orphaned program stays in the group of the
     shell, as below a shell without job control. The system then never stops it by SIGTSTP, since no
     shell could continue it. A stopped terminal takes nothing of what the program writes. Its
-    settings say which byte Backspace sends, and whether CR that comes is turned into LF."""
+    settings say which byte Backspace sends, whether CR that comes is turned into LF, which flags of
+    the input are on, whether it echoes, and whether a read of nothing waits."""
 
     def __init__(
         self, words, size=(80, 24), is_orphaned=False, env=None, is_stopped=False, **settings
@@ -108,11 +128,12 @@ class Terminal(fdspawn):
         self.settings_before = self.settings()
         if is_stopped:
             termios.tcflow(terminal, termios.TCOOFF)
-        self.told, told = multiprocessing.Pipe(duplex=False)
+        self.told, told = multiprocessing.Pipe()
         self.shell = os.fork()
         if not self.shell:
             try:
                 os.close(ours)
+                self.told.close()
                 os.login_tty(terminal)
                 run_shell(words, env, None if is_orphaned else 0, told)
             finally:
@@ -127,14 +148,20 @@ class Terminal(fdspawn):
         if self.is_running:
             with contextlib.suppress(ProcessLookupError):
                 self.kill(signal.SIGKILL)
+        for _ in range(2):
+            self.tell_shell()
         super().close()
         self.told.close()
         os.waitpid(self.shell, 0)
 
+    def tell_shell(self):
+        with contextlib.suppress(OSError):
+            self.told.send(None)
+
     @property
     def output(self):
         """What the program has written, as far as it was read."""
-        return self.logfile_read.getvalue()
+        return self.logfile_read.getvalue().removesuffix(END_OF_OUTPUT)
 
     def settings(self):
         return termios.tcgetattr(self.child_fd)
@@ -153,14 +180,29 @@ class Terminal(fdspawn):
         """Sets the terminal so that ^D ends the input."""
         change_settings(self.child_fd, {termios.VEOF: b"\x04"}, on=termios.ICANON)
 
+    def open_other_end(self):
+        return fcntl.ioctl(self.child_fd, TIOCGPTPEER, os.O_RDWR | os.O_NOCTTY)
+
+    def left(self):
+        """What nobody has read, as another program reads it."""
+        terminal = self.open_other_end()
+        before = termios.tcgetattr(terminal)
+        tty.setraw(terminal, termios.TCSANOW)
+        os.set_blocking(terminal, False)
+        with open(terminal, "rb", buffering=0) as rest:
+            text = rest.read(4096) or b""
+            termios.tcsetattr(terminal, termios.TCSANOW, before)
+            return text
+
     def stop_output(self, action=termios.TCOOFF):
         """Nothing of what the program writes is taken from now on; with TCOON it is again."""
-        terminal = fcntl.ioctl(self.child_fd, TIOCGPTPEER, os.O_RDWR | os.O_NOCTTY)
+        terminal = self.open_other_end()
         termios.tcflow(terminal, action)
         os.close(terminal)
 
-    def resize(self, columns, rows):
-        termios.tcsetwinsize(self.child_fd, (rows, columns))
+    def resize(self, columns, rows, width=0, height=0):
+        size = struct.pack("4H", rows, columns, width, height)
+        fcntl.ioctl(self.child_fd, termios.TIOCSWINSZ, size)
 
     def wait_for_raw(self):
         self.wait_for(self.is_raw, "raw mode")
@@ -192,7 +234,8 @@ class Terminal(fdspawn):
     def wait_for(self, holds, what):
         end = time.monotonic() + SECONDS
         while not holds():
-            self.expect(TIMEOUT, timeout=0.02)
+            if self.expect([TIMEOUT, EOF], timeout=0.02):
+                time.sleep(0.02)
             assert time.monotonic() < end, f"no {what} in {SECONDS} s after {self.output[-300:]!r}"
 
     def kill(self, number):
@@ -238,14 +281,15 @@ class Terminal(fdspawn):
 
     def state(self):
         """The letter of the system for what it does."""
-        with open(f"/proc/{self.job}/stat") as stat:
-            return stat.read().rpartition(")")[2].split()[0]
+        return stat_of(self.job)[0]
 
     def wait_for_end(self):
-        """The status with which the program ends, below zero for a signal."""
-        self.expect(EOF)
+        """The status with which the program ends, below zero for a signal. Its output is read."""
+        self.wait_for(self.told.poll, "end")
         status = os.waitstatus_to_exitcode(self.next_status())
         self.is_running = False
+        self.tell_shell()
+        self.expect([END_OF_OUTPUT, EOF])
         return status
 
     def check_end(self, status):

@@ -94,61 +94,38 @@ LINES = [
     "background: rgb:1e1e/1e1e/2e2e",
     "keyboard: KittyKeyboardFlags.DISAMBIGUATE_ESCAPE_CODES|REPORT_ALTERNATE_KEYS",
     "attributes: 62;22",
+    "typed: 0",
 ]
-SHORT = ["attributes: 6", "typed: 0"]
-# How long it waits, what comes, the lines that it prints, and the status.
+SHORT, NO_ANSWER = ["attributes: 6", "typed: 0"], "no answer to the last question in 4 s"
+BYTES = [it for byte in ROW_1 + OTHER_REPLIES for it in (bytes([byte]), 0.002)]
+CUT = b"\033]11;rgb:1e\r" + b"q" * 70000 + b"\033[?6c"
+CONTROLS = b"\033]11;r\red\x08\x0e\x7f\x9b1m\xc2\x9b2m\x07\033[?6c"
+CONTROLS_SHOWN = r"background: r\x0ded\x08\x0e\x7f\x9b1m\xc2\x9b2m"
+WITH_KEYS_AND_FOCUS = b"q\033[A" + ROW_1 + b"\033[I" + OTHER_REPLIES
+HALF = b"\033[24;80R\033[?6"
+# What comes, the lines that it prints, and the status. It waits long, if not in vain.
 PYTHON = {
-    "no reply": (1, [], ["typed: 0", "no answer to the last question in 1 s"], 1),
-    "half of the last reply": (
-        4,
-        [b"\033[24;80R\033[?6"],
-        ["cursor: row 24, column 80", "typed: 3", "no answer to the last question in 4 s"],
-        1,
-    ),
-    "all replies": (SECONDS, [ROW_1 + OTHER_REPLIES], [*LINES, "typed: 0"], 0),
-    "all replies, byte by byte": (
-        SECONDS,
-        [it for byte in ROW_1 + OTHER_REPLIES for it in (bytes([byte]), 0.002)],
-        [*LINES, "typed: 0"],
-        0,
-    ),
-    "the last reply alone": (SECONDS, [b"\033[?6c"], SHORT, 0),
+    "no reply": ([], ["typed: 0", NO_ANSWER], 1),
+    "half of the last reply": ([HALF], ["cursor: row 24, column 80", "typed: 3", NO_ANSWER], 1),
+    "all replies": ([ROW_1 + OTHER_REPLIES], LINES, 0),
+    "all replies, byte by byte": (BYTES, LINES, 0),
+    "the last reply alone": ([b"\033[?6c"], SHORT, 0),
     # No byte of a reply is taken for a key.
-    "a string that is cut": (
-        SECONDS,
-        [b"\033]11;rgb:1e\r" + b"q" * 70000 + b"\033[?6c"],
-        SHORT,
-        0,
-    ),
+    "a string that is cut": ([CUT], SHORT, 0),
     # None of a reply reaches the terminal, as one byte or in UTF-8.
-    "control characters": (
-        SECONDS,
-        [b"\033]11;r\red\x08\x0e\x7f\x9b1m\xc2\x9b2m\x07\033[?6c"],
-        [r"background: r\x0ded\x08\x0e\x7f\x9b1m\xc2\x9b2m", *SHORT],
-        0,
-    ),
-    "keys between the replies": (
-        SECONDS,
-        [b"q\033[A" + ROW_1 + b"\033[I" + OTHER_REPLIES],
-        [*LINES, "typed: 2"],
-        0,
-    ),
-    "SIGTERM": (SECONDS, [signal.SIGTERM], [], -signal.SIGTERM),
-    "SIGHUP": (SECONDS, [signal.SIGHUP], [], -signal.SIGHUP),
+    "control characters": ([CONTROLS], [CONTROLS_SHOWN, *SHORT], 0),
+    "keys between the replies": ([WITH_KEYS_AND_FOCUS], [*LINES[:-1], "typed: 2"], 0),
+    "SIGTERM": ([signal.SIGTERM], [], -signal.SIGTERM),
+    "SIGHUP": ([signal.SIGHUP], [], -signal.SIGHUP),
     # The second comes while the terminal is restored for the first.
-    "two signals": (
-        SECONDS,
-        [*STOP, signal.SIGTERM, signal.SIGHUP, CONTINUE],
-        [],
-        -signal.SIGHUP,
-    ),
+    "two signals": ([*STOP, signal.SIGTERM, signal.SIGHUP, CONTINUE], [], -signal.SIGHUP),
 }
 
 
-def asked_by_python(example, seconds, steps, status):
+def asked_by_python(example, steps, status):
     """What it prints of these steps, from raw mode on."""
     python, program = example("python", "ask")
-    words = [python, "-W", "error", program, str(seconds)]
+    words = [python, "-W", "error", program, "4" if status == 1 else str(SECONDS)]
     with Terminal(words, erase=b"\x08") as terminal:
         terminal.expect_exact(PYTHON_ASKS)
         assert terminal.before == b"" and terminal.is_raw()
@@ -157,18 +134,15 @@ def asked_by_python(example, seconds, steps, status):
         return terminal.before.decode()
 
 
-@pytest.mark.parametrize("seconds, steps, lines, status", PYTHON.values(), ids=PYTHON)
-def test_python(example, seconds, steps, lines, status):
-    printed = asked_by_python(example, seconds, steps, status)
+@pytest.mark.parametrize("steps, lines, status", PYTHON.values(), ids=PYTHON)
+def test_python(example, steps, lines, status):
+    printed = asked_by_python(example, steps, status)
     assert printed == "".join(f"{line}\r\n" for line in lines)
 
 
 def test_interrupt_of_python(example):
     """The modes are restored if the program ends by an exception."""
-    # If a shell runs the tests in the background, they ignore SIGINT, and so would the program.
-    before = signal.signal(signal.SIGINT, signal.default_int_handler)
-    printed = asked_by_python(example, SECONDS, [signal.SIGINT], -signal.SIGINT)
-    signal.signal(signal.SIGINT, before)
+    printed = asked_by_python(example, [signal.SIGINT], -signal.SIGINT)
     assert "KeyboardInterrupt" in printed
 
 

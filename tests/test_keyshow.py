@@ -11,9 +11,8 @@ import subprocess
 import tempfile
 
 import pytest
-from conftest import KEYSHOW
+from conftest import KEYSHOW, SECONDS
 
-SECONDS = 60
 PIECES = [1, 2, 3, 7, 64, 4096]
 LINE_OF_Q = b"key U+0071 NONE\n"
 

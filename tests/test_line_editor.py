@@ -5,7 +5,7 @@ import subprocess
 import sys
 
 import pytest
-from conftest import TOP
+from conftest import SECONDS, TOP
 from terminal import CONTINUE, END, START, STOP, Terminal
 
 PROGRAM = """
@@ -27,7 +27,7 @@ while True:
         print("raised", type(error).__name__, flush=True)
         break
 """
-UP, LEFT, ENTER, ESCAPE = b"\033[A", b"\033[D", b"\r", b"\033"
+UP, ESCAPE = b"\033[A", b"\033"
 # What is typed, as bytes and pauses; then the lines that the program gets.
 EMACS = {
     "text": ([b"a b\xc3\xa9"], ["a bé"]),
@@ -77,12 +77,6 @@ class Prompt(Terminal):
         self.play(["\033[6n", b"\033[1;1R", "\033[?25h"])
         assert self.is_raw()
 
-    def enter(self, steps):
-        """Types a line, and Enter once its prompt is drawn."""
-        for step in steps:
-            self.play([step])
-        self.play([ENTER, "got "])
-
 
 @pytest.fixture
 def prompt():
@@ -100,8 +94,9 @@ def prompt():
         it.close()
 
 
-def check(program, steps, lines):
-    program.enter(steps)
+def check(program, steps, lines, enter=b"\r"):
+    """Types a line, and then ends the program."""
+    program.play([*steps, enter, "got "])
     program.answer()
     program.play([b"\x04", "raised EOFError"])
     program.check_end(0)
@@ -109,16 +104,14 @@ def check(program, steps, lines):
     assert program.lines() == wanted
 
 
-@pytest.mark.timed
-@pytest.mark.parametrize("steps, lines", EMACS.values(), ids=EMACS)
-def test_emacs(prompt, steps, lines):
-    check(prompt(PROGRAM.format(how={})), steps, lines)
+MODES = [pytest.param({}, *it, id=f"emacs, {name}") for name, it in EMACS.items()]
+MODES += [pytest.param({"vi_mode": True}, *it, id=f"vi, {name}") for name, it in VI.items()]
 
 
 @pytest.mark.timed
-@pytest.mark.parametrize("steps, lines", VI.values(), ids=VI)
-def test_vi(prompt, steps, lines):
-    check(prompt(PROGRAM.format(how={"vi_mode": True})), steps, lines)
+@pytest.mark.parametrize("how, steps, lines", MODES)
+def test_lines(prompt, how, steps, lines):
+    check(prompt(PROGRAM.format(how=how)), steps, lines)
 
 
 @pytest.mark.parametrize("has_icrnl", [True, False], ids=["ICRNL", "no ICRNL"])
@@ -127,16 +120,13 @@ def test_vi(prompt, steps, lines):
 def test_settings(prompt, erase, has_icrnl, enter):
     """The bytes 8 and 127 are Backspace to prompt_toolkit, and CR and 10 end a line."""
     program = prompt(PROGRAM.format(how={}), erase=erase, has_icrnl=has_icrnl)
-    program.play([b"abc\b\x7fd" + enter, "got 'ad'"])
-    program.answer()
-    program.play([b"\x04", "raised EOFError"])
-    program.check_end(0)
+    check(program, [b"abc\b\x7fd"], ["ad"], enter)
 
 
 def test_pipe():
     """The same if the input is no terminal."""
     words = [sys.executable, "-W", "error", "-c", PROGRAM.format(how={})]
-    done = subprocess.run(words, input=b"abc\b\x7fd\nxy\r", capture_output=True, timeout=60)
+    done = subprocess.run(words, input=b"abc\b\x7fd\nxy\r", capture_output=True, timeout=SECONDS)
     lines = re.findall(rb"(?:got|raised) [^\r\n]*", done.stdout)
     assert (done.returncode, lines) == (0, [b"got 'ad'", b"got 'xy'", b"raised EOFError"])
 

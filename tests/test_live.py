@@ -2,40 +2,25 @@
 python/examples, and those in rust/examples/with, which do the same on tokio's runtime and in a
 loop of mio.
 
-However it ends or stops, a program has to print the right lines, leave the terminal's settings as
-they were, and switch off the modes that it switched on."""
+Each prints the right lines, leaves the terminal's settings as they were, and switches off the modes
+that it switched on. What its terminal promises besides is in tests/scenarios."""
 import re
 import signal
 import time
 
 import pytest
 from conftest import HEDRUGAL_KEYS, TOP, run_without_terminal
-from terminal import END, ENDING_SIGNALS, LONG_PAUSE, PAUSE, START, Terminal
+from terminal import END, LONG_PAUSE, PAUSE, START, Terminal
 
 LIMIT = 1 << 20
 MODES = {1003, 1006, 2004}
 SIZE = "size 80 x 24"
 FOUR_KEYS = ["UpArrow", "Enter", "Function 5", "UpArrow ctrl"]
 TWO_REPORTS = ["mouse at 3, 4, buttons 2", "mouse at 3, 4, buttons 0"]
-ALT_BRACKET = "Char U+005B alt"
-HELD_KEY = [b"\033]", "Char U+005D alt\r\n", *[b"j", "Char U+006A\r\n", 0.03] * 20]
-PASTE_OF_5 = [START + b"q\033", PAUSE, b"b\r", LONG_PAUSE, b"q" + END]
-# What is typed, as bytes, pauses in seconds, and texts to wait for; then the lines that it prints.
-TYPED = {
-    "characters": ([b"a\xc3\xa9"], ["Char U+0061", "Char U+00E9"]),
-    "keys with names": ([b"\033[A\r\033[15~\033[1;5A"], FOUR_KEYS),
-    "^C and ^Z as keys": ([b"\x03\x1a"], ["Char U+0063 ctrl", "Char U+007A ctrl"]),
-    "Escape alone": ([b"\033", "Escape\r\n", b"x"], ["Escape", "Char U+0078"]),
-    "Alt-Escape": ([b"\033\033", "Escape alt\r\n"], ["Escape alt"]),
-    "Alt-x": ([b"\033x"], ["Char U+0078 alt"]),
-    "Alt-[, and A two seconds later": ([b"\033[", 2.0, b"A"], [ALT_BRACKET, "Char U+0041"]),
-    "Alt-], and a held key": (HELD_KEY, ["Char U+005D alt", *["Char U+006A"] * 20]),
-    "an arrow, cut after ESC": ([b"\033", 0.005, b"[A"], ["UpArrow"]),
-    "a key, cut by a pause": ([b"\033[1;", PAUSE, b"5A"], ["UpArrow ctrl"]),
-    "a mouse report, cut by a pause": ([b"\033[<0;3", PAUSE, b";4M\033[<0;3;4m"], TWO_REPORTS),
-    "a character, cut by a pause": ([b"\xc3", LONG_PAUSE, b"\xa9"], ["Char U+00E9"]),
-    "a paste, cut by pauses": (PASTE_OF_5, ["paste of 5 bytes"]),
-}
+# What is typed, and the lines that it prints.
+TYPED = b"a\xc3\xa9\033[A\r\033[15~\033[1;5A\x03\x1a\033[<0;3;4M\033[<0;3;4m" + START + b"q\r" + END
+LINES = ["Char U+0061", "Char U+00E9", *FOUR_KEYS, "Char U+0063 ctrl", "Char U+007A ctrl"]
+LINES += [*TWO_REPORTS, "paste of 2 bytes"]
 
 
 class Live(Terminal):
@@ -76,33 +61,22 @@ def start(program, on_terminal):
     return lambda *words, **how: on_terminal(Live([*program, *words], **how))
 
 
-def case(name, steps, lines):
-    """What follows a pause may have to come in time."""
-    is_timed = any(isinstance(it, float) for it in steps)
-    return pytest.param(steps, lines, id=name, marks=[pytest.mark.timed] * is_timed)
+def test_events(start):
+    """Twice, with a stop and a new size between."""
+    live = start("--mouse", erase=b"\b")
+    for _ in range(2):
+        live.play([TYPED, "paste of 2 bytes\r\n", b"\b", "Backspace\r\n", (100, 40)])
+        live.play(["size 100 x 40\r\n", (80, 24), f"{SIZE}\r\n"])
+        live.stop_and_continue()
+        live.wait_for_raw_again()
+    live.quit(*[*LINES, "Backspace", "size 100 x 40", SIZE, SIZE] * 2)
 
 
-@pytest.mark.parametrize("steps, lines", [case(name, *it) for name, it in TYPED.items()])
-def test_typed(start, steps, lines):
-    live = start()
-    live.play(steps)
-    live.quit(*lines)
-
-
-# What VERASE is, and the keys of the bytes 8 and 127.
-ERASES = {
-    "127": (b"\x7f", ["Char U+0008", "Backspace"]),
-    "8": (b"\b", ["Backspace", "Char U+007F"]),
-}
-
-
-@pytest.mark.parametrize("has_icrnl", [True, False], ids=["ICRNL", "no ICRNL"])
-@pytest.mark.parametrize("erase, lines", ERASES.values(), ids=ERASES)
-def test_settings(start, erase, lines, has_icrnl):
-    """Backspace sends what they say. Byte 10 is Ctrl-J, since raw mode passes CR on."""
-    live = start(erase=erase, has_icrnl=has_icrnl)
-    live.send(b"\b\x7f\n\r")
-    live.quit(*lines, "Char U+000A", "Enter")
+@pytest.mark.parametrize("number", [signal.SIGTERM, signal.SIGINT], ids=lambda it: it.name)
+def test_signal(start, number):
+    live = start("--mouse")
+    live.play([b"a", "Char U+0061\r\n", number])
+    live.check_end(-number, "Char U+0061")
 
 
 @pytest.mark.parametrize("word", ["", "--mouse"])
@@ -127,83 +101,6 @@ def test_paste_over_the_limit(start, pause):
         rest = len(text + b"rm -rf ~\rq") - taken
         lines += [line, f"paste of {rest} bytes", "Char U+0078"]
     live.quit(*lines)
-
-
-@pytest.mark.parametrize("around, lines", [([b"", b""], []), ([START, END], ["paste of 0 bytes"])])
-def test_new_size(start, around, lines):
-    """Also within a paste."""
-    live = start()
-    live.play([around[0], (100, 40), "size 100 x 40\r\n", around[1]])
-    live.quit("size 100 x 40", *lines)
-
-
-@pytest.mark.parametrize("last, line", [(b"\033", "Escape"), (b"\033[", ALT_BRACKET)])
-def test_end_of_the_input(start, last, line):
-    """What is buffered is flushed. The first ^D ends a read, and the second the input."""
-    live = start()
-    live.let_end_input()
-    live.send(b"z" + last + b"\x04\x04")
-    live.check_end(0, "Char U+007A", line)
-
-
-def test_terminal_that_is_gone(start):
-    live = start()
-    live.hang_up()
-    live.wait_for_end()
-
-
-@pytest.mark.parametrize("number", ENDING_SIGNALS, ids=lambda it: it.name)
-def test_signal(start, number):
-    live = start("--mouse")
-    live.play([b"a", "Char U+0061\r\n", number])
-    live.check_end(-number, "Char U+0061")
-
-
-def test_sigtstp_and_sigcont_twice(start):
-    """A paste stays open, and the beginning of a key no longer counts."""
-    live = start("--mouse")
-    for begun, rest in ((START + b"b", b"\r" + END), (b"\033[1;5", b"A")):
-        live.play([START + b"a" + END + begun, "paste of 1 bytes"])
-        live.stop_and_continue()
-        live.wait_for_raw_again()
-        assert live.modes() == MODES
-        live.send(rest)
-    live.quit("paste of 1 bytes", SIZE, "paste of 2 bytes", "paste of 1 bytes", SIZE, "Char U+0041")
-
-
-def test_sigcont_in_the_background(start):
-    """A program in the background that sets the terminal is stopped."""
-    live = start()
-    live.play([Terminal.stop, signal.SIGCONT, Terminal.wait_for_stop])
-    assert live.settings() == live.settings_before
-    live.continue_in_foreground()
-    live.wait_for_line(SIZE)
-    live.send(b"q")
-    super(Live, live).check_end(0)
-    assert live.lines()[-1] == "Char U+0071"
-
-
-def test_sigterm_while_it_is_stopped(start):
-    """A shell has the terminal: a program that set it now would be stopped once more."""
-    live = start()
-    live.stop()
-    live.end_by(signal.SIGTERM, signal.SIGCONT)
-
-
-def test_sigstop_and_sigcont(start):
-    """SIGSTOP can't be handled. A shell sets the terminal as it likes meanwhile."""
-    live = start()
-    live.stop_and_continue(signal.SIGSTOP)
-    live.wait_for_raw_again()
-    live.quit(SIZE)
-
-
-def test_sigtstp_where_no_shell_could_continue_it(start):
-    """Raw mode comes back at once."""
-    live = start(is_orphaned=True)
-    live.kill(signal.SIGTSTP)
-    live.wait_for_raw_again()
-    live.quit(SIZE)
 
 
 # The words behind each program.

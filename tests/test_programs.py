@@ -410,6 +410,14 @@ class Serving(Terminal):
         self.type(cut, b"\xa9")
         self.wait_for_printed(cut, "up", "ctrl+up", "é")
 
+    def check_pastes(self, place):
+        """A paste is no key, however long it is."""
+        for text in (b"a\r\033[A", b"q\r" * PASTE_LIMIT):
+            typed = memoryview(START + text + END + b"b")
+            while typed:
+                typed = typed[os.write(self.typing[place], typed[:1024]) :]
+            self.wait_for_printed(place, "b")
+
 
 class Server(Serving):
     def __init__(self, program, folder):
@@ -542,11 +550,7 @@ def test_escape_and_cut_of_the_server(server):
 
 
 def test_paste_of_the_server(server):
-    """It is no key, however long it is."""
-    place = server.take_in()
-    for text in (b"a\r\033[A", b"q\r" * PASTE_LIMIT):
-        server.sockets[place].sendall(START + text + END + b"b")
-        server.wait_for_printed(place, "b")
+    server.check_pastes(server.take_in())
 
 
 def test_terminals_that_leave(server):
@@ -599,12 +603,7 @@ def test_settings_of_many(many):
 
 
 def test_paste_of_many(many):
-    it = many(2)
-    for text in (b"a\r\033[A", b"q\r" * PASTE_LIMIT):
-        typed = memoryview(START + text + END + b"b")
-        while typed:
-            typed = typed[os.write(it.typing[1], typed[:1024]) :]
-        it.wait_for_printed(1, "b")
+    many(2).check_pastes(1)
 
 
 def test_terminals_that_hang_up(many):

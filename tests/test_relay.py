@@ -10,7 +10,6 @@ import re
 import select
 import signal
 import socket
-import subprocess
 import sys
 import threading
 from dataclasses import replace
@@ -185,11 +184,19 @@ LEGACY_TO_ANY = {
     "all flags": (b"\033[>31u", b"aA\r\t", b"\033[97;;97u\033[65;;65u\033[13u\033[9u"),
     "modifyOtherKeys": (b"\033[>4;2m", b"\033[27;5;105~\t", b"\033[27;5;105~\t"),
 }
-
-
+# What the terminal sends is passed on, whether the child asked for it or not.
+REPLIES = {
+    "attributes": b"\033[?62;22c\033[>1;10;0c",
+    "a mode": b"\033[?2026;2$y",
+    "a colour": b"\033]11;rgb:1e1e/1e1e/1e1e\033\\",
+    "a version": b"\033P>|XTerm(379)\033\\",
+    "graphics": b"\033_Gi=31;OK\033\\",
+    "a size": b"\033[48;24;80;480;800t\033[8;24;80t",
+}
+SAME = {name: (b"", reply, reply) for name, reply in REPLIES.items()}
 KEYS = [
     pytest.param(has_kitty, *it, id=name)
-    for has_kitty, table in ((True, KITTY_TO_LEGACY), (False, LEGACY_TO_ANY))
+    for has_kitty, table in ((True, KITTY_TO_LEGACY), (False, LEGACY_TO_ANY | SAME))
     for name, it in table.items()
 ]
 
@@ -313,6 +320,7 @@ WHEEL, MOVE, FAR = b"\033[<80;3;4M", b"\033[<35;6;4M", b"\033[<2;300;4M\033[<2;3
 CLICK, ALL = PRESS + RELEASE, PRESS + DRAG + RELEASE + WHEEL + MOVE + FAR
 SIDE = b"\033[<128;3;4M\033[<128;3;4m"
 NO_MOVES = CLICK + WHEEL + FAR + SIDE
+FOCUS = b"\033[I\033[O"
 # The modes of the child, those of the terminal, what it sends, and what the child gets.
 REPORTS = {
     "9": ("9", "1000 1006", CLICK + WHEEL + SIDE, b"\033[M #$\033[M`#$"),
@@ -326,6 +334,7 @@ REPORTS = {
     "1003 and 1006": ("1000;1003;1006", "1003 1006", ALL, ALL),
     "1003 and 1016": ("1003;1016", "1003 1006 1016", ALL, ALL),
     "1005": ("1000;1005", "1000 1006", CLICK, b"\033[M #$\033[M#%$"),
+    "the focus": ("1004", "1004", FOCUS, FOCUS),
 }
 
 
@@ -334,14 +343,14 @@ def switches(modes):
 
 
 @pytest.mark.parametrize("modes, told, sent, got", REPORTS.values(), ids=REPORTS)
-def test_mouse(relay, modes, told, sent, got):
-    relay.check_keys(ALL, b"")
+def test_reports(relay, modes, told, sent, got):
+    relay.check_keys(ALL + FOCUS, b"")
     relay.passes(f"\033[?{modes}h".encode(), switches(told))
     relay.check_keys(sent, got)
     relay.child.do(b"w", f"\033[?{modes}l|".encode())
     relay.expect_exact("|")
     assert not relay.modes() - {2004}
-    relay.check_keys(ALL, b"")
+    relay.check_keys(ALL + FOCUS, b"")
 
 
 def test_two_buttons(relay):
@@ -351,14 +360,6 @@ def test_two_buttons(relay):
     relay.check_keys(down + up, down + up)
     relay.passes(b"\033[?1006l")
     relay.check_keys(down + up, b'\033[M !!\033[M"!!' + 2 * b"\033[M#!!")
-
-
-def test_focus(relay):
-    relay.check_keys(b"\033[I\033[O", b"")
-    relay.passes(b"\033[?1004h", b"\033[?1004h")
-    relay.check_keys(b"\033[I\033[O", b"\033[I\033[O")
-    relay.passes(b"\033[?1004l", b"\033[?1004l")
-    relay.check_keys(b"\033[I", b"")
 
 
 # What the terminal sends; what the child gets with mode 2004, and without.
@@ -477,22 +478,6 @@ def test_reset(relay, reset):
     relay.check_keys(b"\033[A\033[97;;97u", b"\033[Aa")
 
 
-# What the terminal sends is passed on, whether the child asked for it or not.
-REPLIES = {
-    "attributes": b"\033[?62;22c\033[>1;10;0c",
-    "a mode": b"\033[?2026;2$y",
-    "a colour": b"\033]11;rgb:1e1e/1e1e/1e1e\033\\",
-    "a version": b"\033P>|XTerm(379)\033\\",
-    "graphics": b"\033_Gi=31;OK\033\\",
-    "a size": b"\033[48;24;80;480;800t\033[8;24;80t",
-}
-
-
-@pytest.mark.parametrize("reply", REPLIES.values(), ids=REPLIES)
-def test_replies(relay, reply):
-    relay.check_keys(reply, reply)
-
-
 @on_both
 def test_position(relay):
     """The reply has the form that was asked for, and without a question it is a key."""
@@ -569,26 +554,10 @@ def test_escape(start):
     relay.end()
 
 
-# For a program, each wait that finds nothing ends so late as if it were stopped there.
-LATE_POLL = """#define _GNU_SOURCE
-#include <poll.h>
-#include <unistd.h>
-int poll(struct pollfd *polled, nfds_t count, int ms) {
-  struct timespec time = {ms / 1000, ms % 1000 * 1000000L};
-  int ready = ppoll(polled, count, ms < 0 ? NULL : &time, NULL);
-  if (ready == 0) usleep(400000);
-  return ready;
-}
-"""
-
-
 @pytest.mark.timed
-def test_sequence_that_comes_while_it_is_stopped(start, tmp_path):
+def test_sequence_that_comes_while_it_is_stopped(start, late_poll):
     """Its limit has passed then. It is read before anything is flushed."""
-    source, library = tmp_path / "late.c", tmp_path / "late.so"
-    source.write_text(LATE_POLL)
-    subprocess.run(["cc", "-shared", "-fPIC", "-o", library, source], check=True)
-    relay = start(env=os.environ | {"LD_PRELOAD": str(library)})
+    relay = start(env=os.environ | {"LD_PRELOAD": late_poll})
     relay.passes(b"\033[?1h")
     for _ in range(2):
         relay.play([b"\033", PAUSE])
@@ -638,6 +607,7 @@ def stop_and_continue(relay, number=signal.SIGTSTP, on=""):
     assert relay.is_raw()
 
 
+@pytest.mark.timed
 @on_kitty
 @pytest.mark.parametrize("number", [signal.SIGTSTP, signal.SIGSTOP], ids=lambda it: it.name)
 def test_stop(relay, number):
@@ -692,6 +662,7 @@ def test_stop_within_a_reply(start):
     relay.end()
 
 
+@pytest.mark.timed
 def test_stop_within_a_question(start):
     """It counts no more: what looks like the position is a key, and attributes are the child's."""
     relay = start(replies=False)
@@ -702,6 +673,7 @@ def test_stop_within_a_question(start):
     relay.end()
 
 
+@pytest.mark.timed
 @pytest.mark.parametrize("number", [signal.SIGCONT, signal.SIGSTOP], ids=lambda it: it.name)
 def test_stop_where_nobody_has_the_terminal(start, number):
     """Nothing comes of it, within a paste or a sequence."""
