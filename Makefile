@@ -278,7 +278,7 @@ check-install := tools/install_test.sh
 check-packages := tools/package_test.sh
 check-clone := tools/clone_test.sh
 check-tests-arm64 := tools/clone_test.sh arm64 tests
-check-docs := tools/docs.sh --library $(lib) --only links,c,rust,python,rattle,lines
+check-docs := tools/docs.sh --library $(lib) --only links,table,c,rust,python,rattle,lines
 check-fuzz := tools/fuzz.sh 30
 check-axioms := tools/axioms.sh keyshow $(processors:%=out/build/keyshow-%.log)
 check-growth := tools/growth.sh out/build/libfeed.a
@@ -305,11 +305,7 @@ check: all ## runs the tests that need no kit; CHECKS="c rust" names the parts, 
 	for part in $(or $(CHECKS),$(every_check)); do \
 	  if $(if $(CHECKS),true,[[ ' $(kit_checks) ' != *" $$part "* ]] && tools/needs.sh "$$part"); then run+=("$$part"); else left+=("$$part"); fi; \
 	done; \
-	for part in "$${run[@]}"; do \
-	  tools/gate.sh part "$$part" "make -s check-$$part LIBRARY='$(lib)' KEYSHOW='$(keyshow)'" || true; \
-	done; \
-	[ $${#left[@]} = 0 ] || echo "check: left out: $${left[*]}"; \
-	tools/gate.sh table "$${run[@]}"
+	exec tools/gate.sh check "make -s check-% LIBRARY='$(lib)' KEYSHOW='$(keyshow)'" "$${run[*]}" "$${left[*]}"
 
 lint: check-lint ## checks the layout of the sources in C, Rust and Python, and runs flake8 and shellcheck
 
@@ -337,8 +333,7 @@ gate_checks := $(filter-out ci library,$(gate_parts))
 gate: ## proves everything from nothing, tries the must-fail edits, and runs every test
 	@tools/needs.sh all
 	@rm -rf out crates/*/out/rlib
-	@$(MAKE) --no-print-directory -k -j$(JOBS) gate-parts GATE=yes LIBRARY= KEYSHOW= RLIBS= || true
-	@tools/gate.sh table $(gate_parts)
+	@exec tools/gate.sh gate '$(MAKE) --no-print-directory -k -j$(JOBS) gate-parts GATE=yes LIBRARY= KEYSHOW= RLIBS=' $(gate_parts)
 
 gate-parts: $(addprefix gate-,$(gate_parts))
 gate-ci:

@@ -19,7 +19,7 @@ counting=-Wl,--wrap=malloc,--wrap=realloc,--wrap=free
 # The archive asks for functions of the C library alone, and has the calls of the header and no others.
 check_names() {
     nm -u "$archive" | awk 'NF == 2 && $2 !~ /^(malloc|realloc|free|memcpy|memmove|memset)$/ { print "asks for " $2; bad = 1 } END { exit bad }' &&
-        diff <(nm -g --defined-only "$archive" | awk 'NF == 3 { print $3 }' | sort) <(library_calls | sort)
+        same <(nm -g --defined-only "$archive" | awk 'NF == 3 { print $3 }' | sort) <(library_calls | sort)
 }
 
 # What the example prints.
@@ -40,11 +40,11 @@ build() { # name program [words..]
 }
 
 run() { # program words..
-    timeout 600 "${emulator[@]}" "$@"
+    timeout 1h "${emulator[@]}" "$@"
 }
 
 memcheck() { # words..
-    timeout 300 valgrind --quiet --error-exitcode=9 --leak-check=full --errors-for-leak-kinds=all "$@"
+    timeout 1h valgrind --quiet --error-exitcode=9 --leak-check=full --errors-for-leak-kinds=all "$@"
 }
 
 check 'names in the archive' check_names
@@ -53,7 +53,7 @@ check 'example' check_example "$work/events"
 check 'example as C++' "$cxx" -std=c++11 "${strict[@]}" -I"$library" -xc++ c/events.c -xnone "${shared[@]}" -o "$work/events_cpp"
 check 'example with the shared library' check_example "$work/events_cpp"
 check 'example by pkg-config' example_by_pkg_config
-for name in cases parser encode presses bindings keymap questions; do check "build of test_$name" build test_$name $name; done
+for name in cases parser encode presses press_to_press bindings keymap questions; do check "build of test_$name" build test_$name $name; done
 for name in cases parser; do
     check "build of test_$name with the shared library" \
         "$cc" -std=c99 "${strict[@]}" -I"$library" c/test_$name.c "${shared[@]}" -o "$work/${name}_shared"
@@ -62,7 +62,7 @@ check 'build of test_refusals' build test_refusals refusals "$counting"
 check 'build of test_sharing' build test_sharing sharing -pthread
 check "build of the kit's functions" build test_kit kit c/kit/heap.c c/kit/system.c "$counting"
 for name in ask live edit prompt list server many; do check "program $name as C99" build $name $name c/hedrugal_terminal.c; done
-for name in parser encode bindings keymap questions sharing refusals parser_shared; do check "test_$name" run "$work/$name"; done
+for name in parser encode press_to_press bindings keymap questions sharing refusals parser_shared; do check "test_$name" run "$work/$name"; done
 check 'test_presses' run "$work/presses" c/hedrugal.h
 for name in cases cases_shared; do check "test_$name" run "$work/$name" tests/cases; done
 check "the kit's functions" run "$work/kit" one ''
@@ -71,9 +71,9 @@ if [ ${#emulator[@]} -gt 0 ] || ! command -v valgrind > /dev/null; then
     print_counts
     exit
 fi
-for name in parser encode bindings keymap questions sharing; do check "test_$name under valgrind" memcheck "$work/$name"; done
+for name in parser encode press_to_press bindings keymap questions sharing; do check "test_$name under valgrind" memcheck "$work/$name"; done
 check 'test_presses under valgrind' memcheck "$work/presses" c/hedrugal.h
 check 'test_cases under valgrind' memcheck "$work/cases" tests/cases
 check 'test_refusals under valgrind' memcheck "$work/refusals" 1000
-check 'test_sharing under helgrind' timeout 300 valgrind --tool=helgrind --quiet --error-exitcode=9 "$work/sharing"
+check 'test_sharing under helgrind' timeout 1h valgrind --tool=helgrind --quiet --error-exitcode=9 "$work/sharing"
 print_counts

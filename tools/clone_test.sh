@@ -19,9 +19,9 @@ processor=${1:-amd64} cases=${2:-all}
 root=$(tools/root.sh "$processor") || exit
 work=$(mktemp -d)
 trap 'rm -rf "$work"' EXIT
-user=(--map-root-user) machine=$(uname -m) seconds=600 compiler=''
+user=(--map-root-user) machine=$(uname -m) compiler=''
 case $processor in
-    arm64) machine=aarch64 seconds=1800 compiler=$(tools/root.sh amd64) || exit ;;
+    arm64) machine=aarch64 compiler=$(tools/root.sh amd64) || exit ;;
     *) [ "$(id -u)" != 0 ] || user=() ;;
 esac
 prebuilt=prebuilt/$machine-linux
@@ -29,7 +29,7 @@ prebuilt=prebuilt/$machine-linux
 # Runs a script of bash in the clone on that machine. It can write to the home folder, to that of temporary files and to /usr/local.
 on_machine() { # script
     # shellcheck disable=SC2016
-    timeout --signal=KILL "$seconds" unshare "${user[@]}" --mount --net --pid --kill-child --fork bash -euc '
+    timeout --signal=KILL 2h unshare "${user[@]}" --mount --net --pid --kill-child --fork bash -euc '
         if [ "$4" = aarch64 ]; then
             mount -t binfmt_misc none /proc/sys/fs/binfmt_misc
             cat /usr/lib/binfmt.d/qemu-aarch64.conf > /proc/sys/fs/binfmt_misc/register
@@ -77,7 +77,7 @@ program="cargo init --quiet --vcs none ~/program; cd ~/program; ln -s ~/hedrugal
 
 # The longest tests in Python, for pytest, and the files of those that start programs.
 longest_in_python='completions or parse-rows or encodings or nothing_else or dicts or test_backend or test_documents or test_library'
-longest_in_python+=' or test_memory or test_threads'
+longest_in_python+=' or test_threads'
 
 # Makes the packages for both processors, of another clone.
 make_packages() {
@@ -104,11 +104,11 @@ run_listings() { # headings..
 
 # Waits until a file has a text.
 # shellcheck disable=SC2016
-waits='waits() { timeout 600 bash -c "until grep -qs $1 $2; do sleep 0.2; done"; }'
+waits='waits() { timeout 1h bash -c "until grep -qs $1 $2; do sleep 0.2; done"; }'
 
 # Types keys once the example has begun, which is when it says how it ends.
 live="$waits; { waits ends ~/shown; printf '\\033[A'; printf q; } |
-    timeout 600 script -qefc '$(command_of 'cd rust && cargo run')' ~/shown && grep UpArrow ~/shown"
+    timeout 1h script -qefc '$(command_of 'cd rust && cargo run')' ~/shown && grep UpArrow ~/shown"
 
 page="$waits; cd /root/own; $(command_of './v/bin/python -m') > /root/address & trap 'kill \$!' EXIT
     waits http /root/address

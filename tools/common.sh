@@ -97,6 +97,12 @@ listed() { # folder
     find "$1" -type l -printf '%P -> %l\n' -o -type f -printf '%P %m\n' | sort
 }
 
+# Compares two lists. An empty one is like no other.
+same() { # file file
+    local list
+    list=$(cat "$1") && [ -n "$list" ] && diff <(echo "$list") "$2"
+}
+
 # Prints the shared libraries that a program or library needs.
 needed() { # file
     readelf -dW "$1" | grep -o 'Shared library: .*'
@@ -105,7 +111,7 @@ needed() { # file
 # Whether a shared library has the name by which programs ask for it, and exports the calls of the header alone.
 check_exports() { # file
     readelf -dW "$1" | grep -F "soname: [libhedrugal.so.$major]" &&
-        diff <(nm -D --defined-only "$1" | awk '{ print $3 }' | sort) <(library_calls | sort)
+        same <(nm -D --defined-only "$1" | awk '{ print $3 }' | sort) <(library_calls | sort)
 }
 
 # Sets $view to the words before a command by which it finds these folders empty, or to none if the system lets no program hide folders.
@@ -123,18 +129,27 @@ find_view() { # folders..
 longest_in_rust=(--skip streams --skip recorded --skip generated --skip undecided --skip long::reads --skip compared --skip names::texts --skip twins
     --skip terminals::)
 
+# Prints how many tests have passed by the words of cargo, pytest and programs in C, if any has.
+tests_in() { # log
+    sed -nE 's/^test result: ok\. ([0-9]+) passed.*/\1/p; s/^=* ?([0-9]+) passed.* in [0-9.]+s.*/\1/p; s/^\w+: ([0-9]+) tests, [0-9]+ checks, 0 failed$/\1/p' "$1" |
+        awk '{ tests += $1 } END { if (tests) print tests }'
+}
+
 passed=0 failed=0
-# Runs a case, and counts it. What it prints is shown only if it fails.
+# Runs a case, and counts it and the tests that it has run. What it prints is shown only if it fails.
 check() { # name words..
-    local name=$1 start=$SECONDS
-    shift
-    if (run_quietly "$@") 2>&1; then
-        echo "$name: passed, $((SECONDS - start)) s"
-        passed=$((passed + 1))
+    local name=$1 start=$SECONDS log tests
+    log=$(mktemp)
+    if ("${@:2}") > "$log" 2>&1; then
+        tests=$(tests_in "$log")
+        echo "$name: passed${tests:+, $tests tests}, $((SECONDS - start)) s"
+        passed=$((passed + 1 + tests))
     else
+        cat "$log"
         echo "$name: failed"
         failed=$((failed + 1))
     fi
+    rm "$log"
 }
 
 # Prints how many cases passed and failed. The status is 1 if one failed, or if none was run.

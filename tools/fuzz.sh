@@ -62,7 +62,7 @@ kept=$(mktemp -d -t hedrugal-fuzz.XXXXXX)
 export ASAN_OPTIONS=quarantine_size_mb=32:detect_stack_use_after_return=1
 # Runs a harness with further words. What it says goes to its log.
 run() { # harness words..
-    "$work/$1" -timeout=20 -rss_limit_mb=2048 -artifact_prefix="$kept/$1-" "${@:2}" > "$kept/$1.log" 2>&1
+    "$work/$1" -timeout=300 -rss_limit_mb=2048 -artifact_prefix="$kept/$1-" "${@:2}" > "$kept/$1.log" 2>&1
 }
 
 # Lets libFuzzer make inputs from the seeds. An input that fails is kept, and what was said of it.

@@ -1,17 +1,65 @@
 #!/usr/bin/env bash
 # Runs the parts of `make gate` and `make check`, and counts what passed.
 #
-#     tools/gate.sh part NAME COMMAND    runs a command of the shell. out/gate/NAME.log is what it printed, and out/gate/NAME.count has
-#                                        how many cases passed and failed, when it began and ended, and its processor time, in seconds
-#     tools/gate.sh wait CRATE..         waits until the part ci, which is `rt ci`, has proved these crates
-#     tools/gate.sh table NAME..         prints a table of these parts, and how many cases passed and failed in all
+#     tools/gate.sh gate COMMAND NAME..      runs a command, which runs these parts, and prints the table
+#     tools/gate.sh check COMMAND RUN LEFT   runs each of the parts RUN by the command, in which % is its name, and prints the table
+#     tools/gate.sh part NAME COMMAND        runs a command of the shell. out/gate/NAME.log is what it printed, and out/gate/NAME.count has
+#                                            how many cases passed and failed, when it began and ended, and its processor time, in seconds
+#     tools/gate.sh wait CRATE..             waits until the part ci, which is `rt ci`, has proved these crates
+#     tools/gate.sh floor NAME..             writes to tests/floor.txt how many cases of these parts have passed, as out/gate has it
+#     tools/gate.sh run WORDS..              runs a program
 #
-# The counts of a part are those of its last line 'N passed, N failed', or of pytest's; without one it is one case. Each must-fail edit that
-# `rt ci` calls a BAD EDIT or NOT TRIED is a failed one.
+# The counts of a part are those of its last line 'N passed, N failed', or of pytest's. Without one they are those of pre-commit's hooks, or it
+# is one case. Each must-fail edit that `rt ci` calls a BAD EDIT or NOT TRIED is a failed one. tests/floor.txt says how many cases a part has: one
+# that passed with fewer or more fails. In `make check` it may have left some out.
+#
+# INT, TERM or HUP ends what the script has started, and what that started.
 set -uo pipefail
 . "$(dirname "$0")/common.sh"
 cd "$(dirname "$0")/.." || exit
-gate=out/gate
+gate=out/gate floors=tests/floor.txt longest=4h
+# A job without this ignores INT, and so do the tests in it.
+set -m
+
+# Prints the processes that a process has started, with all that those started, and itself.
+started_by() { # process
+    cat /proc/[0-9]*/status 2> /dev/null | awk -v first="$1" '
+        $1 == "Pid:" { it = $2 }
+        $1 == "PPid:" { parent[it] = $2 }
+        END { for (it in parent) { for (above = it; above != first && above in parent;) above = parent[above]; if (above == first) print it } }'
+}
+
+# Ends this script by a signal, and before it all that a job has started. While they are stopped they start no others.
+# shellcheck disable=SC2086
+end_by() { # signal job
+    local all='' before=none tries
+    trap '' INT TERM HUP
+    while [ "$all" != "$before" ]; do
+        before=$all all=$(started_by "$2" | sort | tr '\n' ' ')
+        kill -STOP $all
+    done
+    kill $all
+    kill -CONT $all
+    for ((tries = 0; tries < 50; tries++)); do kill -0 $all && sleep 0.1 || break; done
+    kill -KILL $all
+    trap - "$1"
+    kill "-$1" $$
+} 2> /dev/null
+
+# Waits for the last job, and answers with its status.
+finish() {
+    local signal status=0
+    # shellcheck disable=SC2064
+    for signal in INT TERM HUP; do trap "end_by $signal $!" "$signal"; done
+    wait $! || status=$?
+    trap - INT TERM HUP
+    return "$status"
+}
+
+run() { # words..
+    "$@" &
+    finish
+}
 
 count() { # status log
     awk -v status="$1" '
@@ -23,32 +71,52 @@ count() { # status log
             }
             counted = 1
         }
+        /\.\.Passed$/ { hooks++ }
         /: (BAD EDIT|NOT TRIED)(:|$)/ { bad++ }
         END {
-            if (!counted) passed = !status
+            if (!counted) passed = hooks ? hooks : !status
             if (status && !failed) failed = 1
             print passed + 0, failed + bad
         }' "$2"
 }
 
+# Prints what is wrong with how many cases of a part have passed, if none failed.
+misses() { # name passed log
+    local floor skipped
+    floor=$(sed -nE "s/^$1 +([0-9]+\+?).*/\1/p" "$floors")
+    skipped=$(sed -nE 's/.* ([0-9]+) skipped.*/\1/p' "$3" | tail -n 1)
+    if [ "$2" = 0 ]; then
+        echo 'no case was run'
+    elif [ -z "$floor" ]; then
+        echo "$floors doesn't name this part"
+    elif [ "$2" -lt "${floor%+}" ]; then
+        [ -z "$is_gate" ] && { grep -q '^left out: ' "$3" || [ $(($2 + skipped)) -ge "${floor%+}" ]; } || echo "fewer than the $floor of $floors"
+    elif [[ "$floor" != *+ && "$2" -gt "$floor" ]]; then
+        echo "more than the $floor of $floors, which \`tools/gate.sh floor $1\` mends"
+    fi
+}
+
 part() { # name command
-    local log=$gate/$1.log began ended status=0 counts TIMEFORMAT='%U %S'
+    local log=$gate/$1.log is_gate=${GATE-} began ended status=0 passed failed missed='' TIMEFORMAT='%U %S'
     mkdir -p "$gate"
     began=$(date +%s)
     # what make tells the makes below it is not the command's
     unset MAKEFLAGS MFLAGS MAKELEVEL GATE
     # the part that takes longest is shown as it goes
     if [ "$1" = ci ]; then
-        { time bash -c "$2" 2>&1 < /dev/null | tee "$log"; } 2> "$gate/$1.time" || status=$?
+        { time bash -c "$2" 2>&1 < /dev/null | tee "$log"; } 2> "$gate/$1.time" &
     else
-        { time timeout 2400 bash -c "$2" > "$log" 2>&1 < /dev/null; } 2> "$gate/$1.time" || status=$?
+        { time timeout "$longest" bash -c "$2" > "$log" 2>&1 < /dev/null; } 2> "$gate/$1.time" &
     fi
+    finish || status=$?
     ended=$(date +%s)
-    counts=$(count "$status" "$log")
-    { echo "== $1"; [ "$1" = ci ] || cat "$log"; echo "gate: $1: ${counts/ / passed, } failed, $((ended - began)) s"; } | flock "$gate" cat
-    echo "$counts $began $ended $(awk '{ print $1 + $2 }' "$gate/$1.time")" > "$gate/$1.count"
+    read -r passed failed <<< "$(count "$status" "$log")"
+    [ "$failed" != 0 ] || missed=$(misses "$1" "$passed" "$log")
+    [ -z "$missed" ] || failed=1 missed=", $missed"
+    { echo "== $1"; [ "$1" = ci ] || cat "$log"; echo "gate: $1: $passed passed, $failed failed, $((ended - began)) s$missed"; } | flock "$gate" cat
+    echo "$passed $failed $began $ended $(awk '{ print $1 + $2 }' "$gate/$1.time")$missed" > "$gate/$1.count"
     rm "$gate/$1.time"
-    [ "${counts#* }" = 0 ]
+    [ "$failed" = 0 ]
 }
 
 # Whether `rt ci` has said this of a crate.
@@ -68,6 +136,7 @@ wait_for() { # crates..
 
 table() { # names..
     local name
+    [ $# != 0 ] || { echo 'gate: no part was run' >&2; return 1; }
     mkdir -p $gate && cd $gate || return
     for name; do
         echo "$name $(cat "$name.count" 2> /dev/null)"
@@ -78,7 +147,7 @@ table() { # names..
         }
         BEGIN { printf "\n%-12s %7s %7s %7s %10s  %s\n", "part", "from", "to", "takes", "processor", "result" }
         NF == 1 { $3 = 1; printf "%-12s %46s\n", $1, "NOT RUN, since what it needs failed" }
-        NF > 3 { row($1, $4, $5, $6, "  " $2 " passed, " $3 " failed") }
+        NF > 3 { said = $0; sub(/^[^,]*/, "", said); row($1, $4, $5, $6, "  " $2 " passed, " $3 " failed" said) }
         { passed += $2; failed += $3; used += $6 }
         $5 > last { last = $5 }
         END {
@@ -88,8 +157,33 @@ table() { # names..
         }'
 }
 
+# Each part of the file of floors has a row, so that no part goes unseen.
+gate() { # command names..
+    bash -c "$1" &
+    finish
+    mapfile -t left < <(sed -nE 's/^([a-z0-9-]+) .*/\1/p' "$floors" | grep -vxFf <(printf '%s\n' "${@:2}"))
+    table "${@:2}" "${left[@]}"
+}
+
+check_parts() { # command run left
+    local name names
+    read -ra names <<< "$2"
+    for name in "${names[@]}"; do part "$name" "${1//%/$name}"; done
+    [ -z "$3" ] || echo "check: left out: $3"
+    table "${names[@]}"
+}
+
+floor() { # names..
+    local name
+    for name; do
+        [ -f "$gate/$name.count" ] || refuse "the part $name hasn't been run"
+        sed -i -E "s/^($name +)[0-9]+/\1$(cut -d ' ' -f 1 "$gate/$name.count")/" "$floors"
+    done
+}
+
 case ${1-} in
-    part | table) "$@" ;;
+    gate | part | floor | run) "$@" ;;
+    check) check_parts "${@:2}" ;;
     wait) wait_for "${@:2}" ;;
     *) refuse_word "${1-}" ;;
 esac

@@ -26,17 +26,17 @@ build() { # program words..
 
 # Runs a program, and prints what it prints of each task, with its instructions. Each call of `counted` ends with a file of its own.
 count() { # program
-    timeout 300 valgrind --quiet --tool=callgrind --toggle-collect=counted --dump-after=counted --callgrind-out-file="$work/$1.counts" \
+    timeout 1h valgrind --quiet --tool=callgrind --toggle-collect=counted --dump-after=counted --callgrind-out-file="$work/$1.counts" \
         "$work/$1" > "$work/$1.tasks" 2> "$work/$1.log" ||
-        { cat "$work/$1.log" >&2; echo 'growth: the count failed, or took over five minutes' >&2; return 1; }
+        { cat "$work/$1.log" >&2; echo 'growth: the count failed, or took over an hour' >&2; return 1; }
     seq -f "$work/$1.counts.%g" "$(wc -l < "$work/$1.tasks")" | xargs grep -hm 1 '^totals:\|^summary:' | cut -d ' ' -f 2 |
         paste -d ' ' "$work/$1.tasks" -
 }
 
 build growth -Wl,--wrap=memcpy,--wrap=memmove,--wrap=memset "$feed" "$(dirname "$(rt doc)")/c/liblibc_c.a" && build tasks || exit 1
-{ timeout 60 "$work/growth" parsers && timeout 240 "$work/growth" long; } > "$work/others" &
+{ timeout 1h "$work/growth" parsers && timeout 1h "$work/growth" long; } > "$work/others" &
 others=$!
-{ count tasks && timeout 60 "$work/tasks" figures; } > "$work/carried" &
+{ count tasks && timeout 1h "$work/tasks" figures; } > "$work/carried" &
 tasks=$!
 count growth > "$work/passes" && wait $others && wait $tasks || exit 1
 awk -f tools/growth/tasks.awk -f tools/growth/judge.awk "$work/passes" "$work/others" "$work/carried"

@@ -132,7 +132,7 @@ check_fields() { # package section multi-arch dependency
 # What the library exports is in the package's file of symbols too.
 check_library() {
     local control=$unpacked/libhedrugal0/DEBIAN
-    check_exports "$system_library" && diff <(sed -n 's/^ \(.*\)@Base .*/\1/p' "$control/symbols") <(library_calls | sort) &&
+    check_exports "$system_library" && same <(sed -n 's/^ \(.*\)@Base .*/\1/p' "$control/symbols") <(library_calls | sort) &&
         grep -xF "libhedrugal $major libhedrugal0 (>= $version)" "$control/shlibs" &&
         grep -xF 'activate-noawait ldconfig' "$control/triggers"
 }

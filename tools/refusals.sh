@@ -9,7 +9,7 @@
 #
 # A case passes if the runs print the lines that tools/refusals/seen.txt has for it and no others, each of them at least once;
 # the first of its lines in the run that meets no refusal, and only there. keyshow passes if each run that meets a refusal
-# reports it, ends with status 1 and has printed a prefix of the whole output. A run of a program has a minute. The last line is
+# reports it, ends with status 1 and has printed a prefix of the whole output. A run of a program has ten minutes. The last line is
 # 'N passed, N failed', the status 1 if a case failed.
 set -u
 export LC_ALL=C
@@ -52,7 +52,7 @@ awk -F ' *[|] *' '
 # Runs a program with one request refused. Sets `status`, which is 124 if it didn't end in time, and `requests`, one for each that it made.
 run_refused() { # number program words..
     status=0
-    timeout -k 5 60 env REFUSE="$1" LD_PRELOAD="$work/refuse.so" "${@:2}" \
+    timeout -k 5 10m env REFUSE="$1" LD_PRELOAD="$work/refuse.so" "${@:2}" \
         < "$work/stream" > "$work/out" 2> "$work/err" 3> "$work/requests" || status=$?
     mapfile -t requests < "$work/requests"
 }
