@@ -8,7 +8,11 @@ It is checked that
 - each listing that is run is accepted and prints what the document says;
 - each link leads to a file, and to a heading of it if it names one; each path in backticks exists,
   and a script knows the options with which it is named;
+- each name in backticks, such as `hed_event` or `KeyCode`, stands in some source;
 - each number that a marker quotes is that of the file from which it is quoted;
+- each table and each sentence whose marker names a function says what the library, a definition or
+  the header says;
+- each promise of a program's terminal names its scenarios, as promises.py beside this has it;
 - README.md has at most 150 lines.
 
 Markers:
@@ -27,6 +31,8 @@ Markers:
                                     each line stands in the file, but for those that begin with WORD
 <!-- run: keyshow -->               a table: keyshow prints the last column for the bytes of the
                                     first
+<!-- run: table MODULE.NAME -->     a table: a function of tools/docs/tables compares its rows with
+                                    what the library does
 <!-- prints -->                     what the listing before has to print: a block, or the second
                                     cells of a table
 <!-- not run: REASON -->
@@ -35,6 +41,9 @@ Markers:
 <!-- "WORDS": TEXT counted in PATTERN .. -->
 <!-- "WORDS": files PATTERN .. -->  the same; the number in them is how often the text stands in the
                                     files of these patterns, or how many files there are
+<!-- facts: NAME -->                the paragraph, list or table has the sentences that a function
+                                    of tools/docs/tables/facts.py says
+<!-- facts: NAME in FILE -->        the file has them: a header, a manual page or another document
 
 TEXT goes to the program's standard input. With `typed` it is a pseudo-terminal's, and each further
 TEXT is typed once the program has printed something for the one before; after a text that prints
@@ -42,11 +51,14 @@ nothing comes the word pause.
 
 --library names the library's folder, out/lib without it. With --built, `rt run` in a listing is
 the program that lies in the crate's out/; otherwise it proves and builds it. --only names some of
-links, c, rust, python, rattle, sh, lines, keyshow, separated by commas. One line is printed for
-each check that failed, and at the end 'N passed, N failed'."""
+links, c, rust, python, rattle, sh, lines, keyshow, table, separated by commas; table checks the
+sentences too. One line is printed for each check that failed, and at the end 'N passed, N failed',
+in which no link or path is that holds."""
 import argparse
 import contextlib
+import functools
 import glob
+import importlib
 import io
 import itertools
 import os
@@ -60,6 +72,7 @@ import time
 from pathlib import Path
 
 import pexpect
+import promises
 
 TOP = Path(__file__).resolve().parents[2]
 DOCUMENTS = ["README.md", "CONTRIBUTING.md", "CHANGELOG.md", "docs/*.md", "crates/*/README.md"]
@@ -80,6 +93,7 @@ TOOLS = {
     "sh": "cc rt",
     "lines": "",
     "keyshow": "rt",
+    "table": "",
 }
 KINDS = ["links", *TOOLS]
 FENCED = r"^ *(?P<fence>```+).*\n(?P<block>(?:.*\n)*?) *(?P=fence)$"
@@ -91,6 +105,7 @@ PARTS = re.compile(
     r"|^(?P<text>.*\S.*)$",
     re.MULTILINE,
 )
+FACTS = r"<!-- facts: (?P<name>\w+)(?: in (?P<file>\S+))? -->$"
 # What a program in Rust names beside the package, by the feature of the package.
 CRATES = {
     "tokio": {"version": "1.24", "parts": '"macros", "rt"'},
@@ -99,6 +114,13 @@ CRATES = {
 }
 WITH = f"""hedrugal = {{{{ path = "{TOP}/rust/with", features = ["{{feature}}"] }}}}
 {{feature}} = {{{{ version = "{{version}}", features = [{{parts}}] }}}}"""
+# Where the names of the documents come from.
+SOURCES = ["Makefile", "c/*", "keys/*", "tools/**/*", "tests/*.py", "python/**/*.py"]
+SOURCES += [f"rust/{it}/**/*.rs" for it in ("src", "tests", "examples")]
+SOURCES += ["crates/*/src/*.rt", "crates/*/specs/*.antt", "crates/*/proofs/**/*.antt"]
+# Names of termwiz and of its parts, of crates of the kit, and of what systems have.
+OTHERS = {"ENHANCED_KEY", "from_utf8_unchecked", "lineedit", "surface"}
+OTHERS |= {"std_collections", "std_heap", "std_io", "getcwd"}
 NAMED = {"ESC": b"\x1b", "TAB": b"\t", "CR": b"\r", "LF": b"\n", "DEL": b"\x7f", "SPACE": b" "}
 # A command in place of rt, for which `rt run` is the program that was built, once it is there.
 BUILT = """#!/usr/bin/env bash
@@ -134,7 +156,7 @@ def lines_in(text):
 
 
 def cells_of(row):
-    return [cell.strip() for cell in re.split(r"(?<!\\)\|", row)[1:-1]]
+    return [cell.strip().replace("\\|", "|") for cell in re.split(r"(?<!\\)\|", row)[1:-1]]
 
 
 def quoted(text):
@@ -206,6 +228,23 @@ def check_path(code, bases):
         raise Failed(f"no such option: {code}")
 
 
+@functools.cache
+def names_of_sources():
+    """The names of the sources, and what follows a _ in those of constants."""
+    files = filter(os.path.isfile, files_of(" ".join(SOURCES)))
+    names = {it for file in files for it in re.findall(r"\w+", read(file))} | OTHERS
+    constants = (it.split("_") for it in names if it.isupper())
+    return names | {"_".join(it[first:]) for it in constants for first in range(1, len(it))}
+
+
+def check_names(text):
+    """Checks that each name in backticks stands in some source."""
+    codes = [it for it in quoted(text) if re.fullmatch(r"[A-Za-z][\w:]*[^\W_](\(.*\))?", it)]
+    names = {it for code in codes for it in re.findall(r"[A-Z]\w\w+|[a-z_]\w{4,}", code)}
+    if unknown := sorted(it for it in names - names_of_sources() if not os.path.exists(it)):
+        raise Failed(f"no source has {', '.join(unknown)}")
+
+
 def files_of(patterns):
     """The files of patterns that spaces part."""
     return [file for it in patterns.split() for file in glob.glob(it, recursive=True)]
@@ -235,10 +274,36 @@ def check_quote(text, marker):
         raise Failed(f'"{phrase}" isn\'t what {source} has')
 
 
+def of_tables(name):
+    """A function of tools/docs/tables, which may ask the library."""
+    module, _, function = name.rpartition(".")
+    return getattr(importlib.import_module(f"tables.{module}"), function)
+
+
+def check_facts(text, name):
+    """Checks that a text has the sentences that a function of tools/docs/tables/facts.py yields."""
+    sentences = list(of_tables(f"facts.{name}")())
+    if not sentences:
+        raise Failed(f"{name} of tools/docs/tables/facts.py has no sentence")
+    for sentence in sentences:
+        if sentence not in text:
+            raise Failed(f'"{sentence}" isn\'t there, as {name} of tools/docs/tables/facts.py says')
+
+
+def facts_of(file):
+    """The checks of the facts of a document, of a manual page, or of a file that it names."""
+    for lines in map(lines_in, re.split(r"\n\s*\n", read(file))):
+        around = " ".join(line for line in lines if not line.startswith("<!--"))
+        for fact in filter(None, (re.match(FACTS, line) for line in lines)):
+            text = re.sub(r"\s+(\* )?", " ", read(fact["file"])) if fact["file"] else around
+            yield file, check_facts, text, fact["name"]
+
+
 def checks_of(file):
     """The checks of a document's links, paths and quotes: functions with their arguments."""
     text = without_blocks(read(file))
     bases = own = [".", os.path.dirname(file) or "."]
+    yield file, check_names, text
     for line in text.splitlines():
         if base := re.match(r"<!-- paths from: (.*) -->$", line):
             bases = own + base[1].split()
@@ -276,7 +341,7 @@ def run(words, folder=".", given=b"", **variables):
 
 def wait_for_output(child):
     """Reads what a program prints until it has printed something and is quiet."""
-    child.read_nonblocking(4096, 20)
+    child.read_nonblocking(4096, SECONDS)
     with contextlib.suppress(pexpect.TIMEOUT):
         while True:
             child.read_nonblocking(4096, 0.2)
@@ -388,6 +453,16 @@ class Runner:
             if printed != quoted(last):
                 raise Failed(f"{sequence}: keyshow prints {printed}")
 
+    def table(self, listing):
+        function = of_tables(listing.words[0])
+        rows = [cells_of(line) for line in lines_in(listing.text)[2:]]
+        row = None
+        for row, said, found in function(rows):
+            if said != found:
+                raise Failed(f"{row}: the table has {said}, and the library {found}")
+        if row is None:
+            raise Failed(f"{listing.words[0]} compares no row")
+
     def check(self, listing):
         printed = getattr(self, listing.kind)(listing)
         if listing.prints is not None and printed != listing.prints:
@@ -429,7 +504,7 @@ def options():
 def missing_tool(listings, library):
     """Says what a listing needs and isn't there."""
     in_sh = [it for it in listings if it.kind == "sh" and re.search(r"\bDIR\b", it.text)]
-    linked = [it for it in listings if it.kind in ("c", "rust", "python")]
+    linked = [it for it in listings if it.kind in ("c", "rust", "python", "table")]
     if in_sh + linked and not os.path.exists(f"{library}/libhedrugal.a"):
         return f"there is no libhedrugal.a in {library}: make builds it, or --library names another"
     for tool in " ".join(TOOLS[it.kind] for it in listings).split():
@@ -441,6 +516,8 @@ def missing_tool(listings, library):
 def main():
     chosen = options()
     os.chdir(TOP)
+    os.environ["HEDRUGAL_LIBRARY"] = chosen.library
+    sys.path.append(f"{TOP}/python")
     listings, checks, faults = [], [], []
     for file in (file for pattern in DOCUMENTS for file in sorted(glob.glob(pattern))):
         found, wrong = read_document(file)
@@ -448,8 +525,12 @@ def main():
         if "links" in chosen.only:
             faults += wrong
             checks += checks_of(file)
+        if "table" in chosen.only:
+            checks += facts_of(file)
     if "links" in chosen.only and read("README.md").count("\n") > 150:
         faults.append("README.md: more than 150 lines")
+    if "links" in chosen.only:
+        faults += promises.faults()
     if missing := missing_tool(listings, chosen.library):
         sys.exit(f"docs: {missing}")
     for fault in faults:
@@ -462,10 +543,13 @@ def main():
         for name, check, *arguments in [*checks, *((it.name, runner.check, it) for it in listings)]:
             try:
                 check(*arguments)
-                passed += 1
+                passed += check not in (check_link, check_path)
             except (Failed, OSError, subprocess.TimeoutExpired) as fault:
                 failed += 1
                 print(f"{name}: {(str(fault) or repr(fault)).splitlines()[-1]}", flush=True)
+            except Exception as fault:
+                failed += 1
+                print(f"{name}: what stands there can't be read: {fault!r}", flush=True)
     print(f"{passed} passed, {failed} failed")
     sys.exit(1 if failed else 0)
 

@@ -78,9 +78,10 @@ PARAM = re.compile(rf"\s*(?P<type>{TYPE})(?P<name>\w+)(?:,\s*|$)|void$")
 
 
 def plain(comment: Optional[str]) -> str:
-    """The text of a comment, without its stars and what is before them."""
+    """The text of a comment, without its stars, what is before them, and what names its tests."""
     lines = (comment or "").strip().split("\n")
-    return "\n".join(re.sub(r"^ *\* ?", "", line).rstrip() for line in lines)
+    text = "\n".join(re.sub(r"^ *\* ?", "", line).rstrip() for line in lines)
+    return re.sub(r"\nScenarios: .*", "", text)
 
 
 class Reader:
