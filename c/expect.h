@@ -4,7 +4,10 @@
 
 #include <stdio.h>
 
-static int expectations, faults;
+static int tests, expectations, faults;
+
+/* Runs a test, which is a call. */
+#define TEST(call) (tests++, (call))
 
 #define EXPECT(holds) expect((holds), #holds, __FILE__, __LINE__)
 
@@ -15,10 +18,10 @@ static void expect(int holds, const char *what, const char *file, int line) {
   fprintf(stderr, "%s:%d: not so: %s\n", file, line, what);
 }
 
-/* Prints how many checks there were. Returns the status. */
+/* Prints how many tests and checks there were. Returns the status. */
 static inline int expected(const char *test) {
-  printf("%s: %d checks, %d failed\n", test, expectations, faults);
-  return faults || !expectations;
+  printf("%s: %d tests, %d checks, %d failed\n", test, tests, expectations, faults);
+  return faults || !tests || !expectations;
 }
 
 #endif

@@ -1,136 +1,8 @@
-/* A test of bindings, matchers and a program's own timer. Worked rows say what the presses of some keys do, and when. A thousand chords are bound,
- * listed, read by a matcher and unbound. Numbers that stand for nothing are refused, and so is a handle that has no bindings. */
+/* A test of bindings, matchers and a program's own timer. A thousand chords are bound, listed, read by a matcher and unbound. Numbers that stand
+ * for nothing are refused, and so is a handle that has no bindings. */
 #include "told.h"
 
 enum { CHORDS = 1000, MOST = 20000 };
-
-/* Reads the name of a chord, up to a character that ends it, and returns how many presses it has. */
-static size_t read_chord(const char *text, size_t len, hed_key_press *keys) {
-  size_t count, at;
-  EXPECT(hed_key_read((const uint8_t *)text, len, keys, HED_CHORD_MOST, &count, &at) == HED_OK);
-  return count;
-}
-
-static hed_key_press read_press(const char *text, size_t len) {
-  hed_key_press keys[HED_CHORD_MOST];
-  EXPECT(read_chord(text, len, keys) == 1);
-  return keys[0];
-}
-
-/* Tells a press or some, behind what was told so far. */
-static void tell_press(const char *before, const hed_key_press *keys, size_t count) {
-  uint8_t name[128];
-  size_t len;
-  EXPECT(hed_key_print(keys, count, name, sizeof name, &len) == HED_OK);
-  tell("%s%s%.*s", *told ? "; " : "", before, (int)len, name);
-}
-
-static void tell_outcome(const hed_outcome *outcome) {
-  if (outcome->kind == HED_OUTCOME_UNBOUND) {
-    EXPECT(outcome->keys == 1 && outcome->value == 0);
-    tell_press("?", &outcome->press, 1);
-    return;
-  }
-  EXPECT(outcome->kind == HED_OUTCOME_BOUND && outcome->press.key == 0 && outcome->press.detail == 0);
-  tell("%s%u", *told ? "; " : "", (unsigned)outcome->value);
-}
-
-/* Tells all outcomes. What a call leaves unwritten stays. */
-static void take_all(hed_matcher *matcher, const hed_bindings *bindings, bool more) {
-  for (;;) {
-    hed_outcome outcome = { 77, 77, { 7, 7, 7 }, 77 }, first = outcome;
-    hed_status paused = hed_matcher_on_pause(matcher, bindings, &first);
-    hed_matcher before = *matcher;
-    hed_status answer = hed_matcher_next(matcher, bindings, more, &outcome);
-    if (answer == HED_NONE) {
-      EXPECT(outcome.keys == 77 && outcome.value == 77 && outcome.press.key == 7 && outcome.kind == 77 && matcher->count < HED_CHORD_MOST);
-      EXPECT(memcmp(&before, matcher, sizeof before) == 0 && (paused == HED_NONE) == (matcher->count == 0));
-      return;
-    }
-    EXPECT(answer == HED_OK && paused == HED_OK && outcome.kind == first.kind && outcome.keys == first.keys && outcome.value == first.value
-           && outcome.press.detail == first.press.detail);
-    EXPECT(matcher->count == before.count - outcome.keys);
-    EXPECT(memcmp(matcher->keys, before.keys + outcome.keys, matcher->count * sizeof *before.keys) == 0);
-    tell_outcome(&outcome);
-  }
-}
-
-/* Binds chords that are parted by commas to 1, 2 and so on. */
-static void bind_all(hed_bindings *bindings, const char *chords) {
-  uint64_t value = 1;
-  for (const char *at = chords; *at; value++) {
-    hed_key_press keys[HED_CHORD_MOST];
-    size_t len = strcspn(at, ","), wrong = 77;
-    if (value % 2) EXPECT(hed_bindings_bind_name(bindings, (const uint8_t *)at, len, value, &wrong) == HED_OK && wrong == 0);
-    else EXPECT(hed_bindings_bind(bindings, keys, read_chord(at, len, keys), value) == HED_OK);
-    at += len + (at[len] == ',');
-  }
-}
-
-/* What a word does: the name of a key, with a second one behind `/`, or one in capitals. */
-static void do_word(hed_matcher *matcher, hed_bindings *bindings, const char *word, size_t len) {
-  hed_key_press keys[HED_CHORD_MOST];
-  const char *slash = memchr(word, '/', len);
-  if (len == 5 && memcmp(word, "PAUSE", len) == 0) {
-    take_all(matcher, bindings, false);
-  } else if (len == 6 && memcmp(word, "CANCEL", len) == 0) {
-    EXPECT(hed_matcher_is_dead_end(matcher, bindings));
-    tell_press("cancelled ", keys, hed_matcher_cancel(matcher, keys, HED_CHORD_MOST));
-  } else if (len > 7 && memcmp(word, "UNBIND:", 7) == 0) {
-    uint64_t value = 77;
-    EXPECT(hed_bindings_unbind(bindings, keys, read_chord("a b c", 5, keys), &value) == HED_OK && value == 1);
-    take_all(matcher, bindings, true);
-  } else if (slash) {
-    hed_key_press either[] = { read_press(word, (size_t)(slash - word)), read_press(slash + 1, len - (size_t)(slash + 1 - word)) };
-    EXPECT(hed_matcher_press_either(matcher, bindings, either, 2) == HED_OK);
-    take_all(matcher, bindings, true);
-  } else {
-    hed_key_press press = read_press(word, len);
-    EXPECT(hed_matcher_press(matcher, &press) == HED_OK);
-    if (!strstr(word, "CANCEL")) take_all(matcher, bindings, true);
-  }
-}
-
-static const struct {
-  const char *chords, *words, *outcomes, *pending;
-} rows[] = {
-  { "ctrl+x ctrl+s,g,g g", "ctrl+x ctrl+s g g g", "1; 3", "g" },
-  { "g,g g", "g x g PAUSE", "1; ?x; 1", "nothing" },
-  { "g g,g", "g g g PAUSE", "1; 2", "nothing" },
-  { "a b c,b", "a b x", "?a; 2; ?x", "nothing" },
-  { "a,a b c,b d", "a b d", "1; 3", "nothing" },
-  { "a,a b c,b d", "a b PAUSE", "1; ?b", "nothing" },
-  { "j k", "j j k", "?j; 1", "nothing" },
-  { "ctrl+x ctrl+s", "ctrl+x z", "?ctrl+x; ?z", "nothing" },
-  { "ctrl+x ctrl+s", "ctrl+x z CANCEL", "cancelled ctrl+x z", "nothing" },
-  { "a b c", "a b UNBIND:a_b_c", "?a; ?b", "nothing" },
-  { "ctrl+x ctrl+c", "ctrl+x ctrl+\321\201/ctrl+c", "1", "nothing" },
-  { "ctrl+\321\201,ctrl+c", "ctrl+\321\201/ctrl+c", "1", "nothing" },
-  { "ctrl+c", "ctrl+\321\201/ctrl+c a", "1; ?a", "nothing" },
-  { "", "a ctrl+b", "?a; ?ctrl+b", "nothing" },
-};
-
-static void presses_run_commands(void) {
-  for (size_t i = 0; i < sizeof rows / sizeof *rows; i++) {
-    hed_bindings bindings = HED_BINDINGS_NONE;
-    hed_matcher matcher = HED_MATCHER_NONE;
-    EXPECT(hed_bindings_init(&bindings) == HED_OK && hed_bindings_len(&bindings) == 0);
-    bind_all(&bindings, rows[i].chords);
-    for (const char *at = rows[i].words; *at;) {
-      size_t len = strcspn(at, " ");
-      do_word(&matcher, &bindings, at, len);
-      at += len + (at[len] == ' ');
-    }
-    is_told(rows[i].outcomes);
-    hed_key_press keys[HED_CHORD_MOST];
-    size_t count = hed_matcher_pending(&matcher, keys, HED_CHORD_MOST);
-    if (count) tell_press("", keys, count);
-    is_told(rows[i].pending);
-    hed_bindings_free(&bindings);
-    hed_bindings_free(&bindings);
-    EXPECT(!bindings.live && !bindings.state);
-  }
-}
 
 /* The chord with this number: three letters. */
 static void number_chord(unsigned number, hed_key_press *keys) {
@@ -179,9 +51,23 @@ static void binds_a_thousand_chords(void) {
     EXPECT(hed_bindings_unbind(&bindings, keys, 3, &value) == HED_NONE && value == i * 7919 % CHORDS);
   }
   EXPECT(hed_bindings_len(&bindings) == 0);
-  for (*keys = read_press("U+4E00", 6); hed_bindings_len(&bindings) < MOST; keys->detail++)
-    if (hed_bindings_bind(&bindings, keys, 1, 0) != HED_OK) break;
+  hed_bindings_free(&bindings);
+}
+
+/* Many characters, the first by their presses and as many by their names. */
+static void binds_many_characters(void) {
+  hed_bindings bindings = HED_BINDINGS_NONE;
+  hed_key_press key = { HED_KEY_CHAR, 0, 0x4e00 };
+  EXPECT(hed_bindings_init(&bindings) == HED_OK);
+  for (; hed_bindings_len(&bindings) < MOST; key.detail++)
+    if (hed_bindings_bind(&bindings, &key, 1, 0) != HED_OK) break;
   EXPECT(hed_bindings_len(&bindings) == MOST);
+  for (key.detail = 0x10000; hed_bindings_len(&bindings) < 2 * MOST; key.detail++) {
+    char name[16];
+    size_t at, len = (size_t)sprintf(name, "U+%X", (unsigned)key.detail);
+    if (hed_bindings_bind_name(&bindings, (const uint8_t *)name, len, 0, &at) != HED_OK) break;
+  }
+  EXPECT(hed_bindings_len(&bindings) == 2 * MOST);
   hed_bindings_free(&bindings);
 }
 
@@ -351,12 +237,12 @@ static void refuses_other_ages(void) {
 }
 
 int main(void) {
-  presses_run_commands();
-  binds_a_thousand_chords();
-  refuses_bad_numbers();
-  binds_names();
-  answers_without_bindings();
-  tells_how_long_to_wait();
-  refuses_other_ages();
+  TEST(binds_a_thousand_chords());
+  TEST(binds_many_characters());
+  TEST(refuses_bad_numbers());
+  TEST(binds_names());
+  TEST(answers_without_bindings());
+  TEST(tells_how_long_to_wait());
+  TEST(refuses_other_ages());
   return expected("test_bindings");
 }

@@ -295,6 +295,102 @@ static bool names_chord(char *given, char *names) {
   return true;
 }
 
+/* Tells some presses, behind what was told so far. */
+static void tell_chord(const char *before, const hed_key_press *keys, size_t count) {
+  uint8_t name[128];
+  size_t len;
+  EXPECT(hed_key_print(keys, count, name, sizeof name, &len) == HED_OK);
+  tell("%s%s%.*s", *told ? ", " : "", before, (int)len, name);
+}
+
+static void tell_outcome(const hed_outcome *outcome) {
+  if (outcome->kind == HED_OUTCOME_UNBOUND) {
+    EXPECT(outcome->keys == 1 && outcome->value == 0);
+    tell_chord("?", &outcome->press, 1);
+    return;
+  }
+  EXPECT(outcome->kind == HED_OUTCOME_BOUND && outcome->press.key == 0 && outcome->press.detail == 0);
+  tell("%s%u", *told ? ", " : "", (unsigned)outcome->value);
+}
+
+/* Tells all outcomes. What a call leaves unwritten stays. */
+static void take_outcomes(hed_matcher *matcher, const hed_bindings *bindings, bool more) {
+  for (;;) {
+    hed_outcome outcome = { 77, 77, { 7, 7, 7 }, 77 }, first = outcome;
+    hed_status paused = hed_matcher_on_pause(matcher, bindings, &first);
+    hed_matcher before = *matcher;
+    hed_status answer = hed_matcher_next(matcher, bindings, more, &outcome);
+    if (answer == HED_NONE) {
+      EXPECT(outcome.keys == 77 && outcome.value == 77 && outcome.press.key == 7 && outcome.kind == 77 && matcher->count < HED_CHORD_MOST);
+      EXPECT(memcmp(&before, matcher, sizeof before) == 0 && (paused == HED_NONE) == (matcher->count == 0));
+      return;
+    }
+    EXPECT(answer == HED_OK && paused == HED_OK && outcome.kind == first.kind && outcome.keys == first.keys && outcome.value == first.value
+           && outcome.press.detail == first.press.detail);
+    EXPECT(matcher->count == before.count - outcome.keys);
+    EXPECT(memcmp(matcher->keys, before.keys + outcome.keys, matcher->count * sizeof *before.keys) == 0);
+    tell_outcome(&outcome);
+  }
+}
+
+/* Binds chords to 1, 2 and so on, by their names and by their presses. Without chords there is `nothing`. */
+static void bind_all(hed_bindings *bindings, char *chords) {
+  if (strcmp(chords, "nothing") == 0) return;
+  for (uint64_t value = 1; chords; value++) {
+    const char *name = chords;
+    size_t wrong = 77;
+    chords = cut(chords, ", ");
+    if (value % 2) EXPECT(hed_bindings_bind_name(bindings, (const uint8_t *)name, strlen(name), value, &wrong) == HED_OK && wrong == 0);
+    else EXPECT(hed_bindings_bind(bindings, chord, read_chord(name, strlen(name), chord), value) == HED_OK);
+  }
+}
+
+/* Presses a key, or the second one behind `/` if that is bound. */
+static void press_keys(hed_matcher *matcher, const hed_bindings *bindings, const char *word) {
+  hed_key_press either[2];
+  const char *second = word + strcspn(word, "/");
+  either[0] = read_press(word, (size_t)(second - word));
+  if (!*second++) {
+    EXPECT(hed_matcher_press(matcher, either) == HED_OK);
+    return;
+  }
+  either[1] = read_press(second, strlen(second));
+  EXPECT(hed_matcher_press_either(matcher, bindings, either, 2) == HED_OK);
+}
+
+/* CHORD, CHORD ..: WORD WORD .. = OUTCOME, OUTCOME .. | PENDING */
+static bool runs_commands(char *given, char *outcomes) {
+  hed_bindings bindings = HED_BINDINGS_NONE;
+  hed_matcher matcher = HED_MATCHER_NONE;
+  uint64_t value = 77;
+  char *words = cut(given, ": "), *pending = cut(outcomes, " | ");
+  if (!words || !pending) return false;
+  bool is_cancelled = strstr(words, "CANCEL") != NULL;
+  EXPECT(hed_bindings_init(&bindings) == HED_OK && hed_bindings_len(&bindings) == 0);
+  bind_all(&bindings, given);
+  while (words) {
+    const char *word = word_of(&words);
+    bool is_pause = strcmp(word, "PAUSE") == 0;
+    if (strcmp(word, "CANCEL") == 0) {
+      EXPECT(hed_matcher_is_dead_end(&matcher, &bindings));
+      tell_chord("cancelled ", chord, hed_matcher_cancel(&matcher, chord, HED_CHORD_MOST));
+    } else if (strcmp(word, "UNBIND") == 0) {
+      EXPECT(hed_bindings_unbind(&bindings, chord, read_chord(given, strlen(given), chord), &value) == HED_OK && value == 1);
+    } else if (!is_pause) {
+      press_keys(&matcher, &bindings, word);
+    }
+    if (!is_cancelled) take_outcomes(&matcher, &bindings, !is_pause);
+  }
+  is_told(outcomes);
+  count = hed_matcher_pending(&matcher, chord, HED_CHORD_MOST);
+  if (count) tell_chord("", chord, count);
+  is_told(pending);
+  hed_bindings_free(&bindings);
+  hed_bindings_free(&bindings);
+  EXPECT(!bindings.live && !bindings.state);
+  return true;
+}
+
 static uint64_t flags;
 
 static hed_status write_kitty(uint8_t *out, size_t room, size_t *len) {
@@ -556,9 +652,9 @@ static const struct {
   const char *name;
   bool (*runs)(char *given, char *wanted);
 } forms[] = {
-  { "events.txt", reads_events }, { "runs.txt", makes_runs },       { "presses.txt", makes_presses }, { "names.txt", names_chord },
-  { "kitty.txt", reports_key },   { "encodings.txt", encodes_key }, { "written.txt", writes_event },  { "pastes.txt", writes_paste },
-  { "mouse.txt", sends_report },  { "replies.txt", reads_reply },
+  { "events.txt", reads_events },    { "runs.txt", makes_runs },    { "presses.txt", makes_presses }, { "names.txt", names_chord },
+  { "bindings.txt", runs_commands }, { "kitty.txt", reports_key },  { "encodings.txt", encodes_key }, { "written.txt", writes_event },
+  { "pastes.txt", writes_paste },    { "mouse.txt", sends_report }, { "replies.txt", reads_reply },
 };
 
 enum { FORMS = sizeof forms / sizeof *forms };
@@ -591,7 +687,7 @@ static unsigned run_cases(const char *path, FILE *file, size_t form) {
     strcpy(copy, line);
     if (!is_whole || !run_case(form, copy)) fault(path, number, "no form of a case");
     if (faults > faults_before) fault(path, number, line);
-    cases++;
+    cases++, tests++;
   }
   return cases;
 }
@@ -637,5 +733,5 @@ int main(int argc, char **argv) {
   }
   hed_parser_free(&parser);
   hed_parser_free(&base);
-  return faults > 0;
+  return expected("test_cases");
 }

@@ -260,14 +260,25 @@ static void reads_no_replies(void) {
   EXPECT(hed_read_reply(HED_KIND_CSI, HED_TEXT("?6c"), &reply, NULL, 0, NULL, 0) == HED_OK && reply.len == 1);
 }
 
-/* A paste of 2 MB, and the clipboard of the longest string: zeros, which are so many letters A. */
-static void writes_and_reads_long_texts(void) {
+/* A paste of 2 MB, to a program and as an event, a key that types as much, and the clipboard of the longest string: zeros, which are so many
+ * letters A. */
+static void writes_and_reads_long_texts(const hed_parser *parser) {
   enum { LONG = 2 << 20, STRING = 65533 };
   static uint8_t body[LONG], sent[LONG + 12];
+  const hed_event paste = { .kind = HED_KIND_PASTE, .text_len = LONG }, letter = LETTER(0);
   hed_reply reply;
   memset(body, 'A', sizeof body);
-  EXPECT(hed_encode_paste(body, LONG, true, sent, sizeof sent, &sent_len) == HED_OK && sent_len == sizeof sent);
-  EXPECT(memcmp(sent, START, 6) == 0 && memcmp(sent + 6, body, LONG) == 0 && memcmp(sent + 6 + LONG, END, 6) == 0);
+  for (int is_event = 0; is_event < 2; is_event++) {
+    memset(sent, 0, sizeof sent);
+    EXPECT((is_event ? hed_encode_event(&paste, body, LONG, parser, sent, sizeof sent, &sent_len)
+                     : hed_encode_paste(body, LONG, true, sent, sizeof sent, &sent_len))
+           == HED_OK);
+    EXPECT(sent_len == sizeof sent && memcmp(sent, START, 6) == 0 && memcmp(sent + 6, body, LONG) == 0
+           && memcmp(sent + 6 + LONG, END, 6) == 0);
+  }
+  memset(sent, 0, sizeof sent);
+  EXPECT(hed_encode_kitty(&letter, body, LONG, 0, sent, sizeof sent, &sent_len) == HED_OK && sent_len == LONG
+         && memcmp(sent, body, LONG) == 0);
   memcpy(body, "52;c;", 5);
   memset(sent, 0x55, sizeof sent);
   EXPECT(hed_read_reply(HED_KIND_OSC, body, STRING, &reply, NULL, 0, sent, sizeof sent) == HED_OK && reply.kind == HED_REPLY_CLIPBOARD);
@@ -278,16 +289,16 @@ static void writes_and_reads_long_texts(void) {
 int main(void) {
   hed_parser parser = HED_PARSER_NONE;
   make(&parser, HED_DIALECT_EXTENDED);
-  encodes();
-  for (uint8_t flags = 0; flags <= ALL_FLAGS; flags++) refuses_keys(flags);
-  for (unsigned flags = ALL_FLAGS + 1; flags < 256; flags += 17) refuses_key((hed_event)LETTER(0), (uint8_t)flags, HED_BAD_NUMBER);
-  reads_keys_back(&parser);
-  refuses_reports();
-  refuses_events(&parser);
-  refuses_by_the_reading(&parser);
-  writes_replies();
-  reads_no_replies();
-  writes_and_reads_long_texts();
+  TEST(encodes());
+  for (uint8_t flags = 0; flags <= ALL_FLAGS; flags++) TEST(refuses_keys(flags));
+  for (unsigned flags = ALL_FLAGS + 1; flags < 256; flags += 17) TEST(refuses_key((hed_event)LETTER(0), (uint8_t)flags, HED_BAD_NUMBER));
+  TEST(reads_keys_back(&parser));
+  TEST(refuses_reports());
+  TEST(refuses_events(&parser));
+  TEST(refuses_by_the_reading(&parser));
+  TEST(writes_replies());
+  TEST(reads_no_replies());
+  TEST(writes_and_reads_long_texts(&parser));
   hed_parser_free(&parser);
   hed_parser_free(&base);
   return expected("test_encode");

@@ -80,18 +80,19 @@ static void finds_keys(void) {
   no_map_answers(&map);
 }
 
-/* A thousand keys of three bytes, and one of 300. */
+/* Many keys of three bytes, and a long one. */
 static void keeps_many_keys(void) {
-  uint8_t key[300];
+  enum { LONG = 100000, MANY = 20000 };
+  static uint8_t key[LONG];
   hed_keymap map = HED_KEYMAP_NONE;
   memset(key, 'x', sizeof key);
-  EXPECT(hed_keymap_init(&map) == HED_OK && hed_keymap_insert(&map, key, sizeof key, 5) == HED_OK);
-  EXPECT(look_up(&map, key, 300, true) == HED_OK && is_found(300, 5) && look_up(&map, key, 299, true) == HED_NEED_DATA);
-  for (uint32_t number = 0; number < 2000; number++) {
-    bool is_asked = number >= 1000;
-    key[0] = (uint8_t)(number % 1000), key[1] = (uint8_t)(number % 1000 >> 8), key[2] = 0;
+  EXPECT(hed_keymap_init(&map) == HED_OK && hed_keymap_insert(&map, key, LONG, 5) == HED_OK);
+  EXPECT(look_up(&map, key, LONG, true) == HED_OK && is_found(LONG, 5) && look_up(&map, key, LONG - 1, true) == HED_NEED_DATA);
+  for (uint32_t number = 0; number < 2 * MANY; number++) {
+    bool is_asked = number >= MANY;
+    key[0] = (uint8_t)(number % MANY), key[1] = (uint8_t)(number % MANY >> 8), key[2] = 0;
     if (!is_asked) EXPECT(hed_keymap_insert(&map, key, 3, number) == HED_OK && hed_keymap_len(&map) == number + 2);
-    else EXPECT(look_up(&map, key, 3, true) == HED_OK && is_found(3, number - 1000) && look_up(&map, key, 2, true) == HED_NEED_DATA);
+    else EXPECT(look_up(&map, key, 3, true) == HED_OK && is_found(3, number - MANY) && look_up(&map, key, 2, true) == HED_NEED_DATA);
   }
   hed_keymap_free(&map);
 }
@@ -105,8 +106,8 @@ static void tells_the_version(void) {
 }
 
 int main(void) {
-  finds_keys();
-  keeps_many_keys();
-  tells_the_version();
+  TEST(finds_keys());
+  TEST(keeps_many_keys());
+  TEST(tells_the_version());
   return expected("test_keymap");
 }

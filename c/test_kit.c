@@ -96,10 +96,10 @@ static void test_errno(void) {
 }
 
 int main(int count, char **all) {
-  test_blocks();
-  test_refusals();
-  test_arguments(count, all);
-  test_environment();
-  test_errno();
+  TEST(test_blocks());
+  TEST(test_refusals());
+  TEST(test_arguments(count, all));
+  TEST(test_environment());
+  TEST(test_errno());
   return expected("test_kit");
 }

@@ -294,6 +294,15 @@ static void reads_long_pastes(void) {
   hed_parser_set_parts(&parser, HED_NO_PARTS);
   hed_parser_end(&parser);
   EXPECT(next_of(&parser).text_len == LONG && hed_parser_text(&parser, copy, 3) == LONG && memcmp(copy, "012", 3) == 0);
+  /* and one is written to an array */
+  hed_event event;
+  size_t count = 0;
+  FEED(&parser, START);
+  EXPECT(hed_parser_feed(&parser, 0, body, LONG) == HED_OK);
+  FEED(&parser, END);
+  memset(copy, 0, sizeof copy);
+  EXPECT(hed_parser_next_events(&parser, &event, 1, copy, LONG, &count) == HED_OK && count == 1 && event.text_len == LONG);
+  EXPECT(memcmp(copy, body, LONG) == 0 && hed_parser_waiting_len(&parser) == 0);
   hed_parser_free(&parser);
 }
 
@@ -511,18 +520,18 @@ static void answers_before_init_and_after_free(void) {
 }
 
 int main(void) {
-  answers_before_init_and_after_free();
-  has_usual_limits();
-  refuses_long_limits();
-  keeps_its_reading();
-  reads_anew();
-  expects_positions();
-  keeps_texts();
-  fills_arrays();
-  fills_arrays_without_room();
-  reads_long_pastes();
-  reads_long_strings();
-  tells_rows();
+  TEST(answers_before_init_and_after_free());
+  TEST(has_usual_limits());
+  TEST(refuses_long_limits());
+  TEST(keeps_its_reading());
+  TEST(reads_anew());
+  TEST(expects_positions());
+  TEST(keeps_texts());
+  TEST(fills_arrays());
+  TEST(fills_arrays_without_room());
+  TEST(reads_long_pastes());
+  TEST(reads_long_strings());
+  TEST(tells_rows());
   hed_parser_free(&base);
   return expected("test_parser");
 }

@@ -183,10 +183,10 @@ int main(int argc, char **argv) {
     fputs("usage: test_presses c/hedrugal.h\n", stderr);
     return 2;
   }
-  tells_presses_of_events();
-  reads_names();
-  refuses_other_numbers();
-  tells_texts_of_presses();
-  names_keys(argv[1]);
+  TEST(tells_presses_of_events());
+  TEST(reads_names());
+  TEST(refuses_other_numbers());
+  TEST(tells_texts_of_presses());
+  TEST(names_keys(argv[1]));
   return expected("test_presses");
 }

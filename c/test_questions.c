@@ -292,14 +292,14 @@ static void refusals(void) {
 }
 
 int main(void) {
-  replies_are_of_the_oldest();
-  positions_are_counted();
-  many_positions();
-  no_more_than_most();
-  numbers_to_the_last();
-  times();
-  sequences_that_answer();
-  kinds();
-  refusals();
+  TEST(replies_are_of_the_oldest());
+  TEST(positions_are_counted());
+  TEST(many_positions());
+  TEST(no_more_than_most());
+  TEST(numbers_to_the_last());
+  TEST(times());
+  TEST(sequences_that_answer());
+  TEST(kinds());
+  TEST(refusals());
   return expected("questions");
 }

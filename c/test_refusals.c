@@ -206,9 +206,7 @@ static const char *const bound[] = {
 enum { BOUND = sizeof bound / sizeof *bound };
 
 static size_t read_bound(size_t at, hed_key_press *keys) {
-  size_t count, byte;
-  EXPECT(hed_key_read((const uint8_t *)bound[at], strlen(bound[at]), keys, HED_CHORD_MOST, &count, &byte) == HED_OK);
-  return count;
+  return read_chord(bound[at], strlen(bound[at]), keys);
 }
 
 /* The bindings and the map have the first of the chords, and no others. They are asked without memory. */
@@ -459,16 +457,16 @@ int main(int argc, char **argv) {
   EXPECT(hed_parser_init(&base, HED_DIALECT_EXTENDED) == HED_OK && in_use > 0);
   room = 3, text_room = 20;
   for (size_t i = 0; i < sizeof ways / sizeof *ways; i++)
-    for (size_t piece = 1; piece < 2 * sizeof stream; piece = piece * 3 + 1) refuse_while_reading(&ways[i], piece);
-  refuse_string_parts();
-  for (int call = 0; call < CALLS; call++) refuse_while_writing(call);
-  refuse_replies();
-  refuse_bindings();
-  refuse_init(step, NULL);
-  refuse_init(1, &base);
-  need_no_memory();
-  shares_memory();
-  shrinks();
+    for (size_t piece = 1; piece < 2 * sizeof stream; piece = piece * 3 + 1) TEST(refuse_while_reading(&ways[i], piece));
+  TEST(refuse_string_parts());
+  for (int call = 0; call < CALLS; call++) TEST(refuse_while_writing(call));
+  TEST(refuse_replies());
+  TEST(refuse_bindings());
+  TEST(refuse_init(step, NULL));
+  TEST(refuse_init(1, &base));
+  TEST(need_no_memory());
+  TEST(shares_memory());
+  TEST(shrinks());
   hed_parser_free(&base);
   EXPECT(in_use == 0);
   return expected("test_refusals");

@@ -1,10 +1,20 @@
 /* A test of parsers that share one sequence table: made from each other, freed in each order, and used by four threads at once. */
 #include "told.h"
+#include <malloc.h>
 #include <pthread.h>
 
 static bool init_sharing(hed_parser *parser, uint32_t dialect, const hed_parser *other) {
   return hed_parser_init_sharing(parser, dialect, other) == HED_OK;
 }
+
+/* How many bytes of memory are in use. Valgrind, which has its own, leaves them at 0. */
+static size_t in_use(void) {
+  struct mallinfo2 all = mallinfo2();
+  return all.uordblks + all.hblkhd;
+}
+
+/* A table has more bytes. */
+enum { LEAST_TABLE = 100000 };
 
 /* Whether the next event is this key, with these modifiers. */
 static bool next_is(hed_parser *parser, uint16_t key, uint32_t detail, uint8_t modifiers) {
@@ -31,7 +41,9 @@ static bool is_reading(hed_parser *parser) {
 static void frees_in_order(const int order[3], uint32_t dialects) {
   hed_parser made[3] = { HED_PARSER_NONE, HED_PARSER_NONE, HED_PARSER_NONE };
   EXPECT(hed_parser_init(&made[0], dialects & 1) == HED_OK);
+  size_t before = in_use();
   EXPECT(init_sharing(&made[1], dialects >> 1 & 1, &made[0]) && init_sharing(&made[2], dialects >> 2, &made[1]));
+  EXPECT(in_use() - before < LEAST_TABLE);
   for (int i = 0; i < 3; i++) EXPECT(is_reading(&made[i]));
   for (int freed = 0; freed < 3; freed++) {
     hed_parser_free(&made[order[freed]]);
@@ -159,9 +171,9 @@ static void frees_the_table_in_a_thread(void) {
 }
 
 int main(void) {
-  frees_in_each_order();
-  shares_the_table_alone();
-  works_in_threads();
-  frees_the_table_in_a_thread();
+  TEST(frees_in_each_order());
+  TEST(shares_the_table_alone());
+  TEST(works_in_threads());
+  TEST(frees_the_table_in_a_thread());
   return expected("test_sharing");
 }

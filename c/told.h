@@ -244,4 +244,17 @@ static inline void flushes(hed_parser *parser, const char *events) {
   is_told(events);
 }
 
+/* Reads the name of a chord, up to a character that ends it, and returns how many presses it has. */
+static inline size_t read_chord(const char *text, size_t len, hed_key_press *keys) {
+  size_t count, at;
+  EXPECT(hed_key_read((const uint8_t *)text, len, keys, HED_CHORD_MOST, &count, &at) == HED_OK);
+  return count;
+}
+
+static inline hed_key_press read_press(const char *text, size_t len) {
+  hed_key_press keys[HED_CHORD_MOST];
+  EXPECT(read_chord(text, len, keys) == 1);
+  return keys[0];
+}
+
 #endif

@@ -7,9 +7,9 @@ from hedrugal import Dialect, EraseByte, Function, KeyCode, KeyEventKind
 from hedrugal import NewlineByte, Parser, Reading
 from hedrugal._calls import RawReply
 from hedrugal._enums import Named
-from helpers import TOP
 
-FOLDER = os.path.join(TOP, "tests", "cases")
+HERE = os.path.dirname(os.path.abspath(__file__))
+FOLDER = os.path.join(os.path.dirname(HERE), "tests", "cases")
 FILES = sorted(name for name in os.listdir(FOLDER) if name.endswith(".txt"))
 
 # The first form of each byte, and all forms.

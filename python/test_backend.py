@@ -5,8 +5,8 @@ import os
 import platform
 import re
 import shutil
-import tarfile
 import zipfile
+from pathlib import Path
 
 import pytest
 
@@ -15,13 +15,14 @@ from helpers import HERE, LIBRARY, TOP, run_python
 
 NAME = f"hedrugal-{hedrugal.__version__}"
 PREBUILT = f"prebuilt/{platform.machine()}-linux"
+SAID = "hedrugal: the library is"
 # The test's machine may have the library installed.
 BUILD = """
 import ctypes.util, sys
 ctypes.util.find_library = {{"hedrugal": {installed!r}}}.get
-sys.path.insert(0, {folder!r})
+sys.path.insert(0, "{top}/{folder}")
 import backend
-print(backend.{hook}({made!r}))
+print(backend.{hook}("{top}"))
 """
 
 
@@ -29,9 +30,8 @@ print(backend.{hook}({made!r}))
 def tree(tmp_path):
     """A copy of the sources and the prebuilt library, in a folder with a space in its name."""
     top = tmp_path / "a copy"
-    shutil.copytree(
-        HERE, top / "python", ignore=shutil.ignore_patterns("test_*", "__pycache__", "*.so")
-    )
+    ignored = shutil.ignore_patterns("test_*", "__pycache__", "*.so")
+    shutil.copytree(HERE, top / "python", ignore=ignored)
     shutil.copytree(os.path.join(TOP, "prebuilt"), top / "prebuilt")
     (top / "docs").mkdir()
     for name in ("LICENSE", "THIRD-PARTY", "docs/EXTENDED.md"):
@@ -39,15 +39,17 @@ def tree(tmp_path):
     return top
 
 
-def build(tree, hook="build_wheel", folder="python", installed=None, **env):
+def run_hook(tree, hook="build_wheel", folder="python", installed=None, **env):
+    text = BUILD.format(top=tree, folder=folder, hook=hook, installed=installed)
+    return run_python(text, {"PYTHONPATH": "", **env})
+
+
+def build(tree, **how):
     """Calls a hook, and returns the file that it wrote and what it said."""
-    made = tree / "made"
-    made.mkdir(exist_ok=True)
-    text = BUILD.format(folder=str(tree / folder), hook=hook, made=str(made), installed=installed)
-    status, printed, errors = run_python(text, {"PYTHONPATH": "", **env})
+    status, printed, errors = run_hook(tree, **how)
     assert (status, errors) == (0, "")
     *said, name = printed.splitlines()
-    return made / name, said
+    return tree / name, said
 
 
 def files_of(wheel):
@@ -70,16 +72,13 @@ def check_record(files):
 
 def test_wheel(tree):
     wheel, said = build(tree, HEDRUGAL_LIBRARY=LIBRARY)
-    assert said == [f"hedrugal: the library is that of HEDRUGAL_LIBRARY: {LIBRARY}"]
+    assert said == [f"{SAID} that of HEDRUGAL_LIBRARY: {LIBRARY}"]
     files = files_of(wheel)
     check_record(files)
-    for folder, _, names in os.walk(os.path.join(HERE, "hedrugal")):
-        if "__pycache__" not in folder:
-            for name in (os.path.join(folder, it) for it in names if not it.endswith(".so")):
-                with open(name, "rb") as opened:
-                    assert files[os.path.relpath(name, HERE)] == opened.read()
-    with open(LIBRARY, "rb") as opened:
-        assert files["hedrugal/libhedrugal.so"] == opened.read()
+    for path in Path(HERE, "hedrugal").rglob("*"):
+        if path.is_file() and "__pycache__" not in path.parts and path.suffix != ".so":
+            assert files[str(path.relative_to(HERE))] == path.read_bytes()
+    assert files["hedrugal/libhedrugal.so"] == Path(LIBRARY).read_bytes()
     tag = files[f"{NAME}.dist-info/WHEEL"].decode().split("Tag: ")[1].strip()
     assert wheel.name == f"{NAME}-{tag}.whl"
     assert tag.startswith("py3-none-manylinux_") and tag.endswith(platform.machine())
@@ -99,9 +98,8 @@ def test_documents(tree):
 def test_prebuilt(tree):
     """It is linked, and loaded from the wheel."""
     wheel, said = build(tree)
-    assert len(said) == 1 and said[0].startswith("hedrugal: the library is the prebuilt one: ")
-    with zipfile.ZipFile(wheel) as opened:
-        opened.extractall(tree / "own")
+    assert len(said) == 1 and said[0].startswith(f"{SAID} the prebuilt one: ")
+    shutil.unpack_archive(wheel, tree / "own", "zip")
     text = "import hedrugal\nprint(hedrugal.__file__, *hedrugal.Parser().feed(b'q'))\n"
     _, printed, _ = run_python(text, {"PYTHONPATH": str(tree / "own")})
     assert printed.startswith(f"{tree}/own/hedrugal/__init__.py KeyReport(key='q'")
@@ -109,27 +107,22 @@ def test_prebuilt(tree):
 
 def test_what_comes_first(tree):
     """What make built comes before an installed library, and that before the prebuilt one."""
-    assert build(tree, installed=LIBRARY)[1] == [
-        f"hedrugal: the library is the installed one: {LIBRARY}"
-    ]
+    assert build(tree, installed=LIBRARY)[1] == [f"{SAID} the installed one: {LIBRARY}"]
     built = tree / "out/lib/libhedrugal.so"
     built.parent.mkdir(parents=True)
     shutil.copy(LIBRARY, built)
-    assert build(tree, installed=LIBRARY)[1] == [
-        f"hedrugal: the library is what make built: {built}"
-    ]
+    assert build(tree, installed=LIBRARY)[1] == [f"{SAID} what make built: {built}"]
     built.unlink()
     (said,) = build(tree, installed="libhedrugal.so.none")[1]
-    assert said.startswith("hedrugal: the library is the prebuilt one: ")
+    assert said.startswith(f"{SAID} the prebuilt one: ")
 
 
 def test_source_distribution(tree):
     """A wheel of it is that of the sources."""
     wheel = build(tree)[0].read_bytes()
-    source, said = build(tree, "build_sdist")
+    source, said = build(tree, hook="build_sdist")
     assert (source.name, said) == (f"{NAME}.tar.gz", [])
-    with tarfile.open(source) as opened:
-        opened.extractall(tree / "unpacked")
+    shutil.unpack_archive(source, tree / "unpacked")
     assert os.listdir(tree / "unpacked") == [NAME]
     assert (tree / "unpacked" / NAME / "PKG-INFO").read_text().startswith("Metadata-Version: ")
     assert build(tree, folder=f"unpacked/{NAME}")[0].read_bytes() == wheel
@@ -137,10 +130,7 @@ def test_source_distribution(tree):
 
 def refusal(tree, **env):
     """The line with which the build of a wheel fails."""
-    text = BUILD.format(
-        folder=str(tree / "python"), hook="build_wheel", made=str(tree), installed=None
-    )
-    status, _, errors = run_python(text, {"PYTHONPATH": "", **env})
+    status, _, errors = run_hook(tree, **env)
     assert status == 1 and errors.startswith("hedrugal: ") and errors.count("\n") == 1
     return errors
 
@@ -165,21 +155,15 @@ def test_named_library(tree):
     text = tree / "text.so"
     text.write_text("text")
     missing = str(tree / "none.so")
+    libc = re.search(r"/.*/libc\.so\.6$", Path("/proc/self/maps").read_text("utf-8"), re.M)[0]
     assert f"there is no {missing}" in refusal(tree, HEDRUGAL_LIBRARY=missing)
     assert f"{text} isn't a shared library" in refusal(tree, HEDRUGAL_LIBRARY=str(text))
-    assert "hed_version" in refusal(tree, HEDRUGAL_LIBRARY=loaded("libc.so.6"))
-
-
-def loaded(name):
-    """The file of a shared library of this process."""
-    with open("/proc/self/maps", encoding="utf-8") as maps:
-        return next(line.split()[-1] for line in maps if line.rstrip().endswith(f"/{name}"))
+    assert "hed_version" in refusal(tree, HEDRUGAL_LIBRARY=libc)
 
 
 def test_another_version(tree):
     module = tree / "python/hedrugal/__init__.py"
     line = f'__version__ = "{hedrugal.__version__}"\n'
     text = module.read_text(encoding="utf-8")
-    assert text.count(line) == 1
     module.write_text(text.replace(line, '__version__ = "9.8.7"\n'), encoding="utf-8")
     assert "of version 9.8.7: " in refusal(tree, HEDRUGAL_LIBRARY=LIBRARY)

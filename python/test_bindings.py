@@ -7,15 +7,10 @@ import weakref
 
 import pytest
 
-import hedrugal
 from hedrugal import Bindings, Bound, Chord, KeyNameError, KeyPress, KittyModifiers, Matcher
 from hedrugal import Unbound
 from hedrugal._calls import STATUS_NO_MEMORY
 from hedrugal._library import library
-
-
-def numbered(chords):
-    return Bindings(zip(chords.split(", "), range(1, 99)))
 
 
 def press(name):
@@ -24,31 +19,6 @@ def press(name):
 
 def named(presses):
     return " ".join(map(str, presses))
-
-
-def told(outcomes):
-    """Values, or `?` and a press."""
-    return [it.value if isinstance(it, Bound) else f"?{it.press}" for it in outcomes]
-
-
-def test_keys_run_commands():
-    matcher = Matcher(numbered("ctrl+x ctrl+s, g, g g, ctrl+\u0441, ctrl+c, a b c"))
-    assert [told(matcher.press(key)) for key in ("ctrl+x", "ctrl+s", "g", "g", "g")] == [
-        *([], [1], [], [3], [])
-    ]
-    assert (named(matcher.pending), told([matcher.on_pause()])) == ("g", [2])
-    assert told(matcher.give_up()) == [2] and matcher.on_pause() is None
-    # The second press counts where the first one leads nowhere.
-    assert told(matcher.press("ctrl+\u0441", press("ctrl+c"))) == [4]
-    del matcher.bindings["ctrl+\u0441"]
-    assert told(matcher.press("ctrl+\u0441", press("ctrl+c"))) == [5]
-    for key in ("ctrl+x", "z"):
-        assert not matcher.is_dead_end
-        matcher.push(key)
-    assert matcher.is_dead_end and named(matcher.cancel()) == "ctrl+x z"
-    assert matcher.press("a") == matcher.press("b") == []
-    del matcher.bindings["a b c"]
-    assert told(iter(matcher.take, None)) == ["?a", "?b"] and matcher.pending == ()
 
 
 def test_bindings_are_a_mapping():
@@ -196,19 +166,11 @@ def test_they_cannot_be_pickled():
 
 def test_memory_that_is_refused_leaves_them_unchanged(monkeypatch):
     bindings = Bindings({"g": 1})
-
-    class Refusing:
-        def __getattr__(self, name):
-            return getattr(library, name)
-
-        def hed_bindings_bind(self, *_):
-            return STATUS_NO_MEMORY
-
-    monkeypatch.setattr(hedrugal.bindings, "library", Refusing())
-    with pytest.raises(MemoryError):
-        bindings["x"] = 2
-    bindings["g"] = 3
-    monkeypatch.undo()
+    with monkeypatch.context() as patch:
+        patch.setattr(library, "hed_bindings_bind", lambda *_: STATUS_NO_MEMORY)
+        with pytest.raises(MemoryError):
+            bindings["x"] = 2
+        bindings["g"] = 3
     assert bindings == {Chord.read("g"): 3}
     bindings["x"] = 4
     assert bindings["x"] == 4

@@ -6,9 +6,10 @@ import re
 
 import pytest
 
-from hedrugal import Chord, Dialect, EncodeError, KeyboardEncoding, KeyCodeEncodeModes
-from hedrugal import KeyNameError, KeyPress, KeyReport, KittyKeyboardFlags, Modifiers, MouseButton
-from hedrugal import MouseEncoding, MouseTracking, Parser, Policy, SentMouse
+from hedrugal import Bindings, Bound, Chord, Dialect, EncodeError, KeyboardEncoding
+from hedrugal import KeyCodeEncodeModes, KeyNameError, KeyPress, KeyReport, KittyKeyboardFlags
+from hedrugal import Matcher, Modifiers, MouseButton, MouseEncoding, MouseTracking, Parser, Policy
+from hedrugal import SentMouse, Unbound
 from hedrugal import encode, encode_event, encode_paste, reply
 from hedrugal import _calls as numbers
 from hedrugal._library import borrowed, library
@@ -141,6 +142,40 @@ def check_names(words, told):
     assert quoted(str(chord).encode()) == told
     assert str(chord) == " ".join(map(str, chord))
     assert Chord.read(str(chord)) == chord == Chord(iter(chord))
+
+
+def named(presses):
+    return " ".join(map(str, presses))
+
+
+def outcome_line(it):
+    if isinstance(it, Bound):
+        return str(it.value)
+    return f"?{it.press}" if isinstance(it, Unbound) else f"cancelled {named(it)}"
+
+
+def check_bindings(words, told):
+    names, keys = " ".join(words).split(": ")
+    chords = [] if names == "nothing" else names.split(", ")
+    matcher, outcomes = Matcher(Bindings(zip(chords, range(1, 99)))), []
+    for word in keys.split(" "):
+        if word == "PAUSE":
+            outcomes += [matcher.on_pause(), *matcher.give_up()[1:]]
+            assert matcher.on_pause() is None
+        elif word == "UNBIND":
+            del matcher.bindings[chords[0]]
+            outcomes += iter(matcher.take, None)
+        elif word == "CANCEL":
+            assert matcher.is_dead_end
+            outcomes.append(matcher.cancel())
+        elif keys.endswith("CANCEL"):
+            assert not matcher.is_dead_end
+            matcher.push(word)
+        else:
+            key, *second = word.split("/")
+            outcomes += matcher.press(key, *(Chord.read(it).presses[0] for it in second))
+    line = f"{', '.join(map(outcome_line, outcomes))} | {named(matcher.pending)}"
+    assert line == told.replace("nothing", "")
 
 
 def sent_line(call, *words):

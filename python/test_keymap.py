@@ -118,11 +118,19 @@ def test_keys_of_other_types(keys):
 
 
 def test_many_keys(keys):
-    for number in range(3000):
+    for number in range(20000):
         keys.insert(number.to_bytes(2, "big"), number)
-    for number in range(3000):
+    for number in range(20000):
         assert keys.lookup(number.to_bytes(2, "big")) == Exact(2, number)
-    assert (keys.lookup((3000).to_bytes(2, "big")), len(keys)) == (Nothing(), 3000)
+    assert (keys.lookup((20000).to_bytes(2, "big")), len(keys)) == (Nothing(), 20000)
+
+
+def test_a_long_key(keys):
+    key = LONG * 400
+    keys.insert(key, 1)
+    keys.insert(key[:5000], 2)
+    assert keys.lookup(key) == Exact(len(key), 1)
+    assert keys.lookup(key[:6000], False) == Exact(5000, 2)
 
 
 class Token:

@@ -3,8 +3,8 @@ from unittest import mock
 
 import pytest
 
-from hedrugal import EncodeError, MouseButton, MouseEncoding, MouseTracking, Paste, SentMouse
-from hedrugal import encode_paste
+from hedrugal import EncodeError, KeyReport, KittyKeyboardFlags, MouseButton, MouseEncoding
+from hedrugal import MouseTracking, Paste, SentMouse, encode_event, encode_paste
 from hedrugal._library import library
 
 
@@ -14,9 +14,12 @@ def test_a_long_paste(parser):
     assert parser.feed(encode_paste(b"\x1b" * 1000, True)) == [Paste(text)]
 
 
-def test_a_paste_of_2_mb(parser):
+def test_a_text_of_2_mb(parser):
     text = "x" * (2 << 20)
-    assert parser.feed(encode_paste(text.encode(), True)) == [Paste(text)]
+    sent = encode_paste(text.encode(), True)
+    assert parser.feed(sent) == [Paste(text)]
+    assert encode_event(Paste(text), parser) == sent
+    assert KeyReport("x", text=text).encode(KittyKeyboardFlags.NONE) == text.encode()
 
 
 def test_what_is_no_report():

@@ -2,14 +2,16 @@
 import collections
 import contextlib
 import gc
+import itertools
 import signal
 import sys
 import threading
+import time
 
 import pytest
 
 import hedrugal
-from hedrugal import Exact, KeyMap, Parser, Waiting
+from hedrugal import Dialect, Exact, KeyMap, Parser, Waiting
 from helpers import EVENTS, SECONDS, STREAM, all_of, assert_prints, uses_of
 
 THREADS = 4
@@ -108,6 +110,56 @@ def test_close_in_any_thread(often):
 
         assert run_all(run) == [None] * THREADS
         assert parser.closed and keys.closed
+
+
+@pytest.mark.parametrize("dialect", Dialect)
+def test_each_has_a_parser(dialect, often):
+    stream = (STREAM + b"[A") * 20
+    pieces = [stream[at : at + 7] for at in range(0, len(stream), 7)]
+    with Parser(dialect) as parser:
+        wanted = all_of(parser, stream)
+
+    def work():
+        with Parser(dialect) as parser:
+            return [all_of(parser, *pieces) for _ in range(50)]
+
+    assert wanted and run_all(work) == [[wanted] * 50] * THREADS
+
+
+@pytest.mark.skipif(
+    not getattr(sys, "_is_gil_enabled", lambda: True)(), reason="this Python has no lock"
+)
+@pytest.mark.parametrize("dialect", Dialect)
+def test_close_and_remake(dialect, often):
+    """One thread closes what all use, and makes others: a call raises nothing but that they are
+    closed."""
+    stream, numbers, end = STREAM * 20, itertools.count(), time.monotonic() + 1
+    parser, keys = Parser(dialect), KeyMap()
+
+    def use():
+        parser.feed(bytearray(stream))
+        parser.feed(stream + b"\x1b[200~" + stream)
+        parser.end()
+        parser.reset()
+        for length in range(50):
+            keys.insert(stream[:length], object())
+            keys.lookup(stream)
+
+    def work():
+        nonlocal parser, keys
+        remakes = next(numbers) == 0
+        while time.monotonic() < end:
+            try:
+                use()
+                if remakes:
+                    parser.close()
+                    keys.close()
+                    parser, keys = Parser(dialect), KeyMap()
+            except ValueError as error:
+                assert str(error) in ("the parser is closed", "the map is closed")
+
+    assert run_all(work) == [None] * THREADS
+    parser.close()
 
 
 class InTheMiddle:

@@ -5,7 +5,8 @@ from unittest import mock
 import pytest
 
 from hedrugal import ColourScheme, Csi, CursorPosition, Dcs, Dialect, EncodeError, EraseByte
-from hedrugal import FocusGained, Parser, KeyCode, KeyEventKind, KeyReport, KittyModifiers
+from hedrugal import FocusGained, KeyboardFlags, KeyCode, KeyEventKind, KeyReport
+from hedrugal import KittyKeyboardFlags, KittyModifiers, Parser
 from hedrugal import Modifiers, MouseButtons, MouseKind, MouseReport, NewlineByte, Osc, Paste
 from hedrugal import Reading, StringCut, StringKind, StringPart, encode, encode_colour_scheme
 from hedrugal import encode_cursor_position, encode_device_attributes, encode_event
@@ -67,6 +68,15 @@ def test_long_strings():
     for parser in map(parser_by, READINGS):
         assert encode_event(event, parser) == sent
         assert_read_back(parser, event, sent)
+
+
+def test_flags_without_a_name():
+    with Parser(Dialect.EXTENDED) as parser:
+        for flags, unnamed in ((0, 128), (31, 96)):
+            event = KeyboardFlags(KittyKeyboardFlags(flags), unnamed)
+            sent = encode_event(event, parser)
+            assert sent == b"\x1b[?%du" % (flags + unnamed)
+            assert_read_back(parser, event, sent)
 
 
 def test_events_of_another_reading():

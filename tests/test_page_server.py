@@ -20,8 +20,8 @@ from concurrent.futures import ThreadPoolExecutor
 
 import hedrugal
 import pytest
-from conftest import TOP, entries_after, header_constant, run_without_terminal
-from hedrugal import Function, KeyCode, KeyPress, Modifiers, Parser, encode
+from conftest import SECONDS, TOP, entries_after, header_constant, run_without_terminal
+from hedrugal import KeyCode, KeyPress, Modifiers, Parser, encode
 from hedrugal.page import meanings
 from hedrugal.page.lines import key_line, key_name, press_name, set_name, waiting_name
 from hedrugal.page.lines import line as line_of
@@ -39,7 +39,6 @@ EXTENDED_STREAM += b"\x1b]a\rb\x1b[M !!\x1b[?62;4c\xc3\xa9"
 BEGINNINGS = b"\x1b[? \x1b]11 \x1b]l\x1b \x1bP@ \x1bP1$ \x1b_ \x1b[[ \x1bO2 \x1b\x1b]1 \x1b\x1b[?1"
 BEGINNINGS = [*BEGINNINGS.split(), b"\x1bO0"]
 BEGUN = "csi osc osc dcs dcs apc report report osc csi report".split()
-SECONDS = 60
 # What each answer, also a refusal, tells the browser.
 POLICY = """default-src 'none'; script-src 'self'; style-src 'self'; img-src 'self';
 connect-src 'self'; base-uri 'none'; form-action 'none'; frame-ancestors 'none';
@@ -76,6 +75,8 @@ class Client:
         connection.close()
         for name, value in HEADERS.items():
             assert answer.headers.get_all(name) == [value], (method, path)
+        # No answer is for other origins.
+        assert "access-control" not in str(answer.headers).lower()
         return answer.status, answer.headers, data
 
     def status(self, method, path, body=None, **headers):
@@ -89,14 +90,6 @@ class Client:
     def told(self, path, data=None):
         status, headers, body = self.ask("GET" if data is None else "POST", path, data)
         assert (status, headers["Content-Type"]) == (200, "application/json")
-        return json.loads(body)
-
-    def told_within(self, seconds, path, data):
-        """A short answer within so many seconds of the processor's time, whatever else runs."""
-        began = time.process_time()
-        status, _, body = self.ask("POST", path, data)
-        assert time.process_time() - began < seconds
-        assert (status, len(body) < 1 << 16) == (200, True)
         return json.loads(body)
 
     def waits(self, data, reading="table", **wanted):
@@ -211,12 +204,6 @@ def test_sites(client):
     assert client.status_of("/", Sec_Fetch_Site="cross-site") == 200
 
 
-def test_no_answer_is_for_other_origins(client):
-    for words in ("GET /", "POST /api/read", "OPTIONS /api/read", "GET /none"):
-        headers = client.ask(*words.split(), b"q" if words.startswith("POST") else None)[1]
-        assert [name for name in headers if name.lower().startswith("access-control")] == []
-
-
 def test_paths(client):
     paths = "/none /server.py /__main__.py /page/ /page.css/ /PAGE.CSS /%70age.css /./page.css /api"
     paths += " /../page/page.css /..%2f__init__.py /etc/passwd //etc/passwd /favicon.ico"
@@ -246,6 +233,7 @@ def test_sizes(client, path):
     chunks = {"Content_Length": None, "Transfer_Encoding": "chunked"}
     assert client.status("POST", path, b"1\r\nq\r\n0\r\n\r\n", **chunks) == 411
     assert client.status_of(path, Content_Length=["1", "1"]) == 411
+    assert client.status_of(path, Transfer_Encoding="chunked") == 411
 
 
 def test_get_with_a_body(client):
@@ -364,7 +352,6 @@ def test_at_one_time(client):
 def test_streams(client, end):
     for rest in RESTS:
         client.check(STREAM + rest, end)
-        client.check(rest, end)
     for reading, rest in itertools.product(READINGS, RESTS + BEGINNINGS):
         client.check(EXTENDED_STREAM + rest, end, reading)
         client.check(rest, end, reading)
@@ -420,55 +407,45 @@ def test_readings(client, data, table, extended):
 
 
 ALL_HELD = "SHIFT+ALT+CTRL+SUPER+HYPER+META+CAPS_LOCK+NUM_LOCK"
-# Bytes that the table doesn't know, their line in hedrugal-keys, and what is shown of their text.
+# Bytes that the table doesn't know, their line in hedrugal-keys, and what is shown of their text
+# and of their press.
 REPORTS = [
-    (b"\x1b[97;5:3u", "key U+0061 CTRL release", "a"),
-    (b"\x1b[97;1:2u", "key U+0061 NONE repeat", "a"),
-    (b"\x1b[97:65:99;2;65u", "key U+0061 SHIFT shifted U+0041 base U+0063 text 1:41", "A"),
-    (b"\x1b[97::99;;228u", "key U+0061 NONE base U+0063 text 2:c3a4", "ä"),
-    (b"\x1b[97;256:1u", f"key U+0061 {ALL_HELD}", "a"),
-    (b"\x1b[57414u", "key functional 57414 NONE", ""),
-    (b"\x1b[[B", "key F2 NONE", ""),
-    (b"\x1b[1;1:3A", "key UpArrow NONE release", ""),
-    (b"\x1b[I", "focus gained", ""),
-    (b"\x1b[O", "focus lost", ""),
-    (b"\x1b[?24;80;1R", "cursor 24 80", ""),
-    (b"\x1b[48;24;80;480;800t", "resized 24 80 480 800", ""),
-    (b"\x1b[?31u", "keyboard flags 31", ""),
-    (b"\x1b[32;3;4M", "mouse 3 4 LEFT NONE press 1", ""),
-    (b"\x1b[<136;3;4M", "mouse 3 4 NONE ALT press 8", ""),
-    (b"\x1b[<129;3;4m", "mouse 3 4 NONE NONE release 9", ""),
-    (b"\x1b[23$", "key F11 SHIFT", ""),
-    (b"\x1bO5Q", "key F2 CTRL", ""),
-    (b"\x1b[R", "key F3 NONE", ""),
-    (b"\x1b[M", "csi 1:4d", "M"),
-    (b"\x1b[?62;4c", "csi 6:3f36323b3463", "?62;4c"),
-    (b"\x1b]11;#fff\a", "osc 7:31313b23666666", "11;#fff"),
-    (b"\x1b]4;\xff<b>\x1b\\", "osc 6:343bff3c623e", "4;\ufffd<b>"),
-    (b"\x1b]l\a", "osc 1:6c", "l"),
-    (b"\x1bP>|x\x1b\\", "dcs 3:3e7c78", ">|x"),
-    (b"\x1b_Gi=1;OK\x1b\\", "apc 7:47693d313b4f4b", "Gi=1;OK"),
-    (b"\x1b]0;" + b"x" * 28 + b"\a", "osc 30:303b" + "78" * 22 + "…", "0;" + "x" * 22 + "…"),
+    (b"\x1b[97;5:3u", "key U+0061 CTRL release", "a", ""),
+    (b"\x1b[97;1:2u", "key U+0061 NONE repeat", "a", "a"),
+    (b"\x1b[97:65:99;2;65u", "key U+0061 SHIFT shifted U+0041 base U+0063 text 1:41", "A", "A"),
+    (b"\x1b[97::99;;228u", "key U+0061 NONE base U+0063 text 2:c3a4", "ä", "ä"),
+    (b"\x1b[97;256:1u", f"key U+0061 {ALL_HELD}", "a", "super+hyper+meta+ctrl+alt+shift+a"),
+    (b"\x1b[57414u", "key functional 57414 NONE", "", "enter"),
+    (b"\x1b[[B", "key F2 NONE", "", "f2"),
+    (b"\x1b[1;1:3A", "key UpArrow NONE release", "", ""),
+    (b"\x1b[I", "focus gained", "", ""),
+    (b"\x1b[O", "focus lost", "", ""),
+    (b"\x1b[?24;80;1R", "cursor 24 80", "", ""),
+    (b"\x1b[48;24;80;480;800t", "resized 24 80 480 800", "", ""),
+    (b"\x1b[?31u", "keyboard flags 31", "", ""),
+    (b"\x1b[32;3;4M", "mouse 3 4 LEFT NONE press 1", "", ""),
+    (b"\x1b[<136;3;4M", "mouse 3 4 NONE ALT press 8", "", ""),
+    (b"\x1b[<129;3;4m", "mouse 3 4 NONE NONE release 9", "", ""),
+    (b"\x1b[23$", "key F11 SHIFT", "", "shift+f11"),
+    (b"\x1bO5Q", "key F2 CTRL", "", "ctrl+f2"),
+    (b"\x1b[R", "key F3 NONE", "", "f3"),
+    (b"\x1b[M", "csi 1:4d", "M", ""),
+    (b"\x1b[?62;4c", "csi 6:3f36323b3463", "?62;4c", ""),
+    (b"\x1b]11;#fff\a", "osc 7:31313b23666666", "11;#fff", ""),
+    (b"\x1b]4;\xff<b>\x1b\\", "osc 6:343bff3c623e", "4;\ufffd<b>", ""),
+    (b"\x1b]l\a", "osc 1:6c", "l", ""),
+    (b"\x1bP>|x\x1b\\", "dcs 3:3e7c78", ">|x", ""),
+    (b"\x1b_Gi=1;OK\x1b\\", "apc 7:47693d313b4f4b", "Gi=1;OK", ""),
+    (b"\x1b]0;" + b"x" * 28 + b"\a", "osc 30:303b" + "78" * 22 + "…", "0;" + "x" * 22 + "…", ""),
+    (b"\x1b[1089::99;5u", "key U+0441 CTRL base U+0063", "с", "ctrl+с or ctrl+c"),
 ]
 
 
-# The names of the presses of those that have one, in their order. Another case has two names.
-PRESSES = "a A ä super+hyper+meta+ctrl+alt+shift+a enter f2 shift+f11 ctrl+f2 f3".split()
-PRESSES = dict(
-    zip((it for _, it, _ in REPORTS if it.startswith("key ") and "release" not in it), PRESSES)
-)
-
-
-@pytest.mark.parametrize("data, line, glyphs", REPORTS)
-def test_lines_beyond_the_table(client, data, line, glyphs):
+@pytest.mark.parametrize("data, line, glyphs, press", REPORTS)
+def test_lines_beyond_the_table(client, data, line, glyphs, press):
     [[*item, written]], told = client.check(data, "more", "extended")
-    assert (item, told["waits"]) == ([len(data), line, glyphs, PRESSES.get(line, "")], None)
+    assert (item, told["waits"]) == ([len(data), line, glyphs, press], None)
     assert written["length"] >= len(written["bytes"]) // 2 > 2
-
-
-def test_second_press(client):
-    items, _ = client.check(b"\x1b[1089::99;5u", "more", "extended")
-    assert items[0][3] == "ctrl+с or ctrl+c"
 
 
 def test_beginnings(client):
@@ -481,11 +458,10 @@ def test_beginnings(client):
 
 
 def test_beginnings_of_the_table_too(client):
-    line = "key UpArrow NONE"
     for reading, begins in zip(READINGS, (None, "csi")):
         waits = client.waits(b"\x1b[1;", reading)
         found = waits["begins"], waits["count"], waits["named"][0]
-        assert found == (begins, 169, ["1b5b313b3141", line])
+        assert found == (begins, 169, ["1b5b313b3141", "key UpArrow NONE"])
     waits = client.waits(b"\x1b[<0;3", "extended")
     assert (waits["count"], waits["begins"]) == (0, "csi")
     assert waits["mouse"][1] == "mouse 33 4 LEFT NONE press 1"
@@ -522,9 +498,8 @@ def test_waits(client):
     assert client.waits(b"q") is None
     wanted = {"kind": "Escape", "length": 1, "flushed": ["key Escape NONE"], "with_alt": False}
     wanted |= {"alt": ["1b71", "key U+0071 ALT"], "count": entries_after(b"\x1b")}
-    waits = client.waits(
-        b"q\x1b", mouse=["1b5b3c303b333b344d", "mouse 3 4 LEFT NONE press 1"], **wanted
-    )
+    mouse = ["1b5b3c303b333b344d", "mouse 3 4 LEFT NONE press 1"]
+    waits = client.waits(b"q\x1b", mouse=mouse, **wanted)
     assert waits["named"][0] == ["1b5b41", "key UpArrow NONE"]
     waits = client.waits(b"\x1b\x1b", flushed=["key Escape ALT"], with_alt=True)
     assert waits["named"][0] == ["1b1b5b41", "key UpArrow ALT"]
@@ -560,23 +535,18 @@ def test_table(client):
         assert key_name(meanings.key_of(name)) == name
 
 
-# Names with further modifiers, and of each key what it is, what is held, its line and its press.
-HELD_ENTER = "ALT+CTRL", "key Enter ALT+CTRL", "ctrl+alt+enter"
+# Names with further modifiers, and of each key its press and its line.
 ENCODED = [
-    ("UpArrow", "NONE", [(KeyCode.UP_ARROW, "NONE", "key UpArrow NONE", "up")]),
-    ("up", "CTRL", [(KeyCode.UP_ARROW, "CTRL", "key UpArrow CTRL", "ctrl+up")]),
-    ("U+0069", "CTRL", [("i", "CTRL", "key U+0069 CTRL", "ctrl+i")]),
-    ("C-i", "NONE", [("i", "CTRL", "key U+0069 CTRL", "ctrl+i")]),
-    ("Ctrl+Alt+Enter", "NONE", [(KeyCode.ENTER, *HELD_ENTER)]),
-    ("<S-F5>", "NONE", [(Function(5), "SHIFT", "key F5 SHIFT", "shift+f5")]),
-    ("€", "ALT", [("€", "ALT", "key U+20AC ALT", "alt+€")]),
-    ("A", "SHIFT", [("A", "SHIFT", "key U+0041 SHIFT", "A")]),
-    ("shift+tab", "NONE", [(KeyCode.TAB, "SHIFT", "key Tab SHIFT", "shift+tab")]),
-    (
-        "C-x C-s",
-        "NONE",
-        [("x", "CTRL", "key U+0078 CTRL", "ctrl+x"), ("s", "CTRL", "key U+0073 CTRL", "ctrl+s")],
-    ),
+    ("UpArrow", "NONE", {"up": "key UpArrow NONE"}),
+    ("up", "CTRL", {"ctrl+up": "key UpArrow CTRL"}),
+    ("U+0069", "CTRL", {"ctrl+i": "key U+0069 CTRL"}),
+    ("C-i", "NONE", {"ctrl+i": "key U+0069 CTRL"}),
+    ("Ctrl+Alt+Enter", "NONE", {"ctrl+alt+enter": "key Enter ALT+CTRL"}),
+    ("<S-F5>", "NONE", {"shift+f5": "key F5 SHIFT"}),
+    ("€", "ALT", {"alt+€": "key U+20AC ALT"}),
+    ("A", "SHIFT", {"A": "key U+0041 SHIFT"}),
+    ("shift+tab", "NONE", {"shift+tab": "key Tab SHIFT"}),
+    ("C-x C-s", "NONE", {"ctrl+x": "key U+0078 CTRL", "ctrl+s": "key U+0073 CTRL"}),
 ]
 
 
@@ -592,10 +562,11 @@ def modifiers_of(names):
 @pytest.mark.parametrize("name, modifiers, keys", ENCODED)
 def test_encodings(client, name, modifiers, keys):
     told = encodings(client, name, modifiers)
-    assert [(it["line"], it["press"]) for it in told] == [it[2:] for it in keys]
-    for (key, held, _, press), it in zip(keys, told):
-        sent = [encode(key, modifiers_of(held), modes).hex() for modes in meanings.MODES]
-        assert [text for text, *_ in it["sent"]] == sent
+    assert [(it["press"], it["line"]) for it in told] == [*keys.items()]
+    for (press, line), it in zip(keys.items(), told):
+        _, key, held = line.split(" ")
+        key, held = meanings.key_of(key), modifiers_of(held)
+        assert sent(it["sent"]) == [encode(key, held, modes) for modes in meanings.MODES]
         assert (len(it["sent"]), len(it["kitty"])) == (24, 4)
         for text, *said in it["sent"] + it["kitty"]:
             with Parser() as parser:
@@ -609,16 +580,12 @@ def sent(texts):
     return [bytes.fromhex(it[0]) if it else None for it in texts]
 
 
-def test_encodings_in_all_modes(client):
-    told = encodings(client, "ctrl+up")[0]
-    assert {*sent(told["sent"] + told["kitty"])} == {b"\x1b[1;5A"}
-
-
 # What is sent under Kitty's flags 1, 5, 9 and 29.
 BY_KITTY = {
     "a": [b"a", b"a", b"\x1b[97u", b"\x1b[97;;97u"],
     "A": [b"A", b"A", b"\x1b[97;2u", b"\x1b[97:65;2;65u"],
     "ctrl+i": [b"\x1b[105;5u"] * 4,
+    "ctrl+up": [b"\x1b[1;5A"] * 4,
     "ctrl+shift+a": [b"\x1b[97;6u", b"\x1b[97:65;6u", b"\x1b[97;6u", b"\x1b[97:65;6u"],
     "enter": [b"\r", b"\r", b"\x1b[13u", b"\x1b[13u"],
     "hyper+x": [b"\x1b[120;17u"] * 4,
@@ -643,11 +610,6 @@ def test_keys_that_are_no_press(client):
     assert told["kitty"][-1][1:] == ["key LeftShift NONE", "no press", True]
 
 
-def test_encodings_that_are_read_as_another(client):
-    told = encodings(client, "ctrl+i")[0]
-    assert told["sent"][0] == ["09", "key Tab NONE", "tab", False]
-
-
 def test_names_are_those_of_keyshow():
     """The lines are those of the cases."""
     names = [key_name(it) for it in (KeyCode.UP_ARROW, "q", "\U0001f600")]
@@ -658,25 +620,23 @@ def test_names_are_those_of_keyshow():
     keys = {*re.findall(r"\bkey (\S+) ([A-Z+]+)(?=[,|\s])", lines)}
     assert len(keys) > 20
     for key, held in keys:
-        line = key_line(meanings.key_of(key), modifiers_of(held))
-        assert line == f"key {key} {held}"
+        assert key_line(meanings.key_of(key), modifiers_of(held)) == f"key {key} {held}"
 
 
 PIECES = [b"a", b"\x1b[A", b"\x1b", b"\xff", b"\x1b[200~a\x1b[201~"]
-OTHERS = [b"\xe2\x82\xac", b"\x1b[<0;3;4M"]
 BEYOND = [b"\x1b[97;5:3u", b"\x1b]11;#fff\a", b"\x1b]0;" + b"a" * 65536]
-
-
-LONG = [("table", 2, it) for it in PIECES + OTHERS]
+LONG = [("table", 2, it) for it in [*PIECES, b"\xe2\x82\xac", b"\x1b[<0;3;4M"]]
 LONG += [("extended", 4, it) for it in PIECES + BEYOND]
 
 
 @pytest.mark.parametrize("path", ["read?end=more&first=0&", "reads?", "cut?at=5000&"])
 @pytest.mark.parametrize("reading, seconds, piece", LONG, ids=lambda it: repr(it)[:20])
 def test_a_megabyte(client, path, reading, seconds, piece):
-    """It takes two seconds, and four in the extended dialect."""
-    data = (piece * (MOST // len(piece) + 1))[:MOST]
-    client.told_within(seconds, f"/api/{path}reading={reading}", data)
+    """The processor takes two seconds, and four in the extended dialect. The answer is short."""
+    data, began = (piece * (MOST // len(piece) + 1))[:MOST], time.process_time()
+    status, _, body = client.ask("POST", f"/api/{path}reading={reading}", data)
+    assert time.process_time() - began < seconds
+    assert (status, len(body) < 1 << 16) == (200, True) and json.loads(body)
 
 
 PROGRAM = [sys.executable, "-W", "error", "-m", "hedrugal.page"]
@@ -694,23 +654,20 @@ def run_program(*words):
     return done.returncode, done.stdout, done.stderr
 
 
-def test_program_help():
-    status, printed, errors = run_program("--help")
-    assert (status, errors) == (0, "")
-    assert "python3 -m hedrugal.page [--port N]" in printed
-
-
+HELP = r"(?s).*python3 -m hedrugal\.page \[--port N\].*"
 UNKNOWN = r"hedrugal\.page: what is '.*'\? --help lists the words\n"
 PORT = r"(?s).*--port wants a number from 1 to 65535.*"
-WRONG = {it: UNKNOWN for it in ("x", "--prot 1", "--port 8080 x", "--help x", "x --help", "")}
-WRONG |= {f"--port {it}".strip(): PORT for it in ("", "x", "0", "65536", "-1", "08080000")}
+RUNS = {"--help": (0, HELP, "")}
+RUNS |= {
+    it: (2, "", UNKNOWN) for it in ("x", "--prot 1", "--port 8080 x", "--help x", "x --help", "")
+}
+RUNS |= {f"--port {it}".strip(): (2, "", PORT) for it in ("", "x", "0", "65536", "-1", "08080000")}
 
 
-@pytest.mark.parametrize("words, says", WRONG.items(), ids=WRONG)
-def test_program_wrong_words(words, says):
-    status, printed, errors = run_program(*words.split(" "))
-    assert (status, printed) == (2, "")
-    assert re.fullmatch(says, errors)
+@pytest.mark.parametrize("words, wanted", RUNS.items(), ids=RUNS)
+def test_program_words(words, wanted):
+    status, *said = run_program(*words.split(" "))
+    assert status == wanted[0] and all(map(re.fullmatch, wanted[1:], said)), said
 
 
 def test_program_serves_until_it_is_interrupted():

@@ -9,7 +9,7 @@ import re
 import subprocess
 
 import pytest
-from conftest import TOP
+from conftest import SECONDS, TOP
 
 TEST_CALLS = os.environ.get("TEST_CALLS") or str(TOP / "crates/test_calls/out/test_calls")
 
@@ -208,7 +208,7 @@ class Program:
         return self
 
     def __exit__(self, *_):
-        self.process.communicate(timeout=60)
+        self.process.communicate(timeout=SECONDS)
         assert self.process.returncode == 0
 
     def ask(self, *words):

@@ -8,11 +8,14 @@ import random
 import re
 import subprocess
 
+import hedrugal
 import pytest
-from conftest import TOP
+from cases import cases_of, events_line, text_of
+from cases import key_of as key_named
+from conftest import SECONDS, TOP
+from hedrugal import KeyEventKind, KeyReport, MouseButtons, MouseKind, MouseReport
+from hedrugal import KittyModifiers, Modifiers, Paste, PastePart, StringKind
 from test_rattle import TEST_CALLS, answers, command, pasted
-
-from hedrugal import Function, KeyCode, KeyEventKind, KeyPress, KeyReport, KittyModifiers
 
 LONGEST = 2**64 - 1
 START, END = b"\x1b[200~", b"\x1b[201~"
@@ -36,7 +39,7 @@ class Asked:
         return self
 
     def __exit__(self, *_):
-        self.process.communicate(timeout=60)
+        self.process.communicate(timeout=SECONDS)
         assert self.process.returncode == 0
 
     def call(self, *call):
@@ -66,205 +69,125 @@ def check_runs(runs):
             )
 
 
-# The worked runs.
-NAMES = {"ESC": b"\x1b", "START": START, "END": END, "CR": b"\r"}
+# The runs of tests/cases.
+READINGS = {"backspace": ("erase", 8), "enter": ("newline", 1), "x10": ("x10_mouse", 1)}
+ANSWERED = ["timeout", "skip", "reset"]
 
 
-def bytes_of(words):
-    """Bytes as a run has them: a name, a text in quotes or a number."""
-    found = [NAMES.get(it) or (it[1:-1].encode() if it[0] == "`" else None) for it in words]
-    return b"".join(it or bytes([int(word, 16)]) for it, word in zip(found, words))
+def reading_calls(word):
+    dialect, *others = word.split("+")
+    yield ("new", int(dialect == "termwiz"))
+    for it in others:
+        yield READINGS.get(it) or ("questions", int(it.removeprefix("asked")))
 
 
-def call_of(words):
-    name, *words = words.split()
-    return (name, int(words[0]), bytes_of(words[1:])) if words else (name, 0, b"")
+def limit_calls(words):
+    for name, number in (it.split("=") for it in words):
+        yield (name, NO_LIMIT if number == "-1" else int(number))
+
+
+def step_calls(step):
+    """The calls of a step. If it tells events, `next` is called for each, and once more."""
+    asked, colon, told = step.partition(": ")
+    name, *words = asked.split(" ")
+    if name == "policy":
+        return [*limit_calls(words)]
+    if name == "waiting":
+        return [("waiting",), ("waiting_len",)]
+    calls = [(name, *map(int, words[:1]), *map(text_of, words[1:]))] if name != "next" else []
+    if colon and told != "busy" and name not in ANSWERED:
+        calls += [("next",)] * (1 + len([it for it in told.split(", ") if it != "nothing"]))
+    return calls
 
 
 KEY_REPORT = re.compile(
-    r"Key\(KeyReport \{ key: (\w+)\((.*)\), modifiers: (\d+), kind: Press, shifted: (.*), "
-    r"base: .*, text: KeyText \{ inner: (\".*\") \} \}\)"
+    r"Key\(KeyReport \{ key: (\w+)\((.*)\), modifiers: (\d+), kind: (\w+), shifted: (.*), "
+    r"base: (.*), text: KeyText \{ inner: (\".*\") \} \}\)"
 )
-NAMED = {it.name.replace("_", "").lower(): it for it in KeyCode}
+MOUSE_REPORT = re.compile(
+    r"Mouse\(MouseReport \{ x: (\d+), y: (\d+), modifiers: Modifiers\((\d+)\), "
+    r"buttons: MouseButtons\((\d+)\), kind: (\w+), button: (.*) \}\)"
+)
+SEQUENCE = r"SequenceBytes \{ inner: (\[.*\]) \}"
 
 
-def quoted(text):
+def quoted_text(text):
     """What Debug prints of a character or a text."""
     return ast.literal_eval(re.sub(r"\\u\{(\w+)\}", lambda it: f"\\U{it[1]:0>8}", text))
+
+
+def character_of(text):
+    return None if text == "None" else quoted_text(text[5:-1])
 
 
 def key_of(kind, key):
     if kind == "Functional":
         return int(key)
     if key.startswith("Char("):
-        return quoted(key[5:-1])
-    number = re.fullmatch(r"Function\((\d+)\)", key)
-    return Function(int(number[1])) if number else NAMED[key.lower()]
+        return quoted_text(key[5:-1])
+    return key_named(re.sub(r"unction\((\d+)\)", r"\1", key))
 
 
-def told_name(line):
-    """A short name of an event: of a key its press."""
+def event_of(line):
+    """The event that Debug prints so."""
     if m := KEY_REPORT.fullmatch(line):
-        shifted = None if m[4] == "None" else quoted(m[4][5:-1])
-        held, text = KittyModifiers(int(m[3])), quoted(m[5])
-        key = key_of(m[1], m[2])
-        return str(KeyPress.of_report(KeyReport(key, held, KeyEventKind.PRESS, shifted, text=text)))
+        key, held, kind = key_of(m[1], m[2]), KittyModifiers(int(m[3])), KeyEventKind[m[4].upper()]
+        shifted, base = character_of(m[5]), character_of(m[6])
+        return KeyReport(key, held, kind, shifted, base, quoted_text(m[7]))
     if m := re.fullmatch(r"(part of |)paste \d+:(\w*)", line):
-        return f"{m[1]}paste({bytes.fromhex(m[2]).decode()})".replace("\r", " CR")
-    if m := re.match(r"StringCut \{ kind: (\w+)", line):
-        return f"cut {m[1].lower()}"
-    return re.match(r"\w+", line)[0]
+        return (PastePart if m[1] else Paste)(bytes.fromhex(m[2]).decode())
+    if m := re.fullmatch(rf"(\w+)\({SEQUENCE}\)", line):
+        return getattr(hedrugal, m[1])(bytes(ast.literal_eval(m[2])))
+    if m := re.fullmatch(rf"(\w+) \{{ kind: (\w+), bytes: {SEQUENCE} \}}", line):
+        return getattr(hedrugal, m[1])(StringKind[m[2].upper()], bytes(ast.literal_eval(m[3])))
+    if m := MOUSE_REPORT.fullmatch(line):
+        x, y, held, buttons = map(int, m.group(1, 2, 3, 4))
+        kind, button = MouseKind[m[5].upper()], None if m[6] == "None" else int(m[6][5:-1])
+        return MouseReport(x, y, Modifiers(held), MouseButtons(buttons), kind, button)
+    name, *numbers = re.findall(r"^\w+|\d+", line)
+    return getattr(hedrugal, name)(*map(int, numbers))
 
 
-# Calls and what is told. After each | `next` is called until it answers none. What other calls
-# answer comes first.
-WORKED_RUNS = [
-    ("feed 0 ESC | idle 49 | idle 50", "- | - | escape"),
-    ("feed 0 ESC | feed 49 `[A`", "- | up"),
-    ("feed 0 ESC | idle 20 | idle 10 | idle 39 | idle 40", "- | - | - | - | escape"),
-    ("feed 0 ESC `[1` | feed 900 `;5` | idle 999 | idle 1000", "- | - | - | alt+[, 1, ;, 5"),
-    ("feed 0 `a` ESC `[`, idle 30 | idle 129 | idle 130", "a | - | alt+["),
-    ("feed 0 ESC, idle 50 | idle 50", "- | escape"),
-    (
-        "feed 0 START `x` | idle 100000 | feed 100001 ESC | idle 200000 | feed 200001 `[201~q`",
-        "- | - | - | - | paste(x), q",
-    ),
-    ("feed 0 START `1234` | flush | feed 1 `5678` END", "- | - | paste(12345678)"),
-    ("feed 0 START `a` | end", "- | paste(a)"),
-    (
-        "parts 4 | feed 0 START `abcdef` | feed 1 ESC `[20` | feed 2 `1~`",
-        "- | part of paste(abcdef) | - | paste()",
-    ),
-    ("feed 0 ESC | end, feed 0 `[A` | feed 1 `[A`", "- | busy, escape | [, A"),
-    ("feed 0 0xe2 0x82 | idle 99999 | flush", "- | - | U+FFFD, U+FFFD"),
-    (
-        "feed 0 START `a` | interrupted 5 | feed 900 CR | feed 1800 END",
-        "- | - | - | paste(a CR)",
-    ),
-    (
-        "feed 0 START `a` | interrupted 5 | idle 1004 | idle 1005 | feed 1006 CR",
-        "- | - | - | paste(a) | enter",
-    ),
-    (
-        "paste 300 | feed 0 START `a` | interrupted 5 | idle 304 | idle 305",
-        "- | - | - | - | paste(a)",
-    ),
-    ("feed 0 ESC `[1` | interrupted 5 | feed 6 `A`", "- | - | A"),
-    (
-        "feed 0 ESC `]52;c;QQ` | interrupted 5 | idle 1005 | feed 1006 `QQ`",
-        "- | - | cut osc | Q, Q",
-    ),
-    (
-        "feed 0 ESC `]52;c;Q` | interrupted 900 | idle 1899 | idle 1900",
-        "- | - | - | cut osc",
-    ),
-    ("feed 100 ESC | timeout 100 | idle 100 | feed 120 `x`", "- | 50 | - | alt+x"),
-    ("dialect 1 | feed 0 ESC `]11;a`", "- | alt+], 1, 1, ;, a"),
+def step_told(step, answers):
+    """What a step tells, as the runs write it."""
+    name = re.match(r"\w+", step)[0]
+    if name == "waiting":
+        return " ".join(answers).lower()
+    if name in ANSWERED:
+        return answers[0].replace("None", "forever" if name == "timeout" else "none")
+    if answers[-1] != "none":
+        return "".join(answers)
+    return events_line(map(event_of, filter(None, answers[:-1])))
+
+
+def steps_of(line):
+    """The steps of a run with their calls. At first the reading and the limits are set."""
+    given, _, steps = line.partition(" = ")
+    word, *limits = given.split(" ")
+    yield "new", [*reading_calls(word), *limit_calls(limits)]
+    for step in steps.split(" | "):
+        yield step, step_calls(step)
+
+
+# What the other languages can't say: a limit of 0, and a clock that steps back from its last time.
+OTHER_RUNS = [
+    r'extended escape=0 = feed 7 "\e" | timeout 7: 0 | next: nothing | timeout 7: 0 | '
+    "idle 7: key Escape NONE",
+    r'extended = feed 18446744073709551615 "\e": nothing | idle 0: nothing | idle 49: nothing | '
+    "idle 50: key Escape NONE",
+    r'extended = expect | expect | forget | feed 0 "\e[1;5R": key F3 CTRL',
 ]
 
 
-# Others, of what the worked runs don't show.
-MORE_RUNS = [
-    # Limits by kind and length, as the policy has them.
-    ("feed 0 ESC ESC | idle 49 | idle 50", "- | - | alt+escape"),
-    ("feed 0 ESC | feed 40 `[` | idle 99 | idle 100", "- | - | - | alt+["),
-    ("feed 0 ESC | feed 40 ESC | idle 89 | idle 90", "- | - | - | alt+escape"),
-    ("feed 0 ESC `]52;c;QQ` | idle 5008 | idle 5009", "- | - | cut osc"),
-    ("feed 0 ESC `]lq` | idle 999 | idle 1000", "- | - | alt+], l, q"),
-    ("feed 0 ESC `[` | idle 98 | feed 99 `I`", "- | - | FocusGained"),
-    (
-        "feed 0 ESC ESC | feed 40 `]11;a` | feed 4000 `b` | idle 5046 | idle 5047",
-        "- | escape | - | - | cut osc",
-    ),
-    ("feed 0 0xe2 0x82 | idle 99999 | character 20 | idle 99999", "- | - | - | U+FFFD, U+FFFD"),
-    ("escape 4294967296 | feed 0 ESC | timeout 0 | idle 99999", "- | - | - | -"),
-    ("escape 0 | feed 7 ESC, timeout 7 | timeout 7 | idle 7", "- | 0 | 0 | escape"),
-    ("feed 0 ESC | escape 60, idle 59 | timeout 59 | idle 60", "- | - | 1 | escape"),
-    # The clock.
-    ("feed 18446744073709551615 ESC | idle 0 | idle 49 | idle 50", "- | - | - | escape"),
-    ("feed 0 ESC | idle 18446744073709551615", "- | escape"),
-    ("idle 10 | feed 5 ESC | timeout 25 | idle 54 | idle 55", "- | - | 30 | - | escape"),
-    # Nothing comes: that is no byte.
-    ("feed 0 START `a` | paste 100 | feed 60 | idle 99 | idle 100", "- | - | - | - | paste(a)"),
-    ("feed 0 ESC | feed 40, timeout 40 | timeout 40", "- | 0 | 10"),
-    # A second after another program had the terminal, or after a byte since then.
-    (
-        "feed 0 ESC `]52;c;Q` | interrupted 900 | feed 1800 `R` | idle 2799 | idle 2800",
-        "- | - | - | - | cut osc",
-    ),
-    (
-        "feed 0 START `a` | interrupted 5 | feed 6 END START `b` | idle 99999 | flush | end",
-        "- | - | paste(a) | - | - | paste(b)",
-    ),
-    (
-        "feed 0 START `a` | interrupted 5 | reset | feed 6 START `b` | idle 99999 | end",
-        "- | - | 7 | - | - | paste(b)",
-    ),
-    (
-        "parts 1 | feed 0 START `a` | interrupted 5 | feed 6 `bcd` | idle 1005 | idle 1006",
-        "- | - | - | part of paste(abcd) | - | paste()",
-    ),
-    ("feed 0 0xe2 | interrupted 5 | feed 6 0x82 0xac", "- | - | U+FFFD, U+FFFD"),
-    ("feed 0 ESC, interrupted 5 | interrupted 5 | idle 99", "busy | - | -"),
-    # Questions.
-    ("expect | feed 0 ESC `[1;5R` ESC `[1;5R`", "- | CursorPosition, ctrl+f3"),
-    ("expect | interrupted 0 | feed 0 ESC `[1;5R`", "- | - | ctrl+f3"),
-    ("expect | reset | feed 0 ESC `[1;5R`", "- | 0 | ctrl+f3"),
-    ("expect, expect, forget | feed 0 ESC `[1;5R`", "- | ctrl+f3"),
-    # A flush is over once nothing is buffered; an end stays one.
-    ("flush, feed 0 `a` | end, feed 0 `b`", "a | b"),
-    ("feed 0 START `a` | end, flush, feed 1 `b` | feed 1 `b`", "- | busy, paste(a) | b"),
-    ("feed 0 START `a` | flush, end, feed 1 `b` | feed 1 `b`", "- | busy, paste(a) | b"),
-    ("feed 0 START `a` | flush, reset, feed 1 `b`", "- | 7, b"),
-    # A second paste has nothing of a first one that came in parts.
-    (
-        "parts 4 | feed 0 START `abcdef` | feed 1 `gh` END START `xy` END",
-        "- | part of paste(abcdef) | paste(gh), paste(xy)",
-    ),
-    (
-        "parts 4 | feed 0 START `abcdef` | feed 1 `ghijk` | end | feed 2 START `vwxyz` | flush | "
-        "feed 3 END",
-        "- | part of paste(abcdef) | part of paste(ghijk) | paste() | part of paste(vwxyz) | - | "
-        "paste()",
-    ),
-    (
-        "parts 4 | feed 0 START `abcdef` | feed 1 `gh`, skip | feed 2 END START `xy` END",
-        "- | part of paste(abcdef) | 2 | paste(), paste(xy)",
-    ),
-    (
-        "parts 4 | feed 0 START `abcdef` | reset | feed 1 START `xy` END",
-        "- | part of paste(abcdef) | 6 | paste(xy)",
-    ),
-    (
-        "parts 4 | feed 0 START `abcdef` 0xe2 | no-parts | feed 1 0x82 0xac `ghijk` END START END",
-        "- | part of paste(abcdef) | - | paste(\u20acghijk), paste()",
-    ),
-    # What may begin the end of a paste stays.
-    (
-        "parts 0 | feed 0 START ESC `[201` | feed 1 `x` | end",
-        "- | - | part of paste(\x1b[201x) | paste()",
-    ),
-]
-
-
-def told_by(call, groups):
-    """What is told by calls: after each group up to the `next` that answers none."""
-    for group in groups:
-        told = [call(*call_of(it)) for it in group.split(", ")]
-        told = [it for it in told if it not in ("", "None")]
-        while (event := call("next")) != "none":
-            told.append(told_name(event))
-        yield ", ".join(told) or "-"
-
-
-@pytest.mark.parametrize("calls, told", WORKED_RUNS + MORE_RUNS)
-def test_worked_runs(model, calls, told):
-    """By the model and by the program."""
-    groups = calls.split(" | ")
-    model.call("new")
-    assert " | ".join(told_by(model.call, groups)) == told
-    with Asked(TEST_CALLS, "timed") as program:
-        assert " | ".join(told_by(program.call, groups)) == told
+def test_runs(model):
+    """By the program and by the model."""
+    runs = OTHER_RUNS + [line for _, line in cases_of("runs.txt")]
+    steps = [it for line in runs for it in steps_of(line)]
+    lines = iter(answers("timed", [command(*call) for _, calls in steps for call in calls]))
+    for step, calls in steps:
+        given = [next(lines) for _ in calls]
+        assert step_told(step, given) == step.partition(": ")[2], step
+        assert [model.call(*it) for it in calls] == given, step
 
 
 # Random runs.

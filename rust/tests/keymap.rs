@@ -126,6 +126,16 @@ fn long_text(len: usize) -> Vec<u8> {
     (0..=250).cycle().take(len).collect()
 }
 
+#[test]
+fn has_a_long_key() {
+    let key = long_text(100_000);
+    let mut map = KeyMap::new();
+    map.insert(&key, 1);
+    map.insert(&key[..5000], 2);
+    assert_eq!(map.lookup(&key, true), Exact(100_000, 1));
+    assert_eq!(map.lookup(&key[..6000], false), Exact(5000, 2));
+}
+
 // A key of 300 bytes, and one of 100 bytes that is a prefix of it.
 #[test]
 fn lookup_of_long_keys() {
@@ -170,9 +180,9 @@ fn check_numbers(map: &KeyMap<u16>, limit: u16) {
 
 #[test]
 fn has_many_keys() {
-    let map = numbered(0..3000);
-    check_numbers(&map, 3000);
-    check_numbers(&map.clone(), 3000);
+    let map = numbered(0..20_000);
+    check_numbers(&map, 20_000);
+    check_numbers(&map.clone(), 20_000);
 }
 
 // Keys come alternately from both ends of their order, so that each insert is far from the one

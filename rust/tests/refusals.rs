@@ -16,6 +16,7 @@ use hedrugal::{
 };
 use malloc::{in_use, refusing};
 use std::fmt::{Debug, Write};
+use std::panic::{catch_unwind, AssertUnwindSafe};
 use std::time::{Duration, Instant};
 
 const STREAM: &[u8] =
@@ -42,94 +43,72 @@ fn each_told<T: PartialEq + Debug, E: PartialEq + Debug>(
     })
 }
 
-// A list with room for all events, so that storing one asks for nothing.
-fn room() -> Vec<InputEvent> {
-    Vec::with_capacity(64)
+// The same of what reads with one request refused, or none, and tells what it read and how many were
+// refused: it always reads the same. Returns this too.
+fn each_read<T: PartialEq + Debug>(read: impl Fn(usize) -> (T, usize)) -> (T, usize) {
+    let (whole, none) = read(0);
+    assert_eq!(none, 0);
+    let requests = each_refused(|number| {
+        let (events, refused) = read(number);
+        assert_eq!(events, whole, "request {number}");
+        refused
+    });
+    (whole, requests)
 }
 
-// Gives a piece by `try_parse` until it is taken, and all its events are given. Returns the
-// refusals that were told.
-fn give(
-    parser: &mut InputParser,
-    mut bytes: &[u8],
-    events: &mut Vec<InputEvent>,
-    more: bool,
-) -> usize {
-    let mut told = 0;
-    while let Err(error) = parser.try_parse(bytes, |event| events.push(event), more) {
-        told += 1;
-        if error == ParseError::Taken {
-            bytes = b"";
-        }
-    }
-    told
-}
+// A call that reads a piece. A refusal says whether the piece was taken.
+type Parse = fn(&mut InputParser, &[u8], &mut Vec<InputEvent>, bool) -> Result<(), bool>;
 
-// The same by `try_parse_as_vec`.
-fn give_as_vec(
-    parser: &mut InputParser,
-    mut bytes: &[u8],
-    events: &mut Vec<InputEvent>,
-    more: bool,
-) -> usize {
-    let mut told = 0;
-    loop {
-        match parser.try_parse_as_vec(bytes, more) {
-            Ok(last) => {
-                events.extend(last);
-                return told;
-            }
-            Err(error) => {
-                assert!(error.taken || error.events.is_empty());
-                events.extend(error.events);
-                told += 1;
-                if error.taken {
-                    bytes = b"";
-                }
-            }
-        }
-    }
-}
-
-type Give = fn(&mut InputParser, &[u8], &mut Vec<InputEvent>, bool) -> usize;
-
-// Reads the stream in pieces with one request refused. Returns the events, and how many refusals
-// were told.
-fn read(give: Give, piece: usize, number: usize) -> (Vec<InputEvent>, usize) {
-    let mut parser = InputParser::new();
-    let mut events = room();
-    let (told, refused) = refusing(number, || {
+// Reads the stream in pieces with one request refused, into a list with room for all events, so that
+// storing one asks for nothing. A piece is given until it is taken, and all
+// its events are given. Returns the events, and how many refusals were told.
+fn read(parse: Parse, piece: usize, number: usize) -> (Vec<InputEvent>, usize) {
+    let (mut parser, mut events) = (InputParser::new(), Vec::with_capacity(64));
+    let mut give = |mut bytes, more| {
         let mut told = 0;
-        for bytes in STREAM.chunks(piece) {
-            told += give(&mut parser, bytes, &mut events, true);
+        while let Err(taken) = parse(&mut parser, bytes, &mut events, more) {
+            told += 1;
+            if taken {
+                bytes = b"";
+            }
         }
-        told + give(&mut parser, b"", &mut events, false)
+        told
+    };
+    let (told, refused) = refusing(number, || {
+        let told: usize = STREAM.chunks(piece).map(|bytes| give(bytes, true)).sum();
+        told + give(b"", false)
     });
     assert_eq!(told, refused, "pieces of {piece}, request {number}");
     (events, refused)
 }
 
-fn check(give: Give) {
+fn check(parse: Parse) {
     for piece in [1, 4, 13, 40, STREAM.len()] {
-        let (whole, none) = read(give, piece, 0);
-        assert_eq!((whole.len(), none), (9, 0));
-        let requests = each_refused(|number| {
-            let (events, refused) = read(give, piece, number);
-            assert_eq!(events, whole, "pieces of {piece}, request {number}");
-            refused
-        });
+        let (whole, requests) = each_read(|number| read(parse, piece, number));
+        assert_eq!(whole.len(), 9);
         assert!(requests > 1);
     }
 }
 
 #[test]
 fn goes_on_with_try_parse() {
-    check(give);
+    check(|parser, bytes, events, more| {
+        let parsed = parser.try_parse(bytes, |event| events.push(event), more);
+        parsed.map_err(|error| error == ParseError::Taken)
+    });
 }
 
 #[test]
 fn goes_on_with_try_parse_as_vec() {
-    check(give_as_vec);
+    check(|parser, bytes, events, more| {
+        let (last, parsed) = match parser.try_parse_as_vec(bytes, more) {
+            Ok(last) => (last, Ok(())),
+            Err(error) => (error.events, Err(error.taken)),
+        };
+        assert!(parsed != Err(false) || last.is_empty());
+        events.extend(last);
+        parsed
+    });
 }
 
 // Reports, replies and strings, of which most bring bytes of their own.
@@ -194,7 +173,7 @@ fn read_replies(piece: usize, number: usize) -> (Vec<Event>, usize) {
 #[test]
 fn goes_on_with_a_parser() {
     for piece in [7, REPLIES.len()] {
-        let (whole, none) = read_replies(piece, 0);
+        let (whole, requests) = each_read(|number| read_replies(piece, number));
         let rest = [
             Event::StringCut {
                 kind: StringKind::Osc,
@@ -203,13 +182,7 @@ fn goes_on_with_a_parser() {
             Event::PastePart("a long text".to_string()),
             Event::Paste("\x1b[20".to_string()),
         ];
-        assert_eq!((&whole[whole.len() - 3..], none), (&rest[..], 0));
-        let requests = each_refused(|number| {
-            let (events, refused) = read_replies(piece, number);
-            assert_eq!(events, whole, "pieces of {piece}, request {number}");
-            refused
-        });
-        assert!(requests > 7);
+        assert!(whole.ends_with(&rest) && requests > 7);
     }
 }
 
@@ -561,27 +534,20 @@ fn assert_numbered(map: &KeyMap<usize>, count: usize) {
 // and the key can be inserted then. Returns the number of requests.
 fn check_insert(count: usize) -> usize {
     let key = "a key of more bytes than are stored beside its value";
-    for number in 1.. {
+    each_refused(|number| {
         let mut map = numbered_keys(count);
         let (inserted, refused) = refusing(number, || map.try_insert(key, 1000));
+        let wanted = [Ok(()), Err(InsertError { value: 1000 })];
+        assert_eq!(inserted, wanted[refused], "{count} keys, request {number}");
         if refused > 0 {
-            assert_eq!(
-                inserted,
-                Err(InsertError { value: 1000 }),
-                "{count} keys, request {number}"
-            );
             assert_eq!(map.lookup(key, false), Found::None);
             assert_numbered(&map, count);
             map.insert(key, 1000);
         }
         assert_eq!(map.lookup(key, false), Found::Exact(key.len(), 1000));
         assert_numbered(&map, count);
-        if refused == 0 {
-            assert_eq!(inserted, Ok(()));
-            return number - 1;
-        }
-    }
-    unreachable!("a call makes no end of requests");
+        refused
+    })
 }
 
 // The first key also makes the map, and the fifth finds the list of four places full.
@@ -670,18 +636,21 @@ fn shrinks() {
     assert_eq!(count(&mut parser, paste.as_bytes()), 1);
 }
 
+// Whether a call whose first request is refused panics.
+fn panics(call: impl FnOnce()) -> bool {
+    let call = AssertUnwindSafe(call);
+    refusing(1, || catch_unwind(call)).0.is_err()
+}
+
 #[test]
 fn panics_if_refused() {
-    let refused = |call: fn()| refusing(1, || std::panic::catch_unwind(call)).0.is_err();
-    assert!(refused(|| drop(InputParser::new())));
-    assert!(refused(|| drop(Parser::new(Dialect::Extended))));
-    assert!(refused(|| KeyMap::new().insert("a", 1)));
+    assert!(panics(|| drop(InputParser::new())));
+    assert!(panics(|| drop(Parser::new(Dialect::Extended))));
+    assert!(panics(|| KeyMap::new().insert("a", 1)));
     let (mut parser, now) = (Parser::new(Dialect::Extended), Instant::now());
     let long = long_paste();
-    let fed = std::panic::AssertUnwindSafe(|| parser.feed(now, long.as_bytes()));
-    assert!(refusing(1, || std::panic::catch_unwind(fed)).0.is_err());
+    assert!(panics(|| parser.feed(now, long.as_bytes())));
     parser.feed(now, PASTE_AND_ESCAPE);
-    let next = std::panic::AssertUnwindSafe(|| parser.next());
-    assert!(refusing(1, || std::panic::catch_unwind(next)).0.is_err());
+    assert!(panics(|| drop(parser.next())));
     assert_eq!(parser.next(), Some(text()));
 }

@@ -4,6 +4,7 @@ mod keys;
 mod runs;
 mod sent;
 
+use crate::bindings::check_commands;
 use crate::lines::unquoted;
 use crate::plain::replies::snake;
 use hedrugal::{Dialect, EraseByte, NewlineByte, Reading};
@@ -123,6 +124,7 @@ files! {
     runs: runs::check(),
     presses: keys::check_press(),
     names: keys::check_name,
+    bindings: check_commands,
     kitty: keys::check_report,
     encodings: keys::check_encoding,
     written: sent::check_written,

@@ -1,8 +1,10 @@
 // Bindings of chords, and matchers.
+use crate::cases::sides;
 use crate::draws::Draws;
 use crate::plain::chords::{chord, either, is_continued, is_dead_end, read, Chords};
 use hedrugal::{BindError, BindErrorKind, Bindings, Chord, KeyPress, Matcher, Outcome};
 use std::collections::BTreeMap;
+use std::iter;
 use std::rc::Rc;
 use std::thread;
 
@@ -10,9 +12,10 @@ fn read_chord(text: &str) -> Chord {
     text.parse().unwrap()
 }
 
-// The values 1, 2 .. of chords that are parted by commas.
+// The values 1, 2 .. of chords that are parted by commas, or of `nothing`.
 fn numbered(texts: &str) -> Bindings<usize> {
-    texts.split(", ").map(read_chord).zip(1..).collect()
+    let texts = texts.split(", ").filter(|it| *it != "nothing");
+    texts.map(read_chord).zip(1..).collect()
 }
 
 // What a matcher tells in one word: a value, or `?` and the press.
@@ -23,67 +26,44 @@ fn told(outcome: Outcome<&usize>) -> String {
     }
 }
 
-// Outcomes of words: names of keys, some with a second one behind `/`, and calls in capitals.
-fn outcomes(chords: &str, words: &str) -> (String, String) {
+// `CHORD, CHORD ..: WORD WORD .. = OUTCOME, OUTCOME .. | PENDING`.
+pub fn check_commands(line: &str) {
+    let (given, wanted) = sides(line);
+    let (chords, words) = given.split_once(": ").expect("chords and words");
     let (mut bindings, mut matcher) = (numbered(chords), Matcher::new());
-    let mut all = Vec::new();
+    let (is_cancelled, mut all) = (words.ends_with("CANCEL"), Vec::new());
     for word in words.split(' ') {
-        if word == "PAUSE" {
-            let first = matcher.on_pause(&bindings).map(told);
-            let given: Vec<String> = matcher.give_up(&bindings).map(told).collect();
-            assert_eq!(first.as_ref(), given.first());
-            all.extend(given);
-        } else if word == "CANCEL" {
-            assert!(matcher.is_dead_end(&bindings));
-            all.push(format!("cancelled {}", matcher.cancel()));
-        } else if let Some(unbound) = word.strip_prefix("UNBIND:") {
-            assert!(bindings
-                .unbind(&read_chord(&unbound.replace('_', " ")))
-                .is_some());
-            while let Some(outcome) = matcher.next(&bindings, true) {
-                all.push(told(outcome));
+        match (word, word.split_once('/')) {
+            ("PAUSE", _) => {
+                let first = matcher.on_pause(&bindings).map(told);
+                let given: Vec<String> = matcher.give_up(&bindings).map(told).collect();
+                assert_eq!(first.as_ref(), given.first());
+                all.extend(given);
             }
-        } else if let Some((first, second)) = word.split_once('/') {
-            let presses = [first, second].map(|key| key.parse().unwrap());
-            assert!(matcher.press_either(&bindings, presses[0], Some(presses[1])));
-            while let Some(outcome) = matcher.next(&bindings, true) {
-                all.push(told(outcome));
+            ("CANCEL", _) => {
+                assert!(matcher.is_dead_end(&bindings));
+                all.push(format!("cancelled {}", matcher.cancel()));
             }
-        } else if words.ends_with("CANCEL") {
-            assert!(matcher.press(word.parse().unwrap()));
-        } else {
-            all.extend(
-                matcher
-                    .press_all(word.parse().unwrap(), &bindings)
-                    .map(told),
-            );
+            ("UNBIND", _) => {
+                let first = chords.split(", ").next().map(read_chord).unwrap();
+                assert!(bindings.unbind(&first).is_some());
+            }
+            (_, Some((key, second))) => {
+                let [key, second] = [key, second].map(|it| it.parse().unwrap());
+                assert!(matcher.press_either(&bindings, key, Some(second)));
+            }
+            _ if is_cancelled => assert!(matcher.press(word.parse().unwrap())),
+            _ => {
+                let press = word.parse().unwrap();
+                all.extend(matcher.press_all(press, &bindings).map(told));
+            }
+        }
+        if !is_cancelled {
+            all.extend(iter::from_fn(|| matcher.next(&bindings, true).map(told)));
         }
     }
-    (all.join("; "), matcher.pending().to_string())
-}
-
-#[test]
-fn keys_run_commands() {
-    let rows = [
-        ("ctrl+x ctrl+s, g, g g", "ctrl+x ctrl+s g g g", "1; 3", "g"),
-        ("g, g g", "g x g PAUSE", "1; ?x; 1", ""),
-        ("g g, g", "g g g PAUSE", "1; 2", ""),
-        ("a b c, b", "a b x", "?a; 2; ?x", ""),
-        ("a, a b c, b d", "a b d", "1; 3", ""),
-        ("a, a b c, b d", "a b PAUSE", "1; ?b", ""),
-        ("j k", "j j k", "?j; 1", ""),
-        ("ctrl+x ctrl+s", "ctrl+x z", "?ctrl+x; ?z", ""),
-        ("ctrl+x ctrl+s", "ctrl+x z CANCEL", "cancelled ctrl+x z", ""),
-        ("a b c", "a b UNBIND:a_b_c", "?a; ?b", ""),
-        ("ctrl+x ctrl+c", "ctrl+x ctrl+с/ctrl+c", "1", ""),
-        ("ctrl+с, ctrl+c", "ctrl+с/ctrl+c", "1", ""),
-        ("ctrl+c", "ctrl+с/ctrl+c a", "1; ?a", ""),
-        ("g, g g", "g", "", "g"),
-    ];
-    for (chords, words, outcome, pending) in rows {
-        let wanted = (outcome.to_string(), pending.to_string());
-        assert_eq!(outcomes(chords, words), wanted, "{chords}: {words}");
-    }
+    let line = format!("{} | {}", all.join(", "), matcher.pending());
+    assert_eq!(line, wanted.replace("nothing", ""));
 }
 
 #[test]
@@ -179,15 +159,12 @@ fn drawn_chords_are_as_the_slow_matcher_says() {
                 assert_eq!(bindings.unbind(&keys), map.remove(&keys));
             }
         }
-        let listed: Vec<(Chord, usize)> = bindings.iter().map(|(it, value)| (it, *value)).collect();
-        let wanted: Vec<(Chord, usize)> = map.iter().map(|(it, value)| (*it, *value)).collect();
-        assert_eq!(listed, wanted);
-        let mut back: Vec<(Chord, usize)> = bindings.iter().rev().map(|(it, v)| (it, *v)).collect();
-        back.reverse();
-        assert_eq!((back, bindings.len()), (wanted, map.len()));
-        let chords: Chords = map
-            .iter()
-            .map(|(chord, value)| (chord.into_iter().collect(), *value))
+        let entries = || map.iter().map(|(it, value)| (*it, value));
+        assert!(bindings.iter().eq(entries()), "{bindings:?} {map:?}");
+        assert!(bindings.iter().rev().eq(entries().rev()));
+        assert_eq!(bindings.len(), map.len());
+        let chords: Chords = entries()
+            .map(|(it, value)| (it.iter().collect(), *value))
             .collect();
         compare(&mut draws, &bindings, &chords);
     }

@@ -185,7 +185,7 @@ fn keys_without_bytes() {
 
 #[test]
 fn long_texts() {
-    for len in [50, 256, 257, 5000] {
+    for len in [50, 256, 257, 5000, 2 << 20] {
         let text = "x".repeat(len);
         check(&shift_a(&text), Flags::NONE, &text);
         let sent = shift_a(&text).encode(Flags::all());

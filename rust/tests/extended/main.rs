@@ -15,6 +15,7 @@ mod long;
 mod names;
 mod parser;
 mod plain;
+mod press_to_press;
 mod presses;
 mod reading;
 mod recorded;

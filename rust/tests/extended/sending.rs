@@ -23,7 +23,7 @@ fn each_character_of_a_paste() {
 }
 
 // The sets of the modifiers that are sent.
-fn sets() -> impl Iterator<Item = Modifiers> {
+pub fn sets() -> impl Iterator<Item = Modifiers> {
     let flags = [Modifiers::SHIFT, Modifiers::ALT, Modifiers::CTRL];
     (0..8).map(move |bits| {
         let held = (0..3).filter(|place| bits >> place & 1 == 1);

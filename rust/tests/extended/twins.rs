@@ -59,7 +59,7 @@ const EDIT_KEYS: [KeyCode; 11] = [
     KeyCode::Decimal,
 ];
 
-fn keys() -> Vec<KeyCode> {
+pub fn keys() -> Vec<KeyCode> {
     let characters = ('\x01'..='\u{ff}').chain(BEYOND_ASCII.chars()).map(Char);
     characters
         .chain(NAMED)
@@ -92,15 +92,21 @@ fn parser(reading: Reading) -> Parser {
     parser
 }
 
-const USUAL: Reading = Reading::new(Dialect::Extended);
+pub const USUAL: Reading = Reading::new(Dialect::Extended);
 
 const X10: Reading = Reading {
     x10_mouse: true,
     ..USUAL
 };
 
-// A key with modifiers is read as the press of its twin, by all parsers.
-fn check_key(parsers: &mut [Parser; 3], key: KeyCode, held: u8, modes: Modes, is_other: bool) {
+// What is sent for a key with modifiers, and the presses of its twin: of the extended dialect and of termwiz's. Newline
+// mode is on if the mode of the cursor keys is.
+pub fn port_texts(
+    key: KeyCode,
+    held: u8,
+    modes: Modes,
+    is_other: bool,
+) -> (String, [Vec<Option<Press>>; 2]) {
     let sent = KeyCodeEncodeModes {
         encoding: if modes.is_csi_u {
             KeyboardEncoding::CsiU
@@ -127,19 +133,31 @@ fn check_key(parsers: &mut [Parser; 3], key: KeyCode, held: u8, modes: Modes, is
         ];
         wanted = line_feeds.map(|line_feed| [enter, line_feed].map(press_of_key).to_vec());
     }
-    let [extended, port] = wanted;
+    (text, wanted)
+}
+
+// A key with modifiers is read as the press of its twin, by all parsers.
+fn check_key(parsers: &mut [Parser; 3], key: KeyCode, held: u8, modes: Modes, is_other: bool) {
+    let (text, [extended, port]) = port_texts(key, held, modes, is_other);
+    let held = KittyModifiers::from_bits_retain(held);
     for (place, parser) in parsers.iter_mut().enumerate() {
         let wanted = [&extended, &extended, &port][place];
         if place < 2 || !is_left_out_of_port(key, held, modes) {
             let found = presses(&parser.read(text.as_bytes(), false));
-            assert_eq!(&found, wanted, "{key:?} {held} {sent:?}: {text:?}");
+            assert_eq!(
+                &found, wanted,
+                "{key:?} {held} {modes:?} {is_other}: {text:?}"
+            );
         }
     }
 }
 
+// The levels of modifyOtherKeys.
+pub const LEVELS: [Option<i64>; 6] = [None, Some(-1), Some(0), Some(1), Some(2), Some(3)];
+
 fn check_encoding(is_csi_u: bool) {
     let mut parsers = [USUAL, X10, Reading::new(Dialect::Termwiz)].map(parser);
-    for level in [None, Some(-1), Some(0), Some(1), Some(2), Some(3)] {
+    for level in LEVELS {
         let modes = Modes { is_csi_u, level };
         for key in keys() {
             for held in 0..16 {
@@ -176,7 +194,7 @@ fn characters_beyond_ascii_are_read_as_their_twins() {
 }
 
 // The keys of Kitty's protocol. U+E000 is a number of its table, and so are some control characters.
-fn kitty_keys() -> Vec<ReportedKey> {
+pub fn kitty_keys() -> Vec<ReportedKey> {
     let characters = (' '..='~').chain(BEYOND_ASCII.chars().filter(|c| *c != '\u{e000}'));
     let keys = characters.chain("\x01\x0b\x1c".chars()).map(Char);
     let keys = keys.chain(NAMED).chain((1..=12).map(Function));
@@ -185,7 +203,7 @@ fn kitty_keys() -> Vec<ReportedKey> {
 }
 
 // The reports of a key with each set of modifiers, and what the key of a character may have.
-fn kitty_reports(key: ReportedKey, kind: KeyEventKind) -> Vec<KeyReport> {
+pub fn kitty_reports(key: ReportedKey, kind: KeyEventKind) -> Vec<KeyReport> {
     let is_character = matches!(key, ReportedKey::Named(Char(_)));
     let mut reports = Vec::new();
     for held in 0..64 {

@@ -55,8 +55,8 @@ fn text(opening: &str, len: usize) -> Vec<u8> {
 
 #[test]
 fn long_texts_are_written() {
-    let long = "line\r\u{e9}".repeat(15_000);
-    assert!(long.len() >= 100_000);
+    let long = "line\r\u{e9}".repeat(300_000);
+    assert_eq!(long.len(), 2_100_000);
     let wanted = format!("\x1b[200~{long}\x1b[201~");
     let event = paste(&long);
     assert_eq!(
