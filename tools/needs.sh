@@ -34,7 +34,7 @@ if [ $installs = yes ] && [ -n "$packages" ] && [ "$(id -u)" = 0 ] && command -v
     echo "needs: installs$packages" >&2
     export DEBIAN_FRONTEND=noninteractive
     # shellcheck disable=SC2086
-    timeout 600 sh -c "apt-get -q update && apt-get -q -y --no-install-recommends install $packages" > /dev/null 2>&1 || true
+    timeout 1h sh -c "apt-get -q update && apt-get -q -y --no-install-recommends install $packages" > /dev/null 2>&1 || true
     look "$@"
 fi
 [ -n "$lacking" ] || exit 0

@@ -35,7 +35,7 @@ make_root() { # folder
     local sources=("deb $debian/debian bookworm main" "deb $debian/debian-security bookworm-security main") words=(--variant=minbase)
     [ "$processor" = amd64 ] || words=(--variant=extract --mode=root --include='?essential')
     progress "makes a Debian 12 for $processor, once, in two minutes"
-    run_quietly timeout 900 mmdebstrap --architectures="$processor" "${words[@]}" --include="$packages" bookworm "$1" "${sources[@]}" ||
+    run_quietly timeout 1h mmdebstrap --architectures="$processor" "${words[@]}" --include="$packages" bookworm "$1" "${sources[@]}" ||
         refuse 'mmdebstrap failed'
     [ "$processor" = amd64 ] || set_up "$1"
 }
