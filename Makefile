@@ -260,7 +260,7 @@ include $(wildcard *.mk)
 test_calls := crates/test_calls/out/test_calls
 rattle_tests := tests/test_rattle.py tests/test_timed.py
 kit_checks := axioms growth refusals rattle listings prebuilt
-every_check := lint numbers c c-arm64 tests-arm64 rust python programs page install packages clone docs fuzz $(kit_checks)
+every_check := lint numbers c c-arm64 tests-arm64 rust python programs scenarios page install packages clone docs fuzz $(kit_checks)
 # What the tests of a part read.
 export HEDRUGAL_LIBRARY := $(abspath $(lib))
 export HEDRUGAL_KEYS := $(abspath out/bin/hedrugal-keys)
@@ -272,7 +272,8 @@ check-c-arm64 := CC=aarch64-linux-gnu-gcc CXX=aarch64-linux-gnu-g++ EMULATOR='qe
 	HEDRUGAL_LIBRARY=$(arm64)/lib tools/c_test.sh
 check-rust := tools/rust_test.sh
 check-python := $(PYTHON) -m pytest python
-check-programs := $(PYTHON) -m pytest $(filter-out tests/test_page% $(rattle_tests),$(wildcard tests/test_*.py))
+check-programs := $(PYTHON) -m pytest $(filter-out tests/test_page% tests/test_scenarios.py $(rattle_tests),$(wildcard tests/test_*.py))
+check-scenarios := $(PYTHON) -m pytest tests/test_scenarios.py
 check-page := $(PYTHON) -m pytest $(wildcard tests/test_page*.py)
 check-install := tools/install_test.sh
 check-packages := tools/package_test.sh
@@ -326,7 +327,7 @@ format: ## lays out the sources in C, Rust and Python
 # it is proved twice. It comes early, since it takes longest where the rest is kept. Other parts that wait for a proof come last, as a wait is
 # one of the JOBS.
 JOBS ?= 7
-gate_parts := ci library lint numbers c-arm64 tests-arm64 clone rust programs page packages c python docs install fuzz \
+gate_parts := ci library lint numbers c-arm64 tests-arm64 clone rust programs scenarios page packages c python docs install fuzz \
 	prebuilt growth refusals rattle listings axioms
 gate_checks := $(filter-out ci library,$(gate_parts))
 
