@@ -368,7 +368,7 @@ enum hed_dialect {
 /* Makes a parser with an empty buffer. If there was one, it is freed. The caller owes a hed_parser_free. Pass HED_DIALECT_EXTENDED, whatever
  * the terminal is and whatever protocol or mode the program turns on.
  *
- * A parser takes some half a millisecond to make, and some 170 KB, most of it a table of sequences. So make one and keep it:
+ * A parser takes some half a millisecond to make, and some 240 KB, most of it a table of sequences. So make one and keep it:
  * hed_parser_reset empties its buffer, and further parsers share its table by hed_parser_init_sharing.
  *
  * Returns HED_OK, HED_NO_MEMORY, or HED_BAD_NUMBER if dialect is no enum hed_dialect. */

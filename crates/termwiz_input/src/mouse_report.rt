@@ -4,7 +4,8 @@
 // one to five decimal digits.
 ghost use Rattle.std.specs.Option.{SomeIff};
 ghost use Rattle.termwiz_base.specs.Mouse.{IsReport};
-ghost use Rattle.termwiz_grammar.specs.MouseReports.{mouse_event};
+ghost use Rattle.termwiz_keymap.specs.Bytes.{Begins};
+ghost use Rattle.termwiz_grammar.specs.MouseReports.{introducer, mouse_event};
 ghost use Rattle.termwiz_input.specs.MouseReportAnswers.{IsMouseReportAnswer, IsNumberAnswer, IsEventAnswer};
 
 use termwiz_base::{MouseReport, sgr_mouse};
@@ -108,6 +109,19 @@ fn event_at(text: &[u8]) -> Result<(MouseEvent, &[u8]), Unread>
     }
 }
 
+// What a text begins with, where its front is the introducer. It isn't inlined, so that a key doesn't pay for its places in a frame.
+#[inline(never)]
+fn introduced_report_at(text: &[u8]) -> FrontReport
+    requires { Begins introducer text.now }
+    ensures { IsMouseReportAnswer text.now result }
+{
+    match event_at(&text[INTRODUCER.len()..]) {
+        Ok((event, rest)) => FrontReport::Whole(event, text.len() - rest.len()),
+        Err(Unread::Begun) => FrontReport::Begun,
+        Err(Unread::Absent) => FrontReport::Absent,
+    }
+}
+
 /// Looks for a mouse report of xterm's SGR mode 1006 at the front of a text, for a parser over [`InputParser`](crate::input::InputParser).
 // Inlined, so that a key pays for no call.
 #[inline(always)]
@@ -115,11 +129,7 @@ pub fn mouse_report_at(text: &[u8]) -> FrontReport
     ensures { IsMouseReportAnswer text.now result }
 {
     if begins_with(text, INTRODUCER) {
-        match event_at(&text[INTRODUCER.len()..]) {
-            Ok((event, rest)) => FrontReport::Whole(event, text.len() - rest.len()),
-            Err(Unread::Begun) => FrontReport::Begun,
-            Err(Unread::Absent) => FrontReport::Absent,
-        }
+        introduced_report_at(text)
     } else if begins_with(INTRODUCER, text) {
         FrontReport::Begun
     } else {

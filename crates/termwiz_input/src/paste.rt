@@ -11,7 +11,7 @@ ghost use Rattle.termwiz_input.specs.PasteSearch.{IsPasteSoFar, NoEndBefore};
 
 use bstr::ByteSlice;
 use std::alloc::{AllocError, Global};
-use termwiz_keymap::bytes::{begins_with, find_from};
+use termwiz_keymap::bytes::find_from;
 use termwiz_keys::types::{InputEvent, PastedText};
 
 // What comes before a pasted text, and after it.
@@ -20,11 +20,12 @@ pub(crate) const PASTE_START: &[u8] = b"\x1b[200~";
 pub(crate) const PASTE_END: &[u8] = b"\x1b[201~";
 
 /// Whether a paste begins the text.
+// By a pattern, which is quicker than a comparison with `PASTE_START`.
 #[inline(always)]
 pub fn begins_paste(text: &[u8]) -> bool
     ensures { IsTrue result ↔ Begins START text.now }
 {
-    begins_with(text, PASTE_START)
+    matches!(text, [b'\x1b', b'[', b'2', b'0', b'0', b'~', ..])
 }
 
 // Pasted bytes as text, with U+FFFD for what is no character.

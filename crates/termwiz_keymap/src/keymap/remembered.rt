@@ -27,10 +27,13 @@ const DEEPEST: usize = 8;
 const FIRST: usize = 3;
 
 // A range of `FIRST` bytes or more isn't parted further if it has at most so many rows.
-const FEW: usize = 4;
+const FEW: usize = 1;
+
+// Within a range of more rows it is remembered too by which bytes none goes on.
+const MANY: usize = 64;
 
 // The number of places for ranges. Each range has one place, where another may stand.
-const PLACES: usize = 4096;
+const PLACES: usize = 8192;
 
 // Below so many rows a place among them fits a remembered range.
 const ROWS: usize = 0x1_0000;
@@ -93,7 +96,7 @@ fn place_of(number: u64, depth: u16) -> usize {
     let mixed = number
         .wrapping_add(depth as u64)
         .wrapping_mul(0x9e37_79b9_7f4a_7c15);
-    (mixed >> 52) as usize % PLACES
+    (mixed >> 51) as usize % PLACES
 }
 
 // What is remembered for so many bytes with this number.
@@ -186,6 +189,7 @@ fn remember_within<V>(
     if depth == DEEPEST || (depth >= FIRST && range.count() <= FEW) {
         return;
     }
+    remember_printable(rows, places, range, text, depth);
     let mut low = range.low;
     while low < range.high {
         let key = rows[low].key();
@@ -193,6 +197,42 @@ fn remember_within<V>(
         remember(rows, places, next, key, depth + 1);
         remember_within(rows, places, next, key, depth + 1);
         low = next.high.max(low + 1);
+    }
+}
+
+// So many first bytes of a text, and a byte after them.
+fn with_byte(text: &[u8], depth: usize, byte: u8) -> [u8; FIRST]
+    requires inside { depth ≤ length text.now }
+    requires first { depth < FIRST }
+    ensures { take depth result ≡ take depth text.now }
+{
+    let mut bytes = [byte; FIRST];
+    bytes[..depth].copy_from_slice(&text[..depth]);
+    bytes
+}
+
+// Where a short text's range has many rows, remembers the ranges within it by each printable byte, also where no row has that.
+fn remember_printable<V>(
+    rows: &GapBuffer<Row<V>>,
+    places: &mut [Remembered],
+    range: Range,
+    text: &[u8],
+    depth: usize,
+)
+    requires ascending { AreAscending rows.now }
+    requires few { length rows.now < 2 ^ 16 }
+    requires inside { depth ≤ length text.now }
+    requires first { IsRangeOf rows.now (take depth text.now) range }
+    requires remembered { AreRemembered rows.now places.old }
+    ensures { AreRemembered rows.now places.new }
+{
+    if depth >= FIRST || range.count() <= MANY {
+        return;
+    }
+    for byte in b' '..b'\x7f' {
+        let bytes = with_byte(text, depth, byte);
+        let next = narrowed(rows, range, &bytes, depth);
+        remember(rows, places, next, &bytes, depth + 1);
     }
 }
 

@@ -1,15 +1,6 @@
-use Rattle.std.proofs.Common.{subst, refl}
-use Rattle.termwiz_input.specs.declared.mouse_report.Unread.TheVariants.{Absent}
-use Rattle.termwiz_input.specs.MouseReportAnswers.{IsMouseReportUnread}
-use Rattle.termwiz_input.proofs.lemmas.mouse.ReportReading.{introduced, introducer_begun, no_introducer}
+use Rattle.termwiz_input.proofs.lemmas.mouse.ReportReading.{introducer_begun, no_introducer}
 use Rattle.termwiz_keymap.proofs.lemmas.lists.PrefixTest.{denied}
 use Rattle.termwiz_input.proofs.mouse_report.mouse_report_at.Goals as goal
-
-pub returns-in-Err-Absent : goal.returns-in-Err-Absent
-returns-in-Err-Absent c =
-    subst (λ t. IsMouseReportUnread t Absent)
-    (introduced c.args.text.now _ (c.begins_with.ensures.0 c.if-begins_with.true) refl)
-    (rw c.in-Err-Absent.field-0-is at c.in-Err-Absent.ensures)
 
 pub returns-then-begins_with-2 : goal.returns-then-begins_with-2
 returns-then-begins_with-2 c =

@@ -5,6 +5,12 @@ use Rattle.termwiz_keymap.specs.declared.keymap.remembered.Remembered.{Remembere
 use Rattle.termwiz_keymap.specs.Remembering.{IsRight}
 use Rattle.termwiz_keymap.proofs.keymap.remembered.remembered_ranges.Goals as goal
 
+pub returns-then-len-ge-ROWS : goal.returns-then-len-ge-ROWS
+returns-then-len-ge-ROWS g c =
+    let nothing : Remembered = record { number = 0; depth = 0; low = 0; high = 0; longest = 0 } in
+    rw (c.in_ok-places.ensures.items_if_clones_equal (λ y e. e))
+    (All-replicate (IsRight c.args.rows.now) 8192 nothing (λ front bytes some. absurd (omega arith)))
+
 pub returns : goal.returns
 returns g c =
     let rows = c.args.rows.now in
@@ -13,7 +19,7 @@ returns g c =
     let nothing : Remembered = record { number = 0; depth = 0; low = 0; high = 0; longest = 0 } in
     let none : All (IsRight rows) old =
     rw (c.in_ok-places.ensures.items_if_clones_equal (λ y e. e))
-    (All-replicate (IsRight rows) 4096 nothing (λ front bytes some. absurd (omega arith))) in
+    (All-replicate (IsRight rows) 8192 nothing (λ front bytes some. absurd (omega arith))) in
     All-take (IsRight rows) c.in_ok-places.places.len (new ++ drop (length new) old)
     (All-append (IsRight rows) new (drop (length new) old) c.remember_within.ensures
     (All-drop (IsRight rows) (length new) old none))
