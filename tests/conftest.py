@@ -52,14 +52,21 @@ def run_without_terminal(words, **how):
     return subprocess.run(words, **how)
 
 
+def check_refused(words, status, says):
+    """Without a terminal it ends so, says this, and prints nothing."""
+    done = run_without_terminal(words, text=True)
+    assert (done.returncode, done.stdout) == (status, "")
+    assert re.fullmatch(says, done.stderr), done.stderr
+
+
 @pytest.fixture
 def on_terminal():
-    """Waits until a program has written its first line and made the terminal raw, and closes the
-    terminal at the end of the case."""
+    """Waits until a program has written its first line, or plays these steps, and has made the
+    terminal raw. Closes the terminal at the end of the case."""
     with contextlib.ExitStack() as stack:
 
-        def start(terminal):
-            stack.enter_context(terminal).play([f"{terminal.FIRST}\r\n"])
+        def start(terminal, *steps):
+            stack.enter_context(terminal).play(steps or [f"{terminal.FIRST}\r\n"])
             assert terminal.is_raw()
             return terminal
 
@@ -81,19 +88,26 @@ def compiled(tmp_path_factory):
 
 
 @pytest.fixture(scope="session")
-def late_poll(tmp_path_factory):
+def late_poll(compiled):
     """What LD_PRELOAD is for a program that stands still where nothing came in time, as if it were
     stopped before it sees that."""
-    library = tmp_path_factory.mktemp("c") / "late.so"
-    words = ["cc", "-shared", "-fPIC", "-o", library, TOP / "tests/late_poll.c"]
-    subprocess.run(words, check=True)
-    return str(library)
+    return compiled("late.so", "c11", "-shared", "-fPIC", TOP / "tests/late_poll.c")
 
 
 @pytest.fixture(scope="session")
-def example(compiled, tmp_path_factory):
-    """Builds the example of a name in a language, or in Rust by a feature of rust/with, and returns
-    the words that run it. `-k "not rust"` leaves out those in Rust."""
+def rust_copy(tmp_path_factory):
+    """A copy of the folder rust: cargo writes a lock file beside the manifest of what names other
+    crates. Each copy is built anew: cargo looks for changes of its sources where an earlier copy
+    lay."""
+    copy = tmp_path_factory.mktemp("rust") / "rust"
+    return shutil.copytree(TOP / "rust", copy, ignore=shutil.ignore_patterns("target"))
+
+
+@pytest.fixture(scope="session")
+def example(compiled, rust_copy, tmp_path_factory):
+    """Builds the example of a name in a language, of the package rust/crossterm, or in Rust by a
+    feature of rust/with, and returns the words that run it. `-k "not rust"` leaves out those in
+    Rust."""
 
     @functools.cache
     def build_example(language, name):
@@ -104,23 +118,18 @@ def example(compiled, tmp_path_factory):
         if language == "rust":
             target = os.environ.get("CARGO_TARGET_DIR") or tmp_path_factory.mktemp("target")
             return [cargo_build(TOP / "rust/Cargo.toml", target, name, "--locked")]
-        features = ["--features", language, "--config", TOP / "rust/with/system.toml"]
-        return [
-            cargo_build(rust_copy() / "with/Cargo.toml", rust_copy() / "target", name, *features)
-        ]
+        folder, *words = ["with", "--features", language]
+        if language == "crossterm":
+            folder, *words = ["crossterm", "--all-features"]
+        words += ["--config", TOP / "rust/with/system.toml"]
+        manifest = rust_copy / folder / "Cargo.toml"
+        return [cargo_build(manifest, rust_copy / "target", name, *words)]
 
     def cargo_build(manifest, target, name, *words):
         env = os.environ | {"HEDRUGAL_LIBRARY": str(LIBRARY), "CARGO_TARGET_DIR": str(target)}
         words = ["--offline", "--manifest-path", manifest, "--example", name, *words]
         subprocess.run(["cargo", "build", "--quiet", *words], env=env, check=True)
         return f"{target}/debug/examples/{name}"
-
-    @functools.cache
-    def rust_copy():
-        """Cargo writes a lock file beside the manifest of what names other crates. Each copy is
-        built anew: cargo looks for changes of its sources where an earlier copy lay."""
-        copy = tmp_path_factory.mktemp("rust") / "rust"
-        return shutil.copytree(TOP / "rust", copy, ignore=shutil.ignore_patterns("target"))
 
     return build_example
 

@@ -61,3 +61,67 @@ class Screen:
             re.sub(r"([*~_])\1", "", "".join(f"{style}{it}{style}" for it, style in row))
             for row in self.rows[:-1]
         ]
+
+
+DRAWN = re.compile(
+    rb"\033\[(\d+);(\d+)H|\033\[([\d;]*)m|(\033\[2J)|\033\[(?:\?[\d;]+[hl]|[<>]\d+u|6n)|(\r)|(\n)"
+    rb"|([^\033\r\n]+)"
+)
+# What a code of a style turns off.
+OFF = {"22": "12", "23": "3", "24": "4", "25": "56", "27": "7", "28": "8", "29": "9"}
+
+
+class Display:
+    """What a program shows that draws the whole screen by crossterm. It refuses other sequences
+    than crossterm writes for that."""
+
+    def __init__(self):
+        self.cells, self.row, self.column, self.style = {}, 0, 0, {}
+
+    def take(self, output):
+        refused = DRAWN.sub(self.obey, output)
+        assert not refused, f"written to the terminal: {refused[:30]!r}"
+        return self
+
+    def obey(self, token):
+        row, column, style, clear, start, feed, characters = token.groups()
+        if row:
+            self.row, self.column = int(row) - 1, int(column) - 1
+        elif style is not None:
+            self.set_style(style.decode())
+        elif clear:
+            self.cells = {}
+        elif start:
+            self.column = 0
+        elif feed:
+            self.row += 1
+        elif characters:
+            self.put(characters.decode())
+        return b""
+
+    def set_style(self, codes):
+        kind = codes.partition(";")[0]
+        if kind in ("", "0"):
+            self.style = {}
+        elif kind in OFF:
+            self.style = {it: code for it, code in self.style.items() if it not in OFF[kind]}
+        elif kind in ("39", "49"):
+            self.style = {it: code for it, code in self.style.items() if it != kind[0] + "8"}
+        else:
+            self.style = self.style | {kind: codes}
+
+    def put(self, characters):
+        for character in characters:
+            self.cells[self.row, self.column] = character, ",".join(sorted(self.style.values()))
+            self.column += 1
+
+    def styled(self, rows, columns):
+        """These rows, each style in front of its characters."""
+        return ["".join(self.styled_cells(row, columns)).rstrip() for row in rows]
+
+    def styled_cells(self, row, columns):
+        last = ""
+        for column in columns:
+            character, style = self.cells.get((row, column), (" ", ""))
+            yield character if style == last else f"<{style}>{character}"
+            last = style

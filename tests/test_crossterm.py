@@ -1,13 +1,16 @@
-"""What `hedrugal::crossterm` reads of a terminal, beside what crossterm's own reader has of it. The
-program rust/tests/with/crossterm_events.rs runs over each of the two.
+"""What the package in crossterm's place reads of a terminal, beside what crossterm's own reader has
+of it. The example `events` of rust/crossterm runs over each of the two, and `calls` makes all calls
+that read. crossterm's own assertions on its parser are cases too.
 
 They have the same events of most bytes. Where they differ a rule names the reason, and mostly other
 bytes, of which crossterm has the events that this package has."""
 import contextlib
+import os
 import re
 import signal
 
 import pytest
+from crossterm_assertions import assertions, run_assertions
 from terminal import CONTINUE, END, PAUSE, START, Terminal
 
 # Codes of Kitty's protocol: some characters, and the numbers of its functional keys.
@@ -18,10 +21,6 @@ LOCKS = [";65", ";129", ";193"]
 KINDS = [f";{number}:{kind}" for number in [1, 5] for kind in [1, 2, 3]]
 # The keys of the keypad by their letters after ESC O, and their numbers in Kitty's table.
 KEYPAD = dict(zip("pqrstuvwxynojmkMXl", range(57399, 57417))) | {"E": 57427}
-# The modifiers of that table, from 57441 on.
-SIDES = [
-    it + name for it in ["Left", "Right"] for name in "Shift Control Alt Super Hyper Meta".split()
-]
 
 
 def csi(*parts):
@@ -85,11 +84,6 @@ RULES = [
         "a number of Kitty's table that is no key of crossterm's is no character",
         r"\033\[57(34[4-9]|35[0-7]|36[4-9]|37[0-5]|455)u",
         [],
-    ),
-    (
-        "a modifier isn't held with its own key, unless the terminal says so",
-        r"\033\[(5744[1-9]|5745[0-2])(?:;1:([123]))?u",
-        lambda it: [f"Modifier({SIDES[int(it[1]) - 57441]}) NONE {KIND[it[2]]} NONE"],
     ),
     (
         "crossterm doesn't read what Shift or another layout types",
@@ -157,6 +151,11 @@ RULES = [
 KIND = {None: "Press", "1": "Press", "2": "Repeat", "3": "Release"}
 
 
+ASSERTIONS = assertions()
+# The only ones that don't hold: a mouse report with `;` before its last letter.
+UNSENT = r"\[<?(\d+;){3}[Mm]"
+
+
 class Reader(Terminal):
     """The program over one of the two."""
 
@@ -177,7 +176,7 @@ class Reader(Terminal):
 
 @pytest.fixture(scope="module")
 def program(example):
-    return example("crossterm", "crossterm_events")
+    return example("crossterm", "events")
 
 
 @pytest.fixture(scope="module")
@@ -212,6 +211,17 @@ def test_rules():
     told = [data for group in KEYS.values() for data in group]
     for reason, pattern, _ in RULES:
         assert any(re.fullmatch(pattern, data.decode(), re.DOTALL) for data in told), reason
+
+
+@pytest.fixture(scope="module")
+def outcomes(rust_copy):
+    return run_assertions(rust_copy)
+
+
+@pytest.mark.parametrize("line", ASSERTIONS)
+def test_assertions_of_crossterm(outcomes, line):
+    holds, told = outcomes[line]
+    assert holds != bool(re.search(UNSENT, ASSERTIONS[line])), (ASSERTIONS[line], told)
 
 
 def as_sgr(code, x, y, is_release):
@@ -290,3 +300,170 @@ def test_sequence_during_a_computation(start):
         for _ in range(2):
             reader.play([b"s\033", "Char('s')", PAUSE / 2, b"[A"])
             assert reader.events(b"")[-1:] == ["Up NONE Press NONE"]
+
+
+class Calls(Terminal):
+    """The program that makes all calls which read."""
+
+    FIRST = "q ends"
+    # The questions of a call, and the reply to the last of them.
+    POSITION, FLAGS = "\033[6n\033[c", "\033[?u\033[c"
+    ATTRIBUTES = b"\033[?62;22c"
+
+    def expect_keys(self, *names):
+        for name in names:
+            self.expect_exact(f"code: {name},")
+
+    def end_by_q(self):
+        self.send(b"q")
+        self.check_end(0)
+
+    def check_refused(self, words):
+        """It ends by a panic in these words, on a terminal as it was."""
+        self.check_end(101)
+        assert words in self.output.decode()
+
+
+@pytest.fixture
+def calls(example):
+    with contextlib.ExitStack() as stack:
+
+        def start(*words, **how):
+            program = Calls([*example("crossterm", "calls"), *words], **how)
+            stack.enter_context(program).play(["q ends", "\n"])
+            return program
+
+        yield start
+
+
+BY = pytest.mark.parametrize("by", ["poll", "stream"])
+
+
+@BY
+def test_keys_around_the_position(calls, by):
+    """None is lost. A key whose bytes are those of the reply comes before it, or after."""
+    program = calls(by)
+    for _ in range(2):
+        reply = b"a\033[1;5Rb" + program.ATTRIBUTES + b"\033[1;5Rc"
+        program.play([b"p", program.POSITION, reply, "position Ok((4, 0))\r\n"])
+        program.expect_keys("Char('a')", "Char('b')", "F(3)", "Char('c')")
+    program.end_by_q()
+
+
+@BY
+def test_no_position(calls, by):
+    program = calls(by)
+    program.play([b"p", program.POSITION, b"a", "position Err(TimedOut)\r\n"])
+    program.expect_keys("Char('a')")
+    program.play([b"p", program.POSITION, program.ATTRIBUTES, "position Err(TimedOut)\r\n"])
+    program.end_by_q()
+
+
+@BY
+@pytest.mark.parametrize(
+    "reply, told",
+    [(b"\033[?1u" + Calls.ATTRIBUTES, "Ok(true)"), (Calls.ATTRIBUTES, "Ok(false)"), (b"", "Err")],
+    ids=["has it", "has it not", "says nothing"],
+)
+def test_keyboard_enhancement(calls, by, reply, told):
+    program = calls(by)
+    program.play([b"k", program.FLAGS, b"a" + reply, f"Kitty's {told}"])
+    program.expect_keys("Char('a')")
+    program.end_by_q()
+
+
+@BY
+def test_escape_and_cuts(calls, by):
+    program = calls(by)
+    program.play([b"\033"])
+    program.expect_keys("Esc")
+    program.play([b"\033[1", PAUSE, b";5A"])
+    program.expect_keys("Up")
+    program.play([b"abc"])
+    program.expect_keys("Char('a')", "Char('b')", "Char('c')")
+    program.play([START + b"a\n", PAUSE, b"q" + END, r'Paste("a\nq")', (60, 20), "Resize(60, 20)"])
+    program.end_by_q()
+
+
+@BY
+def test_lent_terminal(calls, by):
+    """What the program runs has the terminal as it was, and ^Z stops both."""
+    program = calls(by)
+    program.play([b"exy", "lent\r\n"])
+    assert program.settings() == program.settings_before
+    program.play([b"\x1a", Terminal.wait_for_stop, (60, 20), CONTINUE])
+    program.wait_for(lambda: program.state() != "T", "SIGCONT")
+    os.killpg(program.job, signal.SIGCONT)
+    program.play([b"line\n", "had line\r\n", "it is back: exit status: 0\r\n"])
+    program.expect_keys("Char('x')", "Char('y')")
+    program.play(["Resize(60, 20)", b"z"])
+    program.expect_keys("Char('z')")
+    program.end_by_q()
+
+
+def test_without_raw_mode(calls):
+    """It reads lines that the terminal edits. ^C and ^Z do at once what they do."""
+    program = calls("cooked")
+    program.play([b"ab\x7fc\n"])
+    program.expect_keys("Char('a')", "Char('c')", "Enter")
+    assert program.settings() == program.settings_before
+    program.play([b"\x1a", Terminal.wait_for_stop, CONTINUE])
+    program.play([b"d\n"])
+    program.expect_keys("Char('d')", "Enter")
+    program.send(b"\x07")
+    program.check_end(-signal.SIGINT)
+
+
+@BY
+@pytest.mark.parametrize("blocks", [True, False], ids=["blocks", "O_NONBLOCK"])
+def test_end_of_input(calls, by, blocks):
+    program = calls(by, blocks=blocks)
+    program.play([b"a"])
+    program.expect_keys("Char('a')")
+    program.play([PAUSE, Terminal.let_end_input, b"\x04"])
+    assert program.wait_for_end() == (0 if by == "stream" else 1)
+    end = "the stream is at its end" if by == "stream" else "UnexpectedEof"
+    assert end in program.output.decode()
+
+
+@BY
+@pytest.mark.parametrize("number", [signal.SIGHUP, signal.SIGTERM])
+def test_ended_by_a_signal(calls, by, number):
+    program = calls(by)
+    program.play([b"a"])
+    program.expect_keys("Char('a')")
+    program.end_by(number)
+
+
+def test_stream_beside_a_poll(calls):
+    """Either may read a key, and the stream tells it."""
+    program = calls("polled")
+    for letter in "abcd" * 20:
+        program.play([letter.encode()])
+        program.expect_keys(f"Char('{letter}')")
+    program.end_by_q()
+
+
+def test_end_while_a_thread_reads(calls):
+    program = calls("thread")
+    program.play([b"a"])
+    program.expect_keys("Char('a')")
+    program.end_by_q()
+
+
+def test_a_terminal_beside(calls):
+    program = calls()
+    program.play([b"t", "a terminal Err(AlreadyExists)\r\n"])
+    program.end_by_q()
+
+
+def test_beside_a_guard(example):
+    with Calls([*example("crossterm", "calls"), "guard"]) as program:
+        program.check_refused("reads its terminal by a guard of hedrugal::terminal already")
+
+
+@BY
+def test_crossterms_reader_beside(calls, by):
+    program = calls(by)
+    program.play([b"o", "\033[6n", b"\033[5;7R", "own position Ok((6, 4))\r\n"])
+    program.check_refused("reads the terminal by crossterm itself, so keys get lost")

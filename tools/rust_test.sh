@@ -33,10 +33,14 @@ rust_documentation() {
     rust doc --no-deps && rust doc --no-deps --document-private-items
 }
 
-# cargo on the manifest of what names other crates, with Debian's. It writes a lock file beside that, so this is a copy's.
+# cargo on a manifest of what names other crates, with Debian's. It writes a lock file beside that, so this is a copy's.
+rust_in() { # folder command words..
+    HEDRUGAL_LIBRARY="$library" CARGO_TARGET_DIR="$work/with" cargo "$2" --quiet --offline \
+        --manifest-path "$work/rust/$1/Cargo.toml" --config rust/with/system.toml "${@:3}"
+}
+
 rust_with() { # command words..
-    HEDRUGAL_LIBRARY="$library" CARGO_TARGET_DIR="$work/with" cargo "$1" --quiet --offline \
-        --manifest-path "$work/rust/with/Cargo.toml" --config rust/with/system.toml "${@:2}"
+    rust_in with "$@"
 }
 
 # A feature alone, with its tests and examples.
@@ -48,6 +52,18 @@ rust_features() {
     export RUSTDOCFLAGS='-D warnings'
     rust_with test --all-features --tests --examples && rust_with clippy --all-features --all-targets -- -D warnings &&
         rust_with test --all-features --doc && rust_with doc --all-features --no-deps
+}
+
+# The package in crossterm's place, with each of crossterm's features alone, and with all.
+rust_in_crossterms_place() {
+    local feature
+    export RUSTDOCFLAGS='-D warnings'
+    rust_in crossterm clippy --no-default-features -- -D warnings || return
+    for feature in bracketed-paste event-stream serde; do
+        rust_in crossterm clippy --no-default-features --features "$feature" -- -D warnings || return
+    done
+    rust_in crossterm clippy --all-features --all-targets -- -D warnings && rust_in crossterm test --all-features &&
+        rust_in crossterm doc --all-features --no-deps
 }
 
 # Builds a program over a copy of the package in a new folder, with these variables in place of the one that names the library, beside
@@ -99,11 +115,12 @@ rust_links_nothing() {
 check 'tests' rust_tests
 check 'documentation' rust_documentation
 check 'clippy' rust clippy --all-targets -- -D warnings
-mkdir "$work/rust" && cp -r rust/{build.rs,src,tests,examples,with} "$work/rust/" || exit
-for feature in use_serde tokio mio crossterm; do
+mkdir "$work/rust" && cp -r rust/{build.rs,src,tests,examples,with,crossterm} "$work/rust/" || exit
+for feature in use_serde tokio mio crossterm crossterm-base crossterm-stream; do
     check "feature $feature" rust_feature "$feature"
 done
 check 'all features' rust_features
+check "in crossterm's place" rust_in_crossterms_place
 if command -v valgrind > /dev/null; then
     check 'tests under valgrind' rust_memcheck --test parser --test keymap -- "${longest_in_rust[@]}"
 else

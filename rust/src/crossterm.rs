@@ -1,15 +1,11 @@
-//! crossterm's events, of the events of this package. The feature `crossterm` has this module.
+//! crossterm's names, over the events of this package. The feature `crossterm` has this module.
 //!
-//! A program over crossterm 0.25, as one with tui 0.19, keeps all of its code but one line. In the
-//! place of `use crossterm::event::{self, Event, KeyCode};` it has
+//! The package `hedrugal-crossterm` in `rust/crossterm` has them in the place of crossterm 0.25: a
+//! program names it in its manifest, and changes no line of its sources. docs/SWITCH.md of the
+//! repository says how.
 //!
-//! ```
-//! use hedrugal::crossterm::event::{self, Event, KeyCode};
-//! ```
-//!
-//! and its terminal is then read by this package. A program that reads a
-//! [`Terminal`] converts its events itself, by [`TryFrom`] or a
-//! [`Converter`]. What crossterm's type can't say comes back as the error:
+//! A program that reads a [`Terminal`](crate::terminal::Terminal) converts its events itself, by
+//! [`TryFrom`] or a [`Converter`]. What crossterm's type can't say comes back as the error:
 //!
 //! ```
 //! use crossterm::event::{Event, KeyCode, KeyEvent, KeyModifiers};
@@ -35,446 +31,40 @@
 //! - of a key report that it has: what the key types with Shift or on the standard layout, and its
 //!   text. A text of several characters is a paste
 //! - that the program goes on after it was stopped: [`event::read`] returns its size then
-use crate::terminal::{restore, Modes, RawMode, Terminal};
-use crate::{
-    typed_text, Event, KeyCode, KeyEventKind, KeyPress, KeyReport, KittyModifiers, Modifiers,
-    MouseKind, MouseReport, Reading, ReportedKey,
-};
-use ::crossterm::event as theirs;
-use ::crossterm::terminal::{disable_raw_mode, enable_raw_mode, is_raw_mode_enabled};
-use std::io;
-use std::sync::{Mutex, MutexGuard, PoisonError};
-use std::time::{Duration, Instant};
+//! - without crossterm's `bracketed-paste`, a paste
+mod convert;
+mod other;
+mod reader;
+#[cfg(feature = "crossterm-stream")]
+mod stream;
 
-/// What `crossterm::event` has, with a `read` and a `poll` that read the terminal by this package.
+pub use convert::Converter;
+
+/// What `crossterm::cursor` has. The position is asked for by this package.
+pub mod cursor {
+    pub use super::reader::position;
+    pub use ::crossterm::cursor::*;
+}
+
+/// What `crossterm::event` has. The terminal is read by this package.
 pub mod event {
-    pub use super::{poll, read};
-    pub use ::crossterm::event::*;
-}
-
-/// Converts events to crossterm's. Some mouse reports don't tell which button was released. So this
-/// keeps which one was down before. [`TryFrom`] takes the left one for that, as crossterm does.
-///
-/// ```
-/// use crossterm::event::{Event, MouseButton, MouseEventKind};
-/// use hedrugal::crossterm::Converter;
-/// use hedrugal::{Dialect, Parser};
-/// use std::time::Instant;
-///
-/// let mut parser = Parser::new(Dialect::Extended);
-/// parser.feed(Instant::now(), b"\x1b[<2;1;1M\x1b[<34;2;1M\x1b[35;2;1M");
-/// let mut converter = Converter::default();
-/// let mut kinds = Vec::new();
-/// for event in parser {
-///     if let Ok(Event::Mouse(mouse)) = converter.convert(event) {
-///         kinds.push(mouse.kind);
-///     }
-/// }
-/// let right = MouseButton::Right;
-/// assert_eq!(
-///     kinds,
-///     [MouseEventKind::Down(right), MouseEventKind::Drag(right), MouseEventKind::Up(right)]
-/// );
-/// ```
-#[derive(Debug, Clone, Copy, Default)]
-pub struct Converter {
-    down: Option<theirs::MouseButton>,
-}
-
-impl Converter {
-    /// Converts an event. A part of a paste is a paste.
-    ///
-    /// ```
-    /// use crossterm::event::Event;
-    /// use hedrugal::crossterm::Converter;
-    ///
-    /// let mut converter = Converter::default();
-    /// assert_eq!(converter.convert(hedrugal::Event::FocusLost), Ok(Event::FocusLost));
-    /// ```
-    ///
-    /// # Errors
-    ///
-    /// The event, if crossterm's type can't say it.
-    pub fn convert(&mut self, event: Event) -> Result<theirs::Event, Event> {
-        if let Event::Paste(text) | Event::PastePart(text) = event {
-            return Ok(theirs::Event::Paste(text));
-        }
-        let converted = match &event {
-            Event::Key(report) => match typed_text(report) {
-                "" => key(report).map(theirs::Event::Key),
-                text => Some(theirs::Event::Paste(text.to_string())),
-            },
-            Event::Mouse(report) => self.mouse(report).map(theirs::Event::Mouse),
-            Event::FocusGained => Some(theirs::Event::FocusGained),
-            Event::FocusLost => Some(theirs::Event::FocusLost),
-            Event::Resized(size) => Some(theirs::Event::Resize(size.columns, size.rows)),
-            _ => None,
-        };
-        converted.ok_or(event)
-    }
-
-    fn mouse(&mut self, report: &MouseReport) -> Option<theirs::MouseEvent> {
-        Some(theirs::MouseEvent {
-            kind: self.mouse_kind(report)?,
-            column: report.x.saturating_sub(1),
-            row: report.y.saturating_sub(1),
-            modifiers: modifiers(xterm_modifiers(report.modifiers)),
-        })
-    }
-
-    fn mouse_kind(&mut self, report: &MouseReport) -> Option<theirs::MouseEventKind> {
-        let named = report.button.map(button_of);
-        Some(match report.kind {
-            MouseKind::Press => theirs::MouseEventKind::Down(*self.down.insert(named??)),
-            MouseKind::Drag => theirs::MouseEventKind::Drag(*self.down.insert(named??)),
-            MouseKind::Release => {
-                let button = match named {
-                    Some(button) => button?,
-                    None => self.down.unwrap_or(theirs::MouseButton::Left),
-                };
-                self.down = self.down.filter(|down| *down != button);
-                theirs::MouseEventKind::Up(button)
-            }
-            MouseKind::Move => theirs::MouseEventKind::Moved,
-            MouseKind::Wheel => match report.button {
-                Some(4) => theirs::MouseEventKind::ScrollUp,
-                Some(5) => theirs::MouseEventKind::ScrollDown,
-                _ => return None,
-            },
-        })
-    }
-}
-
-fn button_of(number: u8) -> Option<theirs::MouseButton> {
-    match number {
-        1 => Some(theirs::MouseButton::Left),
-        2 => Some(theirs::MouseButton::Middle),
-        3 => Some(theirs::MouseButton::Right),
-        _ => None,
-    }
-}
-
-// SHIFT, ALT and CTRL have the same bits in xterm's number.
-fn xterm_modifiers(modifiers: Modifiers) -> KittyModifiers {
-    KittyModifiers::from_bits_retain(modifiers.encode_xterm())
-}
-
-fn modifiers(held: KittyModifiers) -> theirs::KeyModifiers {
-    [
-        (KittyModifiers::SHIFT, theirs::KeyModifiers::SHIFT),
-        (KittyModifiers::ALT, theirs::KeyModifiers::ALT),
-        (KittyModifiers::CTRL, theirs::KeyModifiers::CONTROL),
-        (KittyModifiers::SUPER, theirs::KeyModifiers::SUPER),
-        (KittyModifiers::HYPER, theirs::KeyModifiers::HYPER),
-        (KittyModifiers::META, theirs::KeyModifiers::META),
-    ]
-    .into_iter()
-    .filter(|(flag, _)| held.contains(*flag))
-    .map(|(_, modifier)| modifier)
-    .collect()
-}
-
-fn state(held: KittyModifiers, is_keypad: bool) -> theirs::KeyEventState {
-    let mut state = theirs::KeyEventState::NONE;
-    state.set(theirs::KeyEventState::KEYPAD, is_keypad);
-    if held.contains(KittyModifiers::CAPS_LOCK) {
-        state.insert(theirs::KeyEventState::CAPS_LOCK);
-    }
-    if held.contains(KittyModifiers::NUM_LOCK) {
-        state.insert(theirs::KeyEventState::NUM_LOCK);
-    }
-    state
-}
-
-// Text without a key. One character is the key that types it.
-const TEXT: ReportedKey = ReportedKey::Functional(0);
-
-fn key(report: &KeyReport) -> Option<theirs::KeyEvent> {
-    let (key, held) = match report.key {
-        ReportedKey::Named(KeyCode::Char(c)) if c.is_ascii_control() => {
-            control_key(c, report.modifiers)?
-        }
-        TEXT => (KeyPress::of_report(report)?.key(), report.modifiers),
-        key => (key, report.modifiers),
+    pub use super::reader::{poll, read};
+    #[cfg(feature = "crossterm-stream")]
+    pub use super::stream::EventStream;
+    // Each by its name, since crossterm's own stream may be among the rest.
+    #[cfg(feature = "crossterm")]
+    pub use ::crossterm::event::{DisableBracketedPaste, EnableBracketedPaste};
+    pub use ::crossterm::event::{
+        DisableFocusChange, DisableMouseCapture, EnableFocusChange, EnableMouseCapture, Event,
+        KeyCode, KeyEvent, KeyEventKind, KeyEventState, KeyModifiers, KeyboardEnhancementFlags,
+        MediaKeyCode, ModifierKeyCode, MouseButton, MouseEvent, MouseEventKind,
+        PopKeyboardEnhancementFlags, PushKeyboardEnhancementFlags,
     };
-    let (code, is_keypad) = code_of(key)?;
-    let mut modifiers = modifiers(held);
-    let code = match code {
-        theirs::KeyCode::Tab if modifiers.contains(theirs::KeyModifiers::SHIFT) => {
-            theirs::KeyCode::BackTab
-        }
-        // crossterm says so of an upper case letter that is typed.
-        theirs::KeyCode::Char(c) if c.is_uppercase() => {
-            modifiers.insert(theirs::KeyModifiers::SHIFT);
-            code
-        }
-        code => code,
-    };
-    Some(theirs::KeyEvent {
-        code,
-        modifiers,
-        kind: match report.kind {
-            KeyEventKind::Press => theirs::KeyEventKind::Press,
-            KeyEventKind::Repeat => theirs::KeyEventKind::Repeat,
-            KeyEventKind::Release => theirs::KeyEventKind::Release,
-        },
-        state: state(held, is_keypad),
-    })
 }
 
-// The key that sends a control character, and what is held with it. crossterm calls the last four
-// Ctrl with 4 to 7.
-fn control_key(c: char, held: KittyModifiers) -> Option<(ReportedKey, KittyModifiers)> {
-    let press = KeyPress::new(ReportedKey::Named(KeyCode::Char(c)), held)?;
-    let key = match c {
-        '\x1c'..='\x1f' => ReportedKey::Named(KeyCode::Char(char::from(c as u8 - 0x1c + b'4'))),
-        _ => press.key(),
-    };
-    Some((key, held.union(press.held())))
-}
-
-// A key's code, and whether it is of the keypad.
-fn code_of(key: ReportedKey) -> Option<(theirs::KeyCode, bool)> {
-    match key {
-        ReportedKey::Named(key) => match keypad_code(key) {
-            Some(code) => Some((code, true)),
-            None => Some((named_code(key)?, false)),
-        },
-        ReportedKey::Functional(number) => functional_code(number),
-    }
-}
-
-// A key of the keypad, by what it types or does.
-fn keypad_code(key: KeyCode) -> Option<theirs::KeyCode> {
-    use theirs::KeyCode::{Char, End, Home, KeypadBegin, PageDown, PageUp};
-    Some(match key {
-        KeyCode::Numpad0 => Char('0'),
-        KeyCode::Numpad1 => Char('1'),
-        KeyCode::Numpad2 => Char('2'),
-        KeyCode::Numpad3 => Char('3'),
-        KeyCode::Numpad4 => Char('4'),
-        KeyCode::Numpad5 => Char('5'),
-        KeyCode::Numpad6 => Char('6'),
-        KeyCode::Numpad7 => Char('7'),
-        KeyCode::Numpad8 => Char('8'),
-        KeyCode::Numpad9 => Char('9'),
-        KeyCode::Multiply => Char('*'),
-        KeyCode::Add => Char('+'),
-        KeyCode::Separator => Char(','),
-        KeyCode::Subtract => Char('-'),
-        KeyCode::Decimal => Char('.'),
-        KeyCode::Divide => Char('/'),
-        KeyCode::KeyPadHome => Home,
-        KeyCode::KeyPadEnd => End,
-        KeyCode::KeyPadPageUp => PageUp,
-        KeyCode::KeyPadPageDown => PageDown,
-        KeyCode::KeyPadBegin => KeypadBegin,
-        _ => return None,
-    })
-}
-
-fn named_code(key: KeyCode) -> Option<theirs::KeyCode> {
-    use theirs::KeyCode::{Media, Modifier};
-    use theirs::{MediaKeyCode, ModifierKeyCode};
-    Some(match key {
-        KeyCode::Char(c) => theirs::KeyCode::Char(c),
-        KeyCode::Function(number) => theirs::KeyCode::F(number),
-        KeyCode::Backspace => theirs::KeyCode::Backspace,
-        KeyCode::Tab => theirs::KeyCode::Tab,
-        KeyCode::Enter => theirs::KeyCode::Enter,
-        KeyCode::Escape => theirs::KeyCode::Esc,
-        KeyCode::Insert => theirs::KeyCode::Insert,
-        KeyCode::Delete => theirs::KeyCode::Delete,
-        KeyCode::PageUp => theirs::KeyCode::PageUp,
-        KeyCode::PageDown => theirs::KeyCode::PageDown,
-        KeyCode::Home => theirs::KeyCode::Home,
-        KeyCode::End => theirs::KeyCode::End,
-        KeyCode::LeftArrow | KeyCode::ApplicationLeftArrow => theirs::KeyCode::Left,
-        KeyCode::RightArrow | KeyCode::ApplicationRightArrow => theirs::KeyCode::Right,
-        KeyCode::UpArrow | KeyCode::ApplicationUpArrow => theirs::KeyCode::Up,
-        KeyCode::DownArrow | KeyCode::ApplicationDownArrow => theirs::KeyCode::Down,
-        KeyCode::CapsLock => theirs::KeyCode::CapsLock,
-        KeyCode::ScrollLock => theirs::KeyCode::ScrollLock,
-        KeyCode::NumLock => theirs::KeyCode::NumLock,
-        KeyCode::PrintScreen => theirs::KeyCode::PrintScreen,
-        KeyCode::Pause => theirs::KeyCode::Pause,
-        KeyCode::Menu | KeyCode::LeftMenu | KeyCode::RightMenu | KeyCode::Applications => {
-            theirs::KeyCode::Menu
-        }
-        KeyCode::LeftShift => Modifier(ModifierKeyCode::LeftShift),
-        KeyCode::RightShift => Modifier(ModifierKeyCode::RightShift),
-        KeyCode::LeftControl => Modifier(ModifierKeyCode::LeftControl),
-        KeyCode::RightControl => Modifier(ModifierKeyCode::RightControl),
-        KeyCode::LeftAlt => Modifier(ModifierKeyCode::LeftAlt),
-        KeyCode::RightAlt => Modifier(ModifierKeyCode::RightAlt),
-        KeyCode::LeftWindows => Modifier(ModifierKeyCode::LeftSuper),
-        KeyCode::RightWindows => Modifier(ModifierKeyCode::RightSuper),
-        KeyCode::VolumeMute => Media(MediaKeyCode::MuteVolume),
-        KeyCode::VolumeDown => Media(MediaKeyCode::LowerVolume),
-        KeyCode::VolumeUp => Media(MediaKeyCode::RaiseVolume),
-        KeyCode::MediaNextTrack => Media(MediaKeyCode::TrackNext),
-        KeyCode::MediaPrevTrack => Media(MediaKeyCode::TrackPrevious),
-        KeyCode::MediaStop => Media(MediaKeyCode::Stop),
-        KeyCode::MediaPlayPause => Media(MediaKeyCode::PlayPause),
-        _ => return None,
-    })
-}
-
-// A key for which `KeyCode` has no name, and whether it is of the keypad.
-fn functional_code(number: u32) -> Option<(theirs::KeyCode, bool)> {
-    use theirs::KeyCode::{Char, Delete, Down, Enter, Insert, Left, Media, Modifier, Right, Up};
-    use theirs::{MediaKeyCode, ModifierKeyCode};
-    Some(match number {
-        57414 => (Enter, true),
-        57415 => (Char('='), true),
-        57417 => (Left, true),
-        57418 => (Right, true),
-        57419 => (Up, true),
-        57420 => (Down, true),
-        57425 => (Insert, true),
-        57426 => (Delete, true),
-        57428 => (Media(MediaKeyCode::Play), false),
-        57429 => (Media(MediaKeyCode::Pause), false),
-        57431 => (Media(MediaKeyCode::Reverse), false),
-        57433 => (Media(MediaKeyCode::FastForward), false),
-        57434 => (Media(MediaKeyCode::Rewind), false),
-        57437 => (Media(MediaKeyCode::Record), false),
-        57445 => (Modifier(ModifierKeyCode::LeftHyper), false),
-        57446 => (Modifier(ModifierKeyCode::LeftMeta), false),
-        57451 => (Modifier(ModifierKeyCode::RightHyper), false),
-        57452 => (Modifier(ModifierKeyCode::RightMeta), false),
-        57453 => (Modifier(ModifierKeyCode::IsoLevel3Shift), false),
-        57454 => (Modifier(ModifierKeyCode::IsoLevel5Shift), false),
-        _ => return None,
-    })
-}
-
-impl TryFrom<Event> for theirs::Event {
-    type Error = Event;
-
-    /// Does what a [`Converter`] does, of which no mouse button was down before.
-    fn try_from(event: Event) -> Result<theirs::Event, Event> {
-        Converter::default().convert(event)
-    }
-}
-
-// The terminal of `read` and `poll`.
-struct Reader {
-    terminal: Terminal,
-    converter: Converter,
-    front: Option<theirs::Event>,
-}
-
-static READER: Mutex<Option<Reader>> = Mutex::new(None);
-
-impl Reader {
-    // The program turns modes on by itself. Its raw mode is off for a moment, to find the settings
-    // from before it, which the guard restores.
-    fn open() -> io::Result<Reader> {
-        let mut saved = None;
-        if is_raw_mode_enabled()? {
-            disable_raw_mode()?;
-            let before = RawMode::settings();
-            enable_raw_mode()?;
-            saved = Some(before?);
-        }
-        let mut terminal = Terminal::begin(Modes::NONE, saved)?;
-        // Nobody tells which mouse reports the program turned on by crossterm's commands. As
-        // crossterm does, this reads them all.
-        let parser = terminal.parser();
-        let x10_mouse = true;
-        parser.set_reading(Reading {
-            x10_mouse,
-            ..parser.reading()
-        });
-        Ok(Reader {
-            terminal,
-            converter: Converter::default(),
-            front: None,
-        })
-    }
-
-    // Waits until an event is at the front, at most for so long. Returns whether one is.
-    fn wait(&mut self, time: Option<Duration>) -> io::Result<bool> {
-        let end = time.and_then(|time| Instant::now().checked_add(time));
-        while self.front.is_none() {
-            if let Some(end) = end {
-                let left = end.saturating_duration_since(Instant::now());
-                if !self.terminal.poll(left)? {
-                    return Ok(false);
-                }
-            }
-            let event = self.terminal.read()?;
-            let event = event.ok_or(io::ErrorKind::UnexpectedEof)?;
-            self.front = self.converter.convert(event).ok();
-        }
-        Ok(true)
-    }
-}
-
-fn locked() -> MutexGuard<'static, Option<Reader>> {
-    READER.lock().unwrap_or_else(PoisonError::into_inner)
-}
-
-// Waits until an event is at the front. A signal that ends the program does so once crossterm's raw
-// mode is off.
-fn wait(reader: &mut Option<Reader>, time: Option<Duration>) -> io::Result<bool> {
-    if reader.is_none() {
-        *reader = Some(Reader::open()?);
-    }
-    let opened = reader.as_mut().expect("it is open");
-    let waited = opened.wait(time);
-    if opened.terminal.ending().is_some() {
-        restore();
-        disable_raw_mode()?;
-        *reader = None;
-    }
-    waited
-}
-
-/// Waits for an event, as `crossterm::event::read` does. What crossterm's type can't say is left
-/// out. Keys are read by each keyboard protocol, and mouse reports in each form, whatever the program
-/// has turned on. ESC `[1;5R` is F3 with Ctrl, since nothing here asks for the cursor's position.
-///
-/// The first call opens the program's terminal, in raw mode; the program turns on what it wants
-/// of it by crossterm's commands, and calls `enable_raw_mode` before. A signal that ends or stops the
-/// program restores the settings from before that.
-///
-/// ```no_run
-/// use hedrugal::crossterm::event::{self, Event};
-///
-/// if let Event::Key(key) = event::read()? {
-///     println!("{:?}", key.code);
-/// }
-/// # Ok::<(), std::io::Error>(())
-/// ```
-///
-/// # Errors
-///
-/// If there is no terminal, if it can't be read, or with `UnexpectedEof` where it is gone.
-pub fn read() -> io::Result<theirs::Event> {
-    let mut reader = locked();
-    wait(&mut reader, None)?;
-    let event = reader.as_mut().and_then(|reader| reader.front.take());
-    event.ok_or_else(|| io::ErrorKind::Interrupted.into())
-}
-
-/// Waits for an event, at most for so long, as `crossterm::event::poll` does. Returns whether
-/// [`read`] returns one at once.
-///
-/// ```no_run
-/// use hedrugal::crossterm::event;
-/// use std::time::Duration;
-///
-/// while !event::poll(Duration::from_millis(250))? {
-///     println!("still nothing");
-/// }
-/// # Ok::<(), std::io::Error>(())
-/// ```
-///
-/// # Errors
-///
-/// Those of [`read`].
-pub fn poll(time: Duration) -> io::Result<bool> {
-    wait(&mut locked(), Some(time))
+/// What `crossterm::terminal` has. This package reads replies, and leaves the terminal where raw mode
+/// ends.
+pub mod terminal {
+    pub use super::reader::{disable_raw_mode, enable_raw_mode, supports_keyboard_enhancement};
+    pub use ::crossterm::terminal::*;
 }

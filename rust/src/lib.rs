@@ -84,7 +84,7 @@
 
 mod bindings;
 mod chord;
-#[cfg(feature = "crossterm")]
+#[cfg(feature = "crossterm-base")]
 pub mod crossterm;
 mod encode;
 mod entries;

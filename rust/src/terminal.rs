@@ -31,7 +31,7 @@ mod reader;
 mod source;
 #[cfg(feature = "tokio")]
 mod stream;
-mod unix;
+pub(crate) mod unix;
 
 #[cfg(feature = "tokio")]
 pub use decoder::EventDecoder;

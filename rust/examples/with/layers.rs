@@ -1,12 +1,8 @@
 //! Reads so many events of its terminal by one layer, for tools/performance.py:
-//! `layers (terminal | stream | crossterm | crossterm-stream) COUNT (each | all)`. It says when it has
-//! begun, and with `each` tells of each event.
-use crossterm::terminal::{disable_raw_mode, enable_raw_mode};
-use futures_core::Stream;
+//! `layers (terminal | stream) COUNT (each | all)`. It says when it has begun, and with `each` tells of
+//! each event.
 use hedrugal::terminal::{EventStream, Modes, Terminal};
-use std::future::poll_fn;
 use std::io::{self, Write};
-use std::pin::Pin;
 
 fn begin() {
     print!("begun\r\n");
@@ -41,29 +37,6 @@ async fn read_stream(count: usize, is_told: bool) -> io::Result<()> {
     Ok(())
 }
 
-fn read_crossterm(count: usize, is_told: bool) -> io::Result<()> {
-    enable_raw_mode()?;
-    begin();
-    for _ in 0..count {
-        crossterm::event::read()?;
-        tell(is_told)?;
-    }
-    disable_raw_mode()
-}
-
-#[tokio::main(flavor = "current_thread")]
-async fn read_crossterm_stream(count: usize, is_told: bool) -> io::Result<()> {
-    enable_raw_mode()?;
-    let mut events = crossterm::event::EventStream::new();
-    begin();
-    for _ in 0..count {
-        let next = poll_fn(|context| Pin::new(&mut events).poll_next(context)).await;
-        next.ok_or(io::ErrorKind::UnexpectedEof)??;
-        tell(is_told)?;
-    }
-    disable_raw_mode()
-}
-
 fn main() -> io::Result<()> {
     let words: Vec<_> = std::env::args().skip(1).collect();
     let [layer, count, how] = &words[..] else {
@@ -74,8 +47,6 @@ fn main() -> io::Result<()> {
     match layer.as_str() {
         "terminal" => read_terminal(count, is_told),
         "stream" => read_stream(count, is_told),
-        "crossterm" => read_crossterm(count, is_told),
-        "crossterm-stream" => read_crossterm_stream(count, is_told),
         _ => Err(io::Error::other("no such layer")),
     }
 }

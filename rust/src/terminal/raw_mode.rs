@@ -418,12 +418,12 @@ impl RawMode {
     }
 
     // The terminal's settings as they are now.
-    #[cfg(feature = "crossterm")]
+    #[cfg(feature = "crossterm-base")]
     pub(crate) fn settings() -> io::Result<Settings> {
         Settings::of(terminal_of(io::stdin())?.as_raw_fd())
     }
 
-    // `saved` has the settings to restore, if they aren't those of now.
+    // `saved` has the settings to restore where the terminal is set already: it stays as it is.
     pub(super) fn begin(
         modes: Modes,
         has_loop: bool,
@@ -654,7 +654,7 @@ impl Entered {
             input,
             output,
             saved: saved.unwrap_or(settings),
-            raw: settings.to_raw(),
+            raw: saved.map_or(settings.to_raw(), |_| settings),
             modes: Switches {
                 on: modes.on(),
                 off: modes.off(),
@@ -705,7 +705,10 @@ impl Drop for RawMode {
         let turn = Turn::wait();
         self.entered().leave();
         for (number, before) in &self.entered().before {
-            let _ = before.set(*number);
+            // A handler that the program has set since stays. It may call ours, which does nothing.
+            if Action::of(*number).is_ok_and(|it| it.has_handler_of(&handled(*number))) {
+                let _ = before.set(*number);
+            }
         }
         let entered = ENTERED.swap(ptr::null_mut(), SeqCst);
         wait_for_users();

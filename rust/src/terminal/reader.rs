@@ -103,7 +103,7 @@ impl Terminal {
         Terminal::begin(modes, None)
     }
 
-    // `saved` has the settings to restore, if they aren't those of now.
+    // `saved` has the settings to restore where the terminal is set already: it stays as it is.
     pub(crate) fn begin(modes: Modes, saved: Option<Settings>) -> io::Result<Terminal> {
         let mut unfed = Vec::new();
         unfed.try_reserve_exact(READ).map_err(|_| AllocError)?;

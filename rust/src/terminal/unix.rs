@@ -63,6 +63,14 @@ pub struct Action {
     restorer: usize,
 }
 
+impl PartialEq for Action {
+    // The system has 64 signals. What glibc tells of a mask behind them is anything.
+    fn eq(&self, other: &Action) -> bool {
+        let told = |it: &Action| (it.handler, it.mask[0], it.flags);
+        told(self) == told(other)
+    }
+}
+
 extern "C" {
     fn poll(descriptors: *mut PollFd, count: c_ulong, ms: c_int) -> c_int;
     fn ioctl(descriptor: c_int, request: c_ulong, ...) -> c_int;
@@ -284,6 +292,11 @@ impl Action {
 
     pub fn is_ignored(&self) -> bool {
         self.handler == SIG_IGN
+    }
+
+    /// Whether both call the same function. The system adds flags of its own.
+    pub fn has_handler_of(&self, other: &Action) -> bool {
+        self.handler == other.handler
     }
 
     /// Returns what the signal does.

@@ -1,12 +1,11 @@
-//! A program of tui 0.19 over crossterm 0.25 that shows the events of its terminal until q. One line
-//! is another than in the same program without this package: that of crossterm's events.
+//! A program of tui 0.19 over crossterm 0.25 that shows the events of its terminal until q. No line
+//! is another than in the same program without this package.
 //!
-//!     HEDRUGAL_LIBRARY=DIR cargo run --manifest-path rust/with/Cargo.toml --features crossterm --example tui
+//!     HEDRUGAL_LIBRARY=DIR cargo run --manifest-path rust/crossterm/Cargo.toml --example tui
+use crossterm::event::{self, Event, KeyCode};
 use crossterm::execute;
 use crossterm::terminal::{disable_raw_mode, enable_raw_mode};
 use crossterm::terminal::{EnterAlternateScreen, LeaveAlternateScreen};
-// It was: use crossterm::event::{self, Event, KeyCode};
-use hedrugal::crossterm::event::{self, Event, KeyCode};
 use std::io::{self, Stdout};
 use tui::backend::CrosstermBackend;
 use tui::widgets::Paragraph;
