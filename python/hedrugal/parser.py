@@ -34,9 +34,9 @@ _ROOM, _TEXT_ROOM = 72, 512
 # More bytes than an entry has.
 _ENTRY_ROOM = 16
 
-# hed_parser_next_events again: a call whose arguments have no types takes half the time.
-_next_events = library["hed_parser_next_events"]
-_next_events.restype = ctypes.c_uint32
+# Two calls again: one whose arguments have no types takes less time.
+_feed, _next_events = library["hed_parser_feed"], library["hed_parser_next_events"]
+_feed.restype = _next_events.restype = ctypes.c_uint32
 
 # All events of keys that are found again.
 _events = Events()
@@ -173,9 +173,13 @@ class Parser(Owned):
         self._text: Any = ctypes.create_string_buffer(_TEXT_ROOM)
         # Events that no call has returned yet. An exception of a signal's handler leaves some.
         self._told: List[Event] = []
+        # What these calls are given. A time and a length are too wide for an int without a type.
+        self._now, self._length = ctypes.c_uint64(), ctypes.c_size_t()
+        self._pointer = ctypes.byref(self.handle)
         self._next_words = (
-            *(ctypes.byref(self.handle), self._array, ctypes.c_size_t(_ROOM)),
-            *(self._text, ctypes.c_size_t(_TEXT_ROOM), ctypes.byref(self._count)),
+            *(self._pointer, ctypes.byref(self._array), ctypes.c_size_t.from_param(_ROOM)),
+            *(ctypes.byref(self._text), ctypes.c_size_t.from_param(_TEXT_ROOM)),
+            ctypes.byref(self._count),
         )
 
     def __repr__(self) -> str:
@@ -187,7 +191,10 @@ class Parser(Owned):
         """Takes bytes, which came now, and returns their events in order. Bytes that are no event
         yet stay buffered."""
         pointer, length = borrowed(data)
-        return self._tell(library.hed_parser_feed, millis_of_now(now), pointer, length)
+        millis = millis_of_now(now)
+        with self._alone():
+            self._now.value, self._length.value = millis, length
+            return self._tell(_feed, self._now, pointer, self._length)
 
     def idle(self, now: Optional[float] = None) -> List[Event]:
         r"""Says that nothing more came up to now: the program looked, as by a select that timed
@@ -199,17 +206,21 @@ class Parser(Owned):
             ...     events = parser.feed(b"\x1b", 7.0)
             ...     [*events, parser.timeout(7.0), *parser.idle(7.049), *parser.idle(7.05)]
             [0.05, KeyReport(key=KeyCode.ESCAPE)]"""
-        return self._tell(library.hed_parser_idle, millis_of_now(now))
+        millis = millis_of_now(now)
+        with self._alone():
+            return self._tell(library.hed_parser_idle, millis)
 
     def flush(self) -> List[Event]:
         """Returns the events of what is buffered, with no more to come. An open paste stays open.
         It is for a program that knows by itself that nothing more came, as at its pauses."""
-        return self._tell(library.hed_parser_flush)
+        with self._alone():
+            return self._tell(library.hed_parser_flush)
 
     def end(self) -> List[Event]:
         """Says that nothing will ever come. Returns the events of all that is buffered: an open
         paste ends where it is."""
-        return self._tell(library.hed_parser_end)
+        with self._alone():
+            return self._tell(library.hed_parser_end)
 
     def timeout(self, now: Optional[float] = None) -> Optional[float]:
         """Returns how many seconds to wait for more bytes, and None for ever. If none come, call
@@ -435,40 +446,38 @@ class Parser(Owned):
             is_ok(library.hed_parser_completions(self.handle, found), self._what)
         return Completions(range(found.first, found.first + found.count), bool(found.with_alt))
 
+    # The rest is called while the lock is held.
+
     def _tell(self, call: Any, *words: Any) -> List[Event]:
         """Makes a call that can bring events, and returns all that are there."""
         taken = False
         events: List[Event] = []
-        with self._alone():
-            try:
-                answer = call(self.handle, *words)
-                if answer == STATUS_BUSY:
-                    self._move_events()
-                    answer = call(self.handle, *words)
-                taken = not answer or is_ok(answer, self._what)
+        try:
+            answer = call(self._pointer, *words)
+            if answer == STATUS_BUSY:
                 self._move_events()
-            except MemoryError:
-                error = ParseError(self._told, taken)
-                self._told = events
-                raise error from None
-            self._told, events = events, self._told
-            return events
-
-    # The rest is called while the lock is held.
+                answer = call(self._pointer, *words)
+            taken = not answer or is_ok(answer, self._what)
+            self._move_events()
+        except MemoryError:
+            error = ParseError(self._told, taken)
+            self._told = events
+            raise error from None
+        self._told, events = events, self._told
+        return events
 
     def _move_events(self) -> None:
         """Moves all events to those that are told. What memory is refused for stays where it is,
         and comes next."""
-        if self._at < self._count.value:
-            self._move_array()
-        answer = STATUS_OK
-        while answer == STATUS_OK:
+        count, answer = self._count, STATUS_OK
+        while True:
             # An exception of a signal's handler may come behind any call.
-            if self._at:
-                self._count.value = self._at = 0
-            answer = _next_events(*self._next_words)
-            if self._count.value:
+            if self._at < count.value:
                 self._move_array()
+            if answer != STATUS_OK:
+                break
+            count.value = self._at = 0
+            answer = _next_events(*self._next_words)
         if answer != STATUS_NONE:
             is_ok(answer, self._what)
 

@@ -28,9 +28,9 @@ from prompt_toolkit.input.vt100_parser import Vt100Parser
 from prompt_toolkit.key_binding import KeyPress
 from prompt_toolkit.keys import KEY_ALIASES, Keys
 
-from ._calls import RawEvent
+from ._calls import KIND_KEY, RawEvent
 from ._library import is_ok, library
-from ._records import Events
+from ._records import RECORD, event_of
 from .events import Csi, CursorPosition, Event, KeyReport, MouseReport, Paste, PastePart
 from .keys import Function, KeyCode, KittyModifiers
 from .names import KeyPress as Press, typed_text
@@ -69,14 +69,9 @@ _RUNS = re.compile(r"[^\x00-\x1f\x7f-\x9f]+|[\x00-\x1f\x7f-\x9f]+")
 # prompt_toolkit asks for the cursor's position at any time, so each report of one is a reply. Its
 # programs bind c-j apart, and c-h is Backspace to them, whichever byte that key sends.
 _READING = Reading(x10_mouse=True, questions=255)
-# Events that are found again.
-_events = Events()
-
-
-@functools.lru_cache(maxsize=4096)
-def _keys_of_report(report: KeyReport) -> Tuple[AnyKey, ...]:
-    press = Press.of_report(report)
-    return _keys_of(press) if press else ()
+# Calls that are given no types, which take less time.
+_next, _waiting_len = library["hed_parser_next"], library["hed_parser_waiting_len"]
+_next.restype, _waiting_len.restype = ctypes.c_uint32, ctypes.c_size_t
 
 
 def _keys_of(press: Press) -> Tuple[AnyKey, ...]:
@@ -111,6 +106,32 @@ def _names(press: Press) -> Iterator[str]:
         yield from (f"{ctrl}{shift}{name}", f"{ctrl}{name}")
 
 
+def _keys_sent(event: Event, sent: str) -> Tuple[AnyKey, ...]:
+    """prompt_toolkit's keys of an event, which was sent so."""
+    press = Press.of_event(event)
+    keys = _keys_of(press) if press else ()
+    if sent in ANSI_SEQUENCES and (keys == _IGNORED or _is_other_key(event)):
+        found = ANSI_SEQUENCES[sent]
+        return found if isinstance(found, tuple) else (found,)
+    return keys
+
+
+def _presses_sent(event: Event, sent: str) -> List[KeyPress]:
+    """What prompt_toolkit gets for them. The text that was sent goes with the first key."""
+    keys = _keys_sent(event, sent)
+    if len(keys) == 2 and sent not in ANSI_SEQUENCES:
+        return [KeyPress(keys[0], "\x1b"), KeyPress(keys[1], _data(keys[1], sent[1:]))]
+    return [KeyPress(key, "" if at else _data(key, sent)) for at, key in enumerate(keys)]
+
+
+@functools.lru_cache(maxsize=4096)
+def _presses_of_key(record: bytes, sent: str) -> List[KeyPress]:
+    """The same of the report of a key. It is found again, by the report's struct and text."""
+    report = cast(KeyReport, event_of(record[:RECORD], record[RECORD:]))
+    text = typed_text(report)
+    return [KeyPress(it, it) for it in text] if text else _presses_sent(report, sent)
+
+
 def _data(key: AnyKey, sent: str) -> str:
     """What goes with a key, and is inserted by one that is a character."""
     return sent if isinstance(key, Keys) else key
@@ -134,6 +155,7 @@ class Parser(Vt100Parser):
         # The text of an open paste is taken at each read.
         self.parser.parts = 0
         self._raw = RawEvent()
+        self._handle, self._out = ctypes.byref(self.parser.handle), ctypes.byref(self._raw)
         super().__init__(feed_key_callback)
 
     def reset(self, request: bool = False) -> None:
@@ -194,27 +216,27 @@ class Parser(Vt100Parser):
     def _give(self) -> None:
         """Gives the keys of all events, one by one: what each was sent as isn't buffered behind
         it."""
-        handle, raw = self.parser.handle, self._raw
-        while is_ok(library.hed_parser_next(handle, raw), "parser"):
-            taken = len(self._rest) - library.hed_parser_waiting_len(handle)
+        while is_ok(_next(self._handle, self._out), "parser"):
+            taken = len(self._rest) - _waiting_len(self._handle)
             sent = self._rest[:taken].decode("utf-8", "surrogateescape")
             self._rest = self._rest[taken:]
-            for key_press in self._key_presses(self._event(), sent):
+            for key_press in self._key_presses(self._record(), sent):
                 self.feed_key_callback(key_press)
 
-    def _event(self) -> Event:
-        """The event that the library told."""
-        record, length = bytes(self._raw), self._raw.text_len
+    def _record(self) -> bytes:
+        """The struct of the event that the library told, and the bytes that it brings."""
+        length = self._raw.text_len
         if not length:
-            return _events[record]
+            return bytes(self._raw)
         text = ctypes.create_string_buffer(length)
         library.hed_parser_text(self.parser.handle, text, length)
-        return _events[record + text.raw]
+        return bytes(self._raw) + text.raw
 
-    def _key_presses(self, event: Event, sent: str) -> List[KeyPress]:
-        """What prompt_toolkit gets for an event. The text that was sent goes with its first key."""
-        if isinstance(event, KeyReport) and typed_text(event):
-            return [KeyPress(it, it) for it in event.text]
+    def _key_presses(self, record: bytes, sent: str) -> List[KeyPress]:
+        """What prompt_toolkit gets for an event."""
+        if record[0] == KIND_KEY:
+            return _presses_of_key(record, sent)
+        event = event_of(record[:RECORD], record[RECORD:])
         if isinstance(event, PastePart):
             self._pasted.append(event.text)
             return []
@@ -227,17 +249,7 @@ class Parser(Vt100Parser):
         if isinstance(event, CursorPosition):
             self.parser.expect_position()
             return [KeyPress(Keys.CPRResponse, f"\x1b[{event.row};{event.column}R")]
-        keys = self._keys(event, sent)
-        if len(keys) == 2 and sent not in ANSI_SEQUENCES:
-            return [KeyPress(keys[0], "\x1b"), KeyPress(keys[1], _data(keys[1], sent[1:]))]
-        return [KeyPress(key, "" if at else _data(key, sent)) for at, key in enumerate(keys)]
-
-    def _keys(self, event: Event, sent: str) -> Tuple[AnyKey, ...]:
-        keys = _keys_of_report(event) if isinstance(event, KeyReport) else ()
-        if sent in ANSI_SEQUENCES and (keys == _IGNORED or _is_other_key(event)):
-            found = ANSI_SEQUENCES[sent]
-            return found if isinstance(found, tuple) else (found,)
-        return keys
+        return _presses_sent(event, sent)
 
 
 class Input(Vt100Input):
