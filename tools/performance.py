@@ -14,10 +14,11 @@ turn, and of each the least time counts. What is printed is what docs/PERFORMANC
 - processor time for an event through each layer over a terminal: those in C, Rust and Python, and
   crossterm's
 
-The parsers are Termwiz and Extended (the parser from C, in either dialect), Rust, Rust Extended,
-Python and Python Extended (the same from there), Python Keys (the parser for prompt_toolkit),
-libtermkey, crossterm and prompt_toolkit. The last three are those of Debian's packages. If one
-can't be built its column says why; `tools/needs.sh --install performance` installs them.
+The parsers are Termwiz and Extended (the parser from C, in either dialect), Extended arrays (the
+same with its events in arrays of 64), Rust, Rust Extended, Python and Python Extended (from there),
+Python Keys (the parser for prompt_toolkit), libtermkey, crossterm and prompt_toolkit. The last
+three are those of Debian's packages. If one can't be built its column says why;
+`tools/needs.sh --install performance` installs them.
 
 With --against COMMIT it measures the parser from C alone, in either dialect, beside that of the
 library in COMMIT's folder prebuilt, or of HEDRUGAL_OTHER. Each gets its reads from its own
@@ -119,6 +120,10 @@ class Builder:
         layers = {"`hed_terminal_next`, in C": self.terminal_from_c()}
         program = self.rust_layers()
         layers.update((title, [program, layer]) for layer, title in RUST_LAYERS.items())
+        for of, crate in CROSSTERMS.items():
+            program = self.crossterm_layers(of, crate)
+            layers[f"{of} `event::read`"] = [program, "read"]
+            layers[f"{of} `EventStream`, on tokio"] = [program, "stream"]
         return layers | {"`hedrugal.terminal`, in Python": self.python("terminal.py")}
 
     def terminal_from_c(self):
@@ -131,8 +136,17 @@ class Builder:
         """The program of rust/with. Cargo writes a lock file there, so this is a copy."""
         copy, config = f"{self.work}/rust", f"{TOP}/rust/with/system.toml"
         shutil.copytree(f"{TOP}/rust", copy, ignore=shutil.ignore_patterns("target"))
-        words = ["--example", "layers", "--features", "tokio,crossterm", "--config", config]
+        words = ["--example", "layers", "--features", "tokio", "--config", config]
         return self.cargo(f"{copy}/with/Cargo.toml", *words) + "/examples/layers"
+
+    def crossterm_layers(self, of, crate):
+        """The program over crossterm, or over the package in its place."""
+        folder = tempfile.mkdtemp(dir=self.work)
+        name = f"layers{list(CROSSTERMS).index(of)}"
+        text = CROSSTERM_LAYERS.format(name=name, crate=crate)
+        Path(folder, "Cargo.toml").write_text(text)
+        config = f"{TOP}/rust/with/system.toml"
+        return f"{self.cargo(f'{folder}/Cargo.toml', '--config', config)}/{name}"
 
     def crossterm(self):
         """Its parser is private. So a copy of the crate gets functions that call it."""
@@ -155,6 +169,7 @@ class Builder:
 PARSERS = {
     "Termwiz": lambda it: it.from_c("TERMWIZ"),
     "Extended": lambda it: it.from_c("EXTENDED"),
+    "Extended arrays": lambda it: it.from_c("EXTENDED", "-DARRAY"),
     "Rust": Builder.rust,
     "Rust Extended": lambda it: it.rust("extended"),
     "Python": lambda it: it.python("measure.py", "termwiz"),
@@ -165,7 +180,10 @@ PARSERS = {
     "prompt_toolkit": lambda it: it.python("measure.py", "prompt_toolkit"),
 }
 # Those that read by one dialect.
-ALIKE = ["Termwiz", "Rust", "Python"], ["Extended", "Rust Extended", "Python Extended"]
+ALIKE = (
+    ["Termwiz", "Rust", "Python"],
+    ["Extended", "Extended arrays", "Rust Extended", "Python Extended"],
+)
 # The parsers that may be many. Their inputs stay in the processor's cache.
 OWN = "Termwiz with a table each"
 MANY = ["Termwiz", OWN, "Extended", "libtermkey", "crossterm"]
@@ -174,9 +192,20 @@ MANY_INPUTS, MANY_BYTES = ["keys", "csiu"], 1 << 15
 RUST_LAYERS = {
     "terminal": "`Terminal::read`, in Rust",
     "stream": "`EventStream`, in Rust on tokio",
-    "crossterm": "crossterm's `event::read`",
-    "crossterm-stream": "crossterm's `EventStream`, on tokio",
 }
+# Those of tools/measure/crossterm_layers.rs, and a package of it.
+CROSSTERMS = {
+    "crossterm's": 'version = "0.25"',
+    "hedrugal-crossterm's": f'package = "hedrugal-crossterm", path = "{TOP}/rust/crossterm"',
+}
+CROSSTERM_LAYERS = f"""package = {{{{ name = "{{name}}", version = "0.0.0", edition = "2021" }}}}
+bin = [{{{{ name = "{{name}}", path = "{TOOLS}/crossterm_layers.rs" }}}}]
+workspace = {{{{}}}}
+[dependencies]
+crossterm = {{{{ {{crate}}, features = ["event-stream"] }}}}
+futures-core = "0.3"
+tokio = {{{{ version = "1.24", features = ["macros", "rt"] }}}}
+"""
 # How many bytes of text are typed at once, and of how many.
 LAYER_SIZES = {"one by one": 1, "512 at once": 512}
 LAYER_BYTES = 1 << 16
