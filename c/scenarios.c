@@ -397,9 +397,7 @@ static void note(int number) {
 
 /* A handler that interrupts calls of the system. */
 static void interrupt_by(int number) {
-  struct sigaction action;
-  memset(&action, 0, sizeof action);
-  action.sa_handler = note;
+  struct sigaction action = { .sa_handler = note };
   sigaction(number, &action, NULL);
 }
 

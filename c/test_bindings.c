@@ -178,46 +178,12 @@ static hed_seen seen_of(int32_t limit, uint8_t by, const char *what) {
   return (hed_seen){ limit, by, strchr(what, 'f') != NULL, strchr(what, 't') != NULL, strchr(what, 'e') != NULL };
 }
 
-/* A timer is told these notes in turn. After each it is asked how long what is pending may still wait. */
-enum { LAST = HED_AGE_LAST, FRONT = HED_AGE_FRONT };
-static const struct {
-  uint64_t noted;
-  int32_t limit;
-  uint8_t by;
-  const char *what;
-  uint64_t asked;
-  int32_t left;
-} notes[] = {
-  /* The pause of a chord: each press begins it again. */
-  { 5000, 1000, LAST, "f", 5000, 1000 },
-  { 5000, 1000, LAST, "", 5400, 600 },
-  { 5400, 1000, LAST, "f", 6399, 1 },
-  { 6399, 1000, LAST, "", 6400, 0 },
-  /* While the clock steps back no time passes. */
-  { 9000, 1000, LAST, "f", 9300, 700 },
-  { 9300, 1000, LAST, "", 100, 700 },
-  { 100, 1000, LAST, "", 799, 1 },
-  /* What is fed doesn't put off what waits at the front. */
-  { 1000, 300, FRONT, "te", 2000, 0 },
-  { 3000, 300, FRONT, "f", 3000, 300 },
-  { 3200, 300, FRONT, "f", 3200, 100 },
-  { 3250, 300, FRONT, "t", 3350, 200 },
-  /* No limit, a limit of 0, and the longest times. */
-  { 3350, INT32_MIN, FRONT, "", UINT64_MAX, -1 },
-  { 3350, 0, FRONT, "ft", 3350, 0 },
-  { 3350, INT32_MAX, LAST, "f", 3350, INT32_MAX },
-  { 3351, INT32_MAX, LAST, "", UINT64_MAX, 0 },
-  { 0, INT32_MAX, LAST, "", UINT64_MAX, 0 },
-  { 0, INT32_MAX, LAST, "f", INT32_MAX - 5, 5 },
-};
-
-static void tells_how_long_to_wait(void) {
+/* A new timer has no limit, and a negative one is none. */
+static void waits_for_ever(void) {
   hed_timer timer = HED_TIMER_NONE;
+  hed_seen seen = seen_of(INT32_MIN, HED_AGE_FRONT, "");
   EXPECT(hed_timer_timeout(&timer, 0) == -1 && hed_timer_timeout(&timer, UINT64_MAX) == -1);
-  for (size_t i = 0; i < sizeof notes / sizeof *notes; i++) {
-    hed_seen seen = seen_of(notes[i].limit, notes[i].by, notes[i].what);
-    EXPECT(hed_timer_note(&timer, notes[i].noted, &seen) == HED_OK && hed_timer_timeout(&timer, notes[i].asked) == notes[i].left);
-  }
+  EXPECT(hed_timer_note(&timer, 3350, &seen) == HED_OK && hed_timer_timeout(&timer, UINT64_MAX) == -1);
 }
 
 /* A number of no age is refused in either struct, and the timer is unchanged. */
@@ -242,7 +208,7 @@ int main(void) {
   TEST(refuses_bad_numbers());
   TEST(binds_names());
   TEST(answers_without_bindings());
-  TEST(tells_how_long_to_wait());
+  TEST(waits_for_ever());
   TEST(refuses_other_ages());
   return expected("test_bindings");
 }

@@ -64,17 +64,17 @@ static bool reads_events(char *given, char *events) {
   return true;
 }
 
+static void tell_timeout(int32_t left) {
+  if (left < 0) tell("forever");
+  else tell("%d", (int)left);
+}
+
 /* Makes a call that tells no events. */
 static void tell_answer(int call, uint64_t now) {
   static const char *const kinds[] = { "nothing", "escape", "sequence", "character", "paste", "string" };
   size_t count = 77;
-  int32_t left = -1;
   switch (call) {
-    case 0:
-      left = hed_parser_timeout(&parser, now);
-      if (left < 0) tell("forever");
-      else tell("%d", (int)left);
-      break;
+    case 0: tell_timeout(hed_parser_timeout(&parser, now)); break;
     case 1: tell("%s %zu", kinds[hed_parser_waiting(&parser) % 6], hed_parser_waiting_len(&parser)); break;
     case 2:
       if (hed_parser_skip_paste(&parser, &count) == HED_OK) tell("%zu", count);
@@ -98,6 +98,26 @@ static hed_status feed_in_pieces(uint64_t now, bool takes) {
   if (status == HED_OK) status = hed_parser_feed(&parser, now, bytes.at + at, len - at);
   EXPECT(hed_parser_timeout(&parser, now) == 0);
   return status;
+}
+
+/* A step that asks for positions or forgets them, sets the reading, or tells it. */
+static bool is_of_reading(const char *name, char *words, const char *wanted) {
+  static const char *const names[] = { "expect", "forget", "set", "reading", NULL };
+  hed_reading named, now;
+  uint64_t count = 0;
+  switch (place_of(name, names)) {
+    case 0:
+      if (!is_number(word_of(&words), &count)) return false;
+      while (count-- > 0) hed_parser_expect_position(&parser);
+      return true;
+    case 1: hed_parser_forget_positions(&parser); return true;
+    case 2: return is_reading(word_of(&words), &named) && hed_parser_set_reading(&parser, &named) == HED_OK;
+    case 3:
+      if (!is_reading(wanted, &named)) return false;
+      EXPECT(hed_parser_reading(&parser, &now) == HED_OK && same_reading(&now, &named));
+      return true;
+    default: return false;
+  }
 }
 
 /* A step of a run that begins at this time: its words, and what is told after it. */
@@ -148,7 +168,8 @@ static bool makes_run(char *marks, char *steps, uint64_t start) {
     steps = cut(step, " | ");
     char *wanted = cut(step, ": ");
     const char *name = word_of(&step);
-    if (strcmp(name, "policy") == 0 ? !sets_limits(step) : !makes_step(name, step, start, wanted)) return false;
+    if (strcmp(name, "policy") == 0 ? !sets_limits(step) : !is_of_reading(name, step, wanted) && !makes_step(name, step, start, wanted))
+      return false;
   }
   hed_parser_reset(&parser);
   return true;
@@ -168,6 +189,34 @@ static bool makes_runs(char *given, char *steps) {
     if (!makes_run(given ? marks_again : NULL, steps_again, again / 2 % 2 * 1000000)) return false;
   }
   return true;
+}
+
+/* MS LIMIT AGE SEEN MS: when a timer is told this, and when it is asked. */
+static bool is_note(char *words, uint64_t *noted, hed_seen *seen, uint64_t *asked) {
+  static const char *const ages[] = { "LAST", "FRONT", NULL }, *const kinds[] = { "FED", "TAKEN", "EMPTY", NULL };
+  unsigned what;
+  if (!is_number(word_of(&words), noted)) return false;
+  seen->limit = (int32_t)strtol(word_of(&words), NULL, 10);
+  int age = place_of(word_of(&words), ages);
+  if (age < 0 || !is_set(word_of(&words), kinds, &what) || !is_number(word_of(&words), asked)) return false;
+  seen->by = (uint8_t)age, seen->fed = what & 1, seen->taken = what & 2, seen->empty = what & 4;
+  return !words;
+}
+
+/* NOTE | NOTE .. = LEFT | LEFT .. */
+static bool tells_time_left(char *note, char *left) {
+  hed_timer timer = HED_TIMER_NONE;
+  while (note && left) {
+    char *wanted = left, *words = note;
+    uint64_t noted, asked;
+    hed_seen seen;
+    left = cut(wanted, " | "), note = cut(words, " | ");
+    if (!is_note(words, &noted, &seen, &asked)) return false;
+    EXPECT(hed_timer_note(&timer, noted, &seen) == HED_OK);
+    tell_timeout(hed_timer_timeout(&timer, asked));
+    is_told(wanted);
+  }
+  return !note && !left;
 }
 
 /* The event of a line, whose bytes are in `text`. */
@@ -654,7 +703,7 @@ static const struct {
 } forms[] = {
   { "events.txt", reads_events },    { "runs.txt", makes_runs },    { "presses.txt", makes_presses }, { "names.txt", names_chord },
   { "bindings.txt", runs_commands }, { "kitty.txt", reports_key },  { "encodings.txt", encodes_key }, { "written.txt", writes_event },
-  { "pastes.txt", writes_paste },    { "mouse.txt", sends_report }, { "replies.txt", reads_reply },
+  { "pastes.txt", writes_paste },    { "mouse.txt", sends_report }, { "replies.txt", reads_reply },   { "timers.txt", tells_time_left },
 };
 
 enum { FORMS = sizeof forms / sizeof *forms };

@@ -85,17 +85,12 @@ static bool set_reading(hed_parser *parser, hed_reading reading) {
   return hed_parser_set_reading(parser, &reading) == HED_OK;
 }
 
-static hed_reading asking(uint8_t questions) {
-  return (hed_reading){ .questions = questions };
-}
-
 static const uint32_t no_numbers[] = { 2, 256, 65536, UINT32_MAX };
 
-/* A new parser has its dialect, and the rest is 0. Any reading may be set, but for numbers that stand for nothing. A reset and another program
- * in the terminal leave all but the questions. */
+/* A new parser has its dialect, and the rest is 0. Any reading may be set, but for numbers that stand for nothing. */
 static void keeps_its_reading(void) {
   static const hed_reading first = { 0 }, termwiz = { .dialect = HED_DIALECT_TERMWIZ };
-  hed_reading full = { HED_DIALECT_TERMWIZ, HED_ERASE_BACKSPACE, HED_NEWLINE_ENTER, true, 255 };
+  static const hed_reading full = { HED_DIALECT_TERMWIZ, HED_ERASE_BACKSPACE, HED_NEWLINE_ENTER, true, 255 };
   hed_parser parser = HED_PARSER_NONE, other = HED_PARSER_NONE;
   make(&parser, HED_DIALECT_EXTENDED);
   EXPECT(reads_by(&parser, first) && set_reading(&parser, full) && reads_by(&parser, full));
@@ -106,20 +101,13 @@ static void keeps_its_reading(void) {
     EXPECT(hed_parser_set_reading(&parser, &no_newline) == HED_BAD_NUMBER && reads_by(&parser, full));
   }
   EXPECT(hed_parser_init_sharing(&other, HED_DIALECT_TERMWIZ, &parser) == HED_OK && reads_by(&other, termwiz));
-  tell_events(&parser);
-  EXPECT(hed_parser_interrupted(&parser, 0) == HED_OK);
-  full.questions = 0;
-  EXPECT(reads_by(&parser, full));
-  full.questions = 2;
-  EXPECT(set_reading(&parser, full) && reads_by(&parser, full) && hed_parser_reset(&parser) == 0);
-  full.questions = 0;
-  EXPECT(reads_by(&parser, full) && hed_parser_init(&parser, HED_DIALECT_EXTENDED) == HED_OK && reads_by(&parser, first));
+  EXPECT(hed_parser_init(&parser, HED_DIALECT_EXTENDED) == HED_OK && reads_by(&parser, first));
   hed_parser_free(&other);
   hed_parser_free(&parser);
 }
 
-/* What is buffered is read by the reading that is set, and the bytes of the last event stay. A flush that began goes on. */
-static void reads_anew(void) {
+/* The bytes of the last event stay if the reading changes. */
+static void keeps_a_text_over_readings(void) {
   hed_parser parser = HED_PARSER_NONE;
   hed_reading reading = { .erase = HED_ERASE_BACKSPACE, .newline = HED_NEWLINE_ENTER, .x10_mouse = true };
   make(&parser, HED_DIALECT_EXTENDED);
@@ -127,35 +115,6 @@ static void reads_anew(void) {
   EXPECT(next_of(&parser).kind == HED_KIND_OSC);
   EXPECT(set_reading(&parser, reading) && hed_parser_waiting_len(&parser) == 14 && HAS_TEXT(&parser, "0;t"));
   READS(&parser, "", "key UpArrow SUPER, key Backspace NONE, key Enter NONE, mouse 1 1 LEFT NONE press 1");
-  READS(&parser, "\033[M", "nothing");
-  EXPECT(is_waiting(&parser, HED_WAITING_SEQUENCE, 3) && set_reading(&parser, asking(0)) && hed_parser_timeout(&parser, 0) == 0);
-  READS(&parser, "", "csi \"M\"");
-  READS(&parser, "\033[1;", "nothing");
-  EXPECT(set_reading(&parser, (hed_reading){ .dialect = HED_DIALECT_TERMWIZ }));
-  READS(&parser, "9A\010", "key UpArrow ALT, key Backspace NONE");
-  FEED(&parser, "\033[1;");
-  hed_parser_flush(&parser);
-  EXPECT(set_reading(&parser, asking(0)) && hed_parser_feed(&parser, 0, (const uint8_t *)"A", 1) == HED_BUSY);
-  tell_events(&parser);
-  is_told("key U+005B ALT, key U+0031 NONE, key U+003B NONE");
-  hed_parser_free(&parser);
-}
-
-/* As many questions are open as were expected, up to 255, and none once they are forgotten. Until then the sequence is no F3. */
-static void expects_positions(void) {
-  hed_parser parser = HED_PARSER_NONE;
-  make(&parser, HED_DIALECT_EXTENDED);
-  for (int again = 0; again < 2; again++) {
-    hed_parser_expect_position(&parser);
-    hed_parser_expect_position(&parser);
-    EXPECT(reads_by(&parser, asking(2)));
-    READS(&parser, "\033[1;5R\033[1;5R\033[1;5R", "position 1 5, position 1 5, key F3 CTRL");
-    hed_parser_expect_position(&parser);
-    hed_parser_forget_positions(&parser);
-    READS(&parser, "\033[1;5R", "key F3 CTRL");
-    for (int i = 0; i < 300; i++) hed_parser_expect_position(&parser);
-    EXPECT(reads_by(&parser, asking(255)) && hed_parser_reset(&parser) == 0 && reads_by(&parser, asking(0)));
-  }
   hed_parser_free(&parser);
 }
 
@@ -202,7 +161,7 @@ static void read_mixed(hed_parser *parser, size_t cut, take *tells) {
   tells(parser);
   hed_parser_flush(parser);
   tells(parser);
-  EXPECT(hed_parser_waiting_len(parser) == 0 && reads_by(parser, asking(0)) && hed_parser_timeout(parser, 0) == -1);
+  EXPECT(hed_parser_waiting_len(parser) == 0 && reads_by(parser, (hed_reading){ 0 }) && hed_parser_timeout(parser, 0) == -1);
 }
 
 /* Arrays of any size have the events that calls one by one tell, and the parser is the same afterwards. */
@@ -480,7 +439,7 @@ static void none_answers(hed_parser *parser) {
   hed_parser_shrink_to(parser, 1);
   EXPECT(hed_parser_waiting_len(parser) == 0 && hed_parser_waiting(parser) == HED_WAITING_NOTHING);
   EXPECT(hed_parser_reading(parser, &reading) == HED_NOT_INITIALIZED && is_marked(&reading, sizeof reading));
-  reading = asking(0);
+  reading = (hed_reading){ 0 };
   EXPECT(hed_parser_set_reading(parser, &reading) == HED_NOT_INITIALIZED);
   hed_parser_expect_position(parser);
   hed_parser_forget_positions(parser);
@@ -524,8 +483,7 @@ int main(void) {
   TEST(has_usual_limits());
   TEST(refuses_long_limits());
   TEST(keeps_its_reading());
-  TEST(reads_anew());
-  TEST(expects_positions());
+  TEST(keeps_a_text_over_readings());
   TEST(keeps_texts());
   TEST(fills_arrays());
   TEST(fills_arrays_without_room());

@@ -34,6 +34,12 @@ def cases_of(file):
     return [(number, line) for number, line in enumerate(lines, 1) if not line.startswith("#")]
 
 
+def cuts_of(data):
+    """The bytes whole, cut in two at each place, and byte by byte."""
+    yield from ((data[:place], data[place:]) for place in range(len(data) + 1))
+    yield [data[at : at + 1] for at in range(len(data))]
+
+
 def quoted(data):
     """Bytes as a text in quotes."""
     return f'"{"".join(map(_FORMS.__getitem__, data))}"'

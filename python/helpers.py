@@ -5,9 +5,11 @@ import re
 import resource
 import subprocess
 import sys
+from pathlib import Path
 
 import pytest
 
+import hedrugal
 from hedrugal import KeyCode, KeyReport, KittyModifiers, Modifiers, MouseButtons, MouseKind
 from hedrugal import MouseReport, Parser, Paste
 from hedrugal._library import library
@@ -21,7 +23,7 @@ SECONDS = 300
 
 STREAM = b"hello\x1b[A\x1b\x1b[200~ab\xc3\xa9cd\x1b[201~q\x1b[<0;3;4M\xff\x1b[27;5;13~\xc3\xa9\x1b"
 EVENTS = [
-    *(KeyReport(it) for it in "hello"),
+    *map(KeyReport, "hello"),
     KeyReport(KeyCode.UP_ARROW),
     KeyReport(KeyCode.ESCAPE),
     Paste("abécd"),
@@ -47,9 +49,31 @@ def constants(prefix):
     return {name: int(number, 0) for name, number in found}
 
 
+def typed(text):
+    return [KeyReport(it) for it in text]
+
+
+def cut(data, size):
+    """The pieces of this size."""
+    return [data[at : at + size] for at in range(0, len(data), size)]
+
+
 def all_of(parser, *pieces):
     """The events of pieces, with no more to come."""
     return [*(event for piece in pieces for event in parser.feed(piece)), *parser.flush()]
+
+
+def assert_raises(error, *uses, match=None):
+    """Each use raises this error."""
+    for use in uses:
+        with pytest.raises(error, match=match):
+            use()
+            pytest.fail(f"{use} raises nothing")
+
+
+def assert_refused(error, call, *given, match=None):
+    """A call raises this error for each of these."""
+    assert_raises(error, *(functools.partial(call, it) for it in given), match=match)
 
 
 # The bytes of keys that may begin a sequence.
@@ -82,6 +106,14 @@ def uses_of(parser):
 def assert_rest(parser, length, kind):
     """So many bytes are buffered, and they are this."""
     assert (parser.waiting_len, parser.waiting) == (length, kind)
+
+
+def set_version(module, version):
+    """Changes the version that a copy of the module has."""
+    file = Path(module, "__init__.py")
+    before, line = file.read_text(encoding="utf-8"), f'__version__ = "{hedrugal.__version__}"\n'
+    assert before.count(line) == 1
+    file.write_text(before.replace(line, f'__version__ = "{version}"\n'), encoding="utf-8")
 
 
 def run_python(text, env=None, cwd=None):

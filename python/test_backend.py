@@ -11,7 +11,7 @@ from pathlib import Path
 import pytest
 
 import hedrugal
-from helpers import HERE, LIBRARY, TOP, run_python
+from helpers import HERE, LIBRARY, TOP, run_python, set_version
 
 NAME = f"hedrugal-{hedrugal.__version__}"
 PREBUILT = f"prebuilt/{platform.machine()}-linux"
@@ -162,8 +162,5 @@ def test_named_library(tree):
 
 
 def test_another_version(tree):
-    module = tree / "python/hedrugal/__init__.py"
-    line = f'__version__ = "{hedrugal.__version__}"\n'
-    text = module.read_text(encoding="utf-8")
-    module.write_text(text.replace(line, '__version__ = "9.8.7"\n'), encoding="utf-8")
+    set_version(tree / "python/hedrugal", "9.8.7")
     assert "of version 9.8.7: " in refusal(tree, HEDRUGAL_LIBRARY=LIBRARY)

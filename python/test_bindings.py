@@ -1,9 +1,6 @@
 """Bindings of chords, and matchers."""
 import copy
-import gc
-import pickle
 import random
-import weakref
 
 import pytest
 
@@ -11,6 +8,7 @@ from hedrugal import Bindings, Bound, Chord, KeyNameError, KeyPress, KittyModifi
 from hedrugal import Unbound
 from hedrugal._calls import STATUS_NO_MEMORY
 from hedrugal._library import library
+from helpers import assert_raises, assert_refused
 
 
 def press(name):
@@ -48,27 +46,21 @@ def test_no_such_chord_is_a_key_error():
         with pytest.raises(KeyError) as error:
             bindings[keys]
         assert error.value.args == (keys,)
-        with pytest.raises(KeyError):
-            del bindings[keys]
+        assert_refused(KeyError, bindings.__delitem__, keys)
     assert len(bindings) == 1
 
 
 def test_what_names_no_keys_is_refused():
     bindings = Bindings({"g": 1})
     for call in (bindings.__getitem__, bindings.__delitem__, bindings.continuations):
-        with pytest.raises(KeyNameError):
-            call("foo+x")
-        with pytest.raises(TypeError):
-            call(("g",))
-    with pytest.raises(KeyNameError):
-        bindings[""] = 1
+        assert_refused(KeyNameError, call, "foo+x")
+        assert_refused(TypeError, call, ("g",))
+    assert_refused(KeyNameError, lambda it: bindings.__setitem__(it, 1), "")
     matcher = Matcher(bindings)
-    with pytest.raises(ValueError):
-        matcher.press("g g")
-    with pytest.raises(TypeError):
-        matcher.press(1)
-    with pytest.raises(ValueError, match="the press of no key"):
-        matcher.press(KeyPress("a", KittyModifiers.SHIFT))
+    assert_refused(ValueError, matcher.press, "g g")
+    assert_refused(TypeError, matcher.press, 1)
+    shifted = KeyPress("a", KittyModifiers.SHIFT)
+    assert_refused(ValueError, matcher.press, shifted, match="the press of no key")
     assert matcher.pending == ()
 
 
@@ -94,82 +86,25 @@ def test_a_full_matcher_refuses():
     matcher = Matcher(Bindings({"b": 1}))
     for _ in range(32):
         matcher.push("a")
-    with pytest.raises(ValueError, match="32 presses are pending"):
-        matcher.push("a")
+    assert_refused(ValueError, matcher.push, "a", match="32 presses are pending")
     assert matcher.take() == Unbound(press("a")) and len(matcher.pending) == 31
     assert len(matcher.cancel()) == 31 and matcher.on_pause() is None
 
 
-def test_values_are_let_go():
-    class Thing:
-        pass
-
-    bindings, things = Bindings(), [Thing() for _ in range(4)]
-    refs = [weakref.ref(thing) for thing in things]
-    for name, thing in zip("abca", things):
-        bindings[name] = thing
-    del things, thing
-    gc.collect()
-    assert [ref() is None for ref in refs] == [True, False, False, False]
-    del bindings["b"]
-    gc.collect()
-    assert refs[1]() is None
-    bindings.close()
-    gc.collect()
-    assert refs[2]() is None and refs[3]() is None
-
-
-def test_an_exception_of_a_handler_mixes_no_chords(monkeypatch):
-    bindings, bind = Bindings(), library.hed_bindings_bind
-
-    def interrupted(*words):
-        bind(*words)
-        raise KeyboardInterrupt
-
-    with monkeypatch.context() as patch, pytest.raises(KeyboardInterrupt):
-        patch.setattr(library, "hed_bindings_bind", interrupted)
-        bindings["a"] = 1
-    bindings["b"] = 2
-    assert (bindings["a"], bindings["b"]) == (1, 2)
-
-
-def test_closed_bindings_say_so():
+def test_a_matcher_of_closed_bindings():
     with Bindings({"g": 1}) as bindings:
         matcher = Matcher(bindings)
         matcher.push("g")
-    bindings.close()
-    assert bindings.closed and repr(bindings) == "<Bindings, closed>"
-    calls = [
-        lambda: len(bindings),
-        lambda: list(bindings),
-        lambda: bindings["g"],
-        lambda: bindings.__setitem__("g", 1),
-        lambda: bindings.__delitem__("g"),
-        lambda: bindings.continuations("g"),
-        lambda: matcher.push("g"),
-        lambda: matcher.take(),
-        lambda: matcher.on_pause(),
-        lambda: matcher.is_dead_end,
-    ]
-    for call in calls:
-        with pytest.raises(ValueError, match="the map of chords is closed"):
-            call()
+    uses = [matcher.take, matcher.on_pause, lambda: matcher.push("g"), lambda: matcher.is_dead_end]
+    assert_raises(ValueError, *uses, match="the map of chords is closed")
     assert named(matcher.pending) == "g"
-
-
-def test_they_cannot_be_pickled():
-    with pytest.raises(TypeError):
-        pickle.dumps(Bindings())
-    with pytest.raises(TypeError):
-        copy.copy(Bindings())
 
 
 def test_memory_that_is_refused_leaves_them_unchanged(monkeypatch):
     bindings = Bindings({"g": 1})
     with monkeypatch.context() as patch:
         patch.setattr(library, "hed_bindings_bind", lambda *_: STATUS_NO_MEMORY)
-        with pytest.raises(MemoryError):
-            bindings["x"] = 2
+        assert_refused(MemoryError, lambda it: bindings.__setitem__(it, 2), "x")
         bindings["g"] = 3
     assert bindings == {Chord.read("g"): 3}
     bindings["x"] = 4

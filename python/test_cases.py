@@ -6,15 +6,15 @@ import re
 
 import pytest
 
-from hedrugal import Bindings, Bound, Chord, Dialect, EncodeError, KeyboardEncoding
+from hedrugal import Age, Bindings, Bound, Chord, Dialect, EncodeError, KeyboardEncoding
 from hedrugal import KeyCodeEncodeModes, KeyNameError, KeyPress, KeyReport, KittyKeyboardFlags
 from hedrugal import Matcher, Modifiers, MouseButton, MouseEncoding, MouseTracking, Parser, Policy
-from hedrugal import SentMouse, Unbound
+from hedrugal import SentMouse, Timer, Unbound
 from hedrugal import encode, encode_event, encode_paste, reply
 from hedrugal import _calls as numbers
 from hedrugal._library import borrowed, library
-from cases import FILES, FOLDER, cases_of, event_by, events_by, events_line, key_of, line_of
-from cases import parser_by, quoted, reading_of, set_of, text_of
+from cases import FILES, FOLDER, cases_of, cuts_of, event_by, events_by, events_line, key_of
+from cases import line_of, parser_by, quoted, reading_of, set_of, text_of
 from helpers import assert_read_back
 
 START, END = b"\x1b[200~", b"\x1b[201~"
@@ -32,12 +32,6 @@ FAULTS = {
     "BAD_TEXT": "a surrogate names nothing",
 }
 MOST_MILLIS = 2**64 - 1
-
-
-def cuts_of(data):
-    """The bytes whole, cut in two at each place, and byte by byte."""
-    yield from ((data[:place], data[place:]) for place in range(len(data) + 1))
-    yield [data[at : at + 1] for at in range(len(data))]
 
 
 def read_by(parser, reading, pieces):
@@ -96,6 +90,19 @@ def status_of(parser, name, words, start):
     return getattr(library, f"hed_parser_{name}")(parser.handle, *times, *texts)
 
 
+def check_reading(parser, name, words, told):
+    """A step that asks for positions or forgets them, sets the reading, or tells it."""
+    if name == "expect":
+        for _ in range(int(*words)):
+            parser.expect_position()
+    elif name == "forget":
+        parser.forget_positions()
+    elif name == "set":
+        parser.reading = reading_of(*words)
+    else:
+        assert parser.reading == reading_of(told)
+
+
 def check_runs(words, steps):
     """They are made twice by one parser."""
     word, *limits = words
@@ -111,6 +118,8 @@ def check_runs(words, steps):
                 name, *words = asked.split(" ")
                 if name == "policy":
                     limit(parser, words)
+                elif name in ("expect", "forget", "set", "reading"):
+                    check_reading(parser, name, words, told)
                 elif colon and told != "busy":
                     assert step_told(parser, name, words, start) == told, step
                 else:
@@ -118,6 +127,19 @@ def check_runs(words, steps):
                     # Most calls that take no bytes have no status.
                     assert STATUSES[status or numbers.STATUS_OK] == ("BUSY" if colon else "OK")
             parser.reset()
+
+
+def check_timers(words, left):
+    """A timer's notes, of five words each."""
+    timer, told = Timer(), []
+    for note in " ".join(words).split(" | "):
+        noted, limit, by, what, asked = note.split(" ")
+        seen = {it.lower(): True for it in what.split("+") if it != "NONE"}
+        seconds = None if limit == "-1" else int(limit) / 1000
+        timer.note(seconds, Age[by], now=int(noted) / 1000, **seen)
+        told.append(timer.timeout(int(asked) / 1000))
+        assert timer.is_due(int(asked) / 1000) == (told[-1] == 0)
+    assert left == " | ".join("forever" if it is None else str(round(1000 * it)) for it in told)
 
 
 def presses_of(event):

@@ -1,5 +1,6 @@
 """What the documents and the docstrings say is so, and the types hold."""
 import doctest
+import importlib
 import os
 import re
 import shlex
@@ -10,21 +11,18 @@ from pathlib import Path
 import pytest
 
 import hedrugal
-from hedrugal import bindings, encoders, events, keymap, names, parser, questions, replies
-from hedrugal import terminal, timer
+from hedrugal import names, questions, terminal
 from helpers import HERE, LIBRARY, SECONDS, TOP, assert_documented
 
 
-@pytest.mark.parametrize(
-    "module",
-    [hedrugal, bindings, encoders, events, keymap, names, parser, questions, replies]
-    + [terminal, timer],
-    ids=lambda it: it.__name__,
-)
-def test_docstrings(module):
+MODULES = "bindings encoders events keymap names parser questions replies terminal timer".split()
+
+
+@pytest.mark.parametrize("name", ["hedrugal", *(f"hedrugal.{it}" for it in MODULES)])
+def test_docstrings(name):
     """Their listings import what they use but the names of the package."""
     public = {name: getattr(hedrugal, name) for name in hedrugal.__all__}
-    failed, tried = doctest.testmod(module, extraglobs=public)
+    failed, tried = doctest.testmod(importlib.import_module(name), extraglobs=public)
     assert (failed, tried > 0) == (0, True)
 
 

@@ -5,7 +5,7 @@ import pytest
 
 from hedrugal import Completions, Dialect, Entry, Function, KeyCode, KeyReport, KittyModifiers
 from hedrugal import Modifiers, Parser, Waiting
-from helpers import all_of, assert_rest, constants
+from helpers import all_of, assert_refused, assert_rest, constants
 
 
 @pytest.fixture
@@ -23,10 +23,9 @@ def test_entries(parser):
     """They are as many and as long as the header says, in the order of their bytes, and each means
     its key. With EXTENDED it is a key, too."""
     entries = list(parser.entries())
-    assert {"COUNT": len(entries), "MOST": max(len(entry.bytes) for entry in entries)} == constants(
-        "HED_ENTRY_"
-    )
     texts = [entry.bytes for entry in entries]
+    counts = {"COUNT": len(entries), "MOST": max(map(len, texts))}
+    assert counts == constants("HED_ENTRY_")
     assert texts == sorted({*texts})
     extended = Parser()
     for place, entry in enumerate(entries):
@@ -44,9 +43,7 @@ def test_places_outside_the_table(parser):
     count = constants("HED_ENTRY_")["COUNT"]
     for place in (count, sys.maxsize, 2**64 - 1, 2**64, 2**64 + 1, -1, -(2**64)):
         assert parser.entry(place) is None
-    for place in (None, "1", 1.0):
-        with pytest.raises(TypeError):
-            parser.entry(place)
+    assert_refused(TypeError, parser.entry, None, "1", 1.0)
 
 
 def test_reading_entries_changes_nothing(parser):

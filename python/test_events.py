@@ -1,13 +1,13 @@
 """What a parser reads, and key reports to bytes."""
 import contextlib
 import dataclasses
+import functools
 import itertools
 import pickle
-from unittest import mock
 
 import pytest
 
-from hedrugal import Apc, Csi, CursorPosition, Dcs, Dialect, EncodeError, EraseByte, FocusGained
+from hedrugal import Apc, CursorPosition, Dcs, Dialect, EncodeError, EraseByte, FocusGained
 from hedrugal import Function, KeyboardFlags, KeyCode, KeyEventKind, KeyPress, KeyReport
 from hedrugal import KittyKeyboardFlags, KittyModifiers, Modifiers, MouseButtons, MouseKind
 from hedrugal import MouseReport, NewlineByte, Osc, Parser, Paste, Reading, Resized, Size
@@ -16,37 +16,16 @@ from hedrugal._calls import STATUS_BAD_NUMBER, RawEvent, RawHandle, RawReading
 from hedrugal._library import library
 from hedrugal._records import event_of
 from cases import cases_of, events_by
-from helpers import all_of, assert_rest
+from helpers import all_of, assert_refused, assert_rest, cut, typed
 
 CTRL, SHIFT, ALT = KittyModifiers.CTRL, KittyModifiers.SHIFT, KittyModifiers.ALT
-NONE, PRESS = KittyModifiers.NONE, KeyEventKind.PRESS
-RELEASE, REPEAT = KeyEventKind.RELEASE, KeyEventKind.REPEAT
-UP, BACKSPACE = KeyCode.UP_ARROW, KeyCode.BACKSPACE
-# A position of the cursor, and the key that it is unless one is expected.
-ASKED, POSITION, THIRD = b"\x1b[1;5R", CursorPosition(1, 5), KeyReport(Function(3), CTRL)
-
-
-def typed(text):
-    return [KeyReport(character) for character in text]
+NONE, RELEASE, UP = KittyModifiers.NONE, KeyEventKind.RELEASE, KeyCode.UP_ARROW
 
 
 @pytest.fixture
 def parser():
     with Parser() as it:
         yield it
-
-
-@pytest.fixture
-def termwiz():
-    with Parser(Dialect.TERMWIZ) as it:
-        yield it
-
-
-def read(parser, pieces):
-    """The events of pieces and a flush, after which nothing is buffered."""
-    events = all_of(parser, *pieces)
-    assert_rest(parser, 0, Waiting.NOTHING)
-    return events
 
 
 def test_events_are_values():
@@ -91,12 +70,12 @@ def test_reprs(parser):
 # How a parser reads can be changed between any two calls.
 
 
-def test_reading(parser, termwiz):
+def test_reading(parser):
     """A new parser has its dialect, and the rest is as at first. A reset forgets the questions
     alone."""
     assert parser.reading == Reading()
     first = Reading(Dialect.TERMWIZ, False, 0, EraseByte.DELETE, NewlineByte.CTRL_J)
-    assert termwiz.reading == first
+    assert Parser(Dialect.TERMWIZ).reading == first
     for reading in (
         Reading(Dialect.TERMWIZ, True, 255, EraseByte.BACKSPACE, NewlineByte.ENTER),
         Reading(Dialect.EXTENDED, False, 1),
@@ -112,86 +91,41 @@ def test_reading(parser, termwiz):
 def test_wrong_readings(parser):
     before = Reading(Dialect.TERMWIZ, True, 3, EraseByte.BACKSPACE, NewlineByte.ENTER)
     parser.reading = before
-    types = [None, Dialect.EXTENDED, Reading(1), Reading(erase=8), Reading(questions=1.5)]
-    types += [Reading(newline=EraseByte.DELETE)]
-    for wrong in [*types, Reading(questions=-1), Reading(questions=256)]:
-        with pytest.raises(TypeError if wrong in types else ValueError):
-            parser.reading = wrong
-        assert parser.reading == before
+    wrong = [None, Dialect.EXTENDED, Reading(1), Reading(erase=8), Reading(questions=1.5)]
+    wrong.append(Reading(newline=EraseByte.DELETE))
+    set_reading = functools.partial(setattr, parser, "reading")
+    assert_refused(TypeError, set_reading, *wrong)
+    assert_refused(ValueError, set_reading, Reading(questions=-1), Reading(questions=256))
     for wrong in ((2, 0, 0), (0, 2, 0), (0, 0, 2)):
         raw = RawReading(*wrong, False, 0)
-        answer = library.hed_parser_set_reading(parser.handle, raw)
-        assert answer == STATUS_BAD_NUMBER
-        assert parser.reading == before
-
-
-def test_what_is_buffered_is_read_anew(parser):
-    """It was fed before the reading changed, and the next call tells it."""
-    parser.reading = Reading(x10_mouse=True)
-    assert parser.feed(b"\x1b[M") == []
-    assert_rest(parser, 3, Waiting.SEQUENCE)
-    parser.reading = Reading()
-    assert parser.timeout() == 0
-    assert parser.feed(b"") == [Csi(b"M")]
-    assert parser.feed(b"\x1b]11;") == []
-    parser.reading = Reading(Dialect.TERMWIZ)
-    assert parser.idle() == [KeyReport("]", ALT), *typed("11;")]
-    assert parser.feed(b"\x1b[1;9A") == [KeyReport(UP, ALT)]
-
-
-def test_expected_positions(parser):
-    for _ in range(2):
-        parser.expect_position()
-    assert parser.reading.questions == 2
-    assert parser.feed(ASKED[:3]) + parser.feed(ASKED[3:]) == [POSITION]
-    assert parser.feed(ASKED * 2) == [POSITION, THIRD]
-    assert parser.reading.questions == 0
-
-
-def test_forgotten_positions(parser):
-    for forget in (parser.forget_positions, parser.reset):
-        parser.expect_position()
-        forget()
-        assert parser.reading.questions == 0
-        assert parser.feed(ASKED) == [THIRD]
-
-
-def test_most_positions(parser):
-    for _ in range(300):
-        parser.expect_position()
-    assert parser.reading == Reading(questions=255)
+        assert library.hed_parser_set_reading(parser.handle, raw) == STATUS_BAD_NUMBER
+    assert parser.reading == before
 
 
 def test_wrong_dialects():
-    for wrong in (None, 0, "EXTENDED", KeyEventKind.PRESS):
-        with pytest.raises(TypeError, match="^a member of Dialect is required, not"):
-            Parser(wrong)
+    wrong = (None, 0, "EXTENDED", KeyEventKind.PRESS)
+    assert_refused(TypeError, Parser, *wrong, match="^a member of Dialect is required, not")
     raw = RawHandle()
     assert library.hed_parser_init(raw, 2) == STATUS_BAD_NUMBER
     assert not raw.live
 
 
 def test_unknown_numbers():
-    for fields in (
-        {"kind": 0},
-        {"kind": 15, "string_kind": 3},
-        {"kind": 4},
-        {"kind": 17},
-        {"kind": 1, "key_event_kind": 4, "key": 1, "detail": 97},
-        {"kind": 2, "mouse_kind": 6},
-    ):
-        with pytest.raises(RuntimeError):
-            event_of(bytes(RawEvent(**fields)))
+    numbers = [{"kind": 0}, {"kind": 4}, {"kind": 17}, {"kind": 15, "string_kind": 3}]
+    numbers.append({"kind": 1, "key_event_kind": 4, "key": 1, "detail": 97})
+    numbers.append({"kind": 2, "mouse_kind": 6})
+    assert_refused(RuntimeError, lambda it: event_of(bytes(RawEvent(**it))), *numbers)
 
 
 # Input far past any small bound: by one call, and in pieces.
 
 
 def check_long(parser, data, events):
+    """Nothing is buffered after a flush."""
     for size in (len(data), 4096, 61):
-        pieces = [data[at : at + size] for at in range(0, len(data), size)]
-        is_same = read(parser, pieces) == events
+        is_same = all_of(parser, *cut(data, size)) == events
         assert is_same, size
+        assert_rest(parser, 0, Waiting.NOTHING)
 
 
 def test_strings(parser):
@@ -294,7 +228,7 @@ def test_read_back(parser):
     keys += [Function(1), Function(35), KeyCode.RIGHT_ALT, 57344, 63743]
     every = itertools.product(keys, map(KittyModifiers, range(256)), KeyEventKind)
     reports = itertools.starmap(KeyReport, every)
-    for report in [SHIFT_A, KeyReport("é", CTRL, REPEAT, base="2"), *reports]:
+    for report in [SHIFT_A, KeyReport("é", CTRL, KeyEventKind.REPEAT, base="2"), *reports]:
         assert parser.feed(report.encode(ALL)) == [report]
 
 
@@ -322,46 +256,35 @@ def test_nothing_else_is_refused(parser):
 
 def test_keys_without_bytes():
     for key in (KeyCode.COPY, Function(0), Function(36), 1, 57343, 63744, 0xFFFFFFFF):
-        with pytest.raises(EncodeError, match="has no bytes under these flags"):
-            KeyReport(key).encode(ALL)
-        with pytest.raises(EncodeError, match="has no bytes"):
-            KeyReport(key).encode(KittyKeyboardFlags.NONE)
+        encode = KeyReport(key).encode
+        assert_refused(EncodeError, encode, ALL, match="has no bytes under these flags")
+        assert_refused(EncodeError, encode, KittyKeyboardFlags.NONE, match="has no bytes")
 
 
 def test_a_long_text():
     report = KeyReport("x", text="x" * 5000)
     assert report.encode(KittyKeyboardFlags.NONE) == b"x" * 5000
-    with pytest.raises(EncodeError, match="at most 256 bytes"):
-        report.encode(ALL)
+    assert_refused(EncodeError, report.encode, ALL, match="at most 256 bytes")
 
 
 def test_what_names_nothing():
-    for report in [
-        *(KeyReport(key) for key in ("", "ab", "\ud800", Function(256), Function(-1), -1, 2**32)),
-        # These would be keys of Kitty's table, if they were cut to 32 bits.
-        *(KeyReport(key) for key in (57358 + 2**32, 57358 - 2**32)),
-        *(KeyReport("a", shifted=wrong) for wrong in ("", "ab", "\udfff")),
-        *(KeyReport("a", base=wrong) for wrong in ("", "ab", "\ud800")),
-        KeyReport("a", text="a\ud800"),
-    ]:
-        with pytest.raises(EncodeError):
-            report.encode(ALL)
+    # The last two would be keys of Kitty's table, if they were cut to 32 bits.
+    keys = ("", "ab", "\ud800", Function(256), Function(-1), -1, 2**32)
+    keys += (57358 + 2**32, 57358 - 2**32)
+    assert_refused(EncodeError, lambda it: KeyReport(it).encode(ALL), *keys)
+    for fields in (
+        *({"shifted": wrong} for wrong in ("", "ab", "\udfff")),
+        *({"base": wrong} for wrong in ("", "ab", "\ud800")),
+        {"text": "a\ud800"},
+    ):
+        assert_refused(EncodeError, KeyReport("a", **fields).encode, ALL)
 
 
 def test_wrong_types():
-    for wrong in (None, 0, CTRL):
-        with pytest.raises(TypeError, match="^KittyKeyboardFlags are required, not"):
-            KeyReport("a").encode(wrong)
-    for wrong in (("a", 1), ("a", NONE, 1), (None,), ("a", NONE, PRESS, 65)):
-        with pytest.raises(TypeError):
-            KeyReport(*wrong).encode(ALL)
-
-
-def test_refused_memory():
-    with mock.patch.object(library, "hed_encode_kitty", lambda *_: 2), pytest.raises(MemoryError):
-        KeyReport("a").encode(ALL)
-    with mock.patch.object(library, "hed_encode_kitty", lambda *_: 99), pytest.raises(RuntimeError):
-        KeyReport("a").encode(ALL)
+    wrong = "^KittyKeyboardFlags are required, not"
+    assert_refused(TypeError, KeyReport("a").encode, None, 0, CTRL, match=wrong)
+    for wrong in (("a", 1), ("a", NONE, 1), (None,), ("a", NONE, KeyEventKind.PRESS, 65)):
+        assert_refused(TypeError, KeyReport(*wrong).encode, ALL)
 
 
 # Presses.
@@ -406,8 +329,6 @@ def test_what_has_no_press():
         assert KeyPress.of_event(event) is None
     assert KeyPress.of_report(KeyReport("a", text="a\ud800")) is None
     assert KeyPress.of_report(KeyReport(57343)) is None
-    for wrong in (KeyReport("a", Modifiers.CTRL), KeyReport("a", kind=1)):
-        with pytest.raises(TypeError):
-            KeyPress.of_event(wrong)
-    with pytest.raises(EncodeError):
-        KeyPress.of_event(KeyReport("ab"))
+    wrong = KeyReport("a", Modifiers.CTRL), KeyReport("a", kind=1)
+    assert_refused(TypeError, KeyPress.of_event, *wrong)
+    assert_refused(EncodeError, KeyPress.of_event, KeyReport("ab"))

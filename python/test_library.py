@@ -5,14 +5,13 @@ import os
 import pydoc
 import re
 import shutil
-from pathlib import Path
 
 import pytest
 
 import hedrugal
 from hedrugal import KeyCode, Modifiers, _calls
 from hedrugal._library import library
-from helpers import HERE, LIBRARY, constants, read, run_python
+from helpers import HERE, LIBRARY, read, run_python, set_version
 
 ENUMS = [it for it in vars(hedrugal).values() if isinstance(it, enum.EnumMeta)]
 # The enums of the header that have another name here.
@@ -62,14 +61,6 @@ def test_docstrings_of_members():
     assert (Modifiers.CTRL | Modifiers.ALT).__doc__ == Modifiers.__doc__
 
 
-def test_other_numbers():
-    """So have the constants for the numbers that no enum has."""
-    found = {name: it for name, it in vars(_calls).items() if name.isupper() and type(it) is int}
-    known = {**constants("HED_"), "NO_PARTS": 2**64 - 1}
-    assert found == {name: known[name.replace("STATUS_", "")] for name in found}
-    assert len(found) >= 55
-
-
 def test_layouts():
     """The structs have the sizes and offsets that Rust's compiler finds. Three have the same two
     fields."""
@@ -82,24 +73,6 @@ def test_layouts():
         assert (ctypes.sizeof(raw), offsets) == (int(size), " ".join(words.split())), name
         seen.add(raw.__name__)
     assert seen == {it for it in vars(_calls) if it.startswith("Raw")}
-
-
-def test_calls():
-    """Each call of the header is declared, with as many arguments, and what is called is one."""
-    header = re.sub(r"/\*.*?\*/", "", read("c/hedrugal.h"), flags=re.S)
-    calls = re.findall(r"^[a-z].*?[ *](hed_\w+)\(([^;]*)\);", header, flags=re.M)
-    counts = {name: 0 if taken == "void" else taken.count(",") + 1 for name, taken in calls}
-    declared = {name: len(taken) for name, (_, taken) in _calls.CALLS.items()}
-    assert declared == counts
-    files = Path(HERE, "hedrugal").rglob("*.py")
-    called = set(
-        re.findall(r"library(?:\.|\[\")(hed_\w+)", "".join(it.read_text() for it in files))
-    )
-    assert called <= {*declared} and len(called) >= 60
-
-
-def test_version():
-    assert f'#define HED_VERSION "{hedrugal.__version__}"\n' in read("c/hedrugal.h")
 
 
 IMPORT = """
@@ -117,14 +90,15 @@ def import_it(env, before="", cwd=None):
     return printed
 
 
+def find_library(names):
+    """Lets the system have these libraries."""
+    return f"import ctypes.util\nctypes.util.find_library = {names!r}.get\n"
+
+
 def test_named(tmp_path):
-    name = os.path.basename(LIBRARY)
-    assert import_it({"HEDRUGAL_LIBRARY": LIBRARY}, cwd="/") == f"{LIBRARY}\n"
-    assert import_it({"HEDRUGAL_LIBRARY": name}, cwd=os.path.dirname(LIBRARY)) == f"{LIBRARY}\n"
-    assert (
-        import_it({"HEDRUGAL_LIBRARY": os.path.relpath(LIBRARY, tmp_path)}, cwd=tmp_path)
-        == f"{LIBRARY}\n"
-    )
+    for cwd in ("/", os.path.dirname(LIBRARY), tmp_path):
+        named = LIBRARY if cwd == "/" else os.path.relpath(LIBRARY, cwd)
+        assert import_it({"HEDRUGAL_LIBRARY": named}, cwd=cwd) == f"{LIBRARY}\n"
 
 
 def test_a_named_folder(tmp_path):
@@ -171,8 +145,7 @@ def test_beside_the_module(tmp_path):
 
 
 def test_in_the_systems_folders():
-    before = f"import ctypes.util\nctypes.util.find_library = {{'hedrugal': {LIBRARY!r}}}.get\n"
-    assert import_it({}, before=before) == f"{LIBRARY}\n"
+    assert import_it({}, before=find_library({"hedrugal": LIBRARY})) == f"{LIBRARY}\n"
 
 
 def assert_message(printed, *words):
@@ -188,40 +161,30 @@ def test_not_found(tmp_path):
     assert_message(import_it({"HEDRUGAL_LIBRARY": missing}), missing)
     assert_message(import_it({"HEDRUGAL_LIBRARY": "none.so"}, cwd=tmp_path), missing)
     assert_message(import_it({"HEDRUGAL_LIBRARY": text}), text)
-    assert_message(
-        import_it({}, before="import ctypes.util as util\nutil.find_library = lambda name: None\n"),
-        HERE,
-    )
+    assert_message(import_it({}, before=find_library({})), HERE)
 
 
 def test_another_library():
     other = re.search(r"\S+/libc\.so\.6", read("/proc/self/maps"))
     if not other:
         pytest.skip("no libc.so.6")
-    assert_message(
-        import_it({"HEDRUGAL_LIBRARY": other.group()}), "symbol: hed_version", "of this version"
-    )
+    printed = import_it({"HEDRUGAL_LIBRARY": other.group()})
+    assert_message(printed, "symbol: hed_version", "of this version")
 
 
 def import_of_version(folder, version):
     """What an import of the module prints, if it is of another version."""
-    line, text = f'__version__ = "{hedrugal.__version__}"\n', read("python/hedrugal/__init__.py")
-    assert text.count(line) == 1
     shutil.rmtree(folder / "hedrugal", ignore_errors=True)
     shutil.copytree(os.path.join(HERE, "hedrugal"), folder / "hedrugal")
-    changed = text.replace(line, f'__version__ = "{version}"\n')
-    (folder / "hedrugal/__init__.py").write_text(changed, encoding="utf-8")
+    set_version(folder / "hedrugal", version)
     return import_it({"PYTHONPATH": str(folder), "HEDRUGAL_LIBRARY": LIBRARY}, cwd=folder)
 
 
 def test_another_version(tmp_path):
     """A module is loaded with no older library, and with none of another major version."""
     major, minor, patch = map(int, hedrugal.__version__.split("."))
-    for other in (
-        f"{major + 1}.0.0",
-        f"{major}.{minor + 1}.0",
-        f"{major}.{minor}.{patch + 1}",
-    ):
+    later = f"{major + 1}.0.0", f"{major}.{minor + 1}.0", f"{major}.{minor}.{patch + 1}"
+    for other in later:
         printed = import_of_version(tmp_path, other)
         words = f"is version {hedrugal.__version__} of", f"is for version {other} or a later one"
         assert_message(printed, LIBRARY, *words)
@@ -237,6 +200,5 @@ def test_another_version(tmp_path):
     ],
 )
 def test_another_processor(before):
-    assert_message(
-        import_it({"HEDRUGAL_LIBRARY": LIBRARY}, before=before), "Linux on x86-64 and 64-bit ARM"
-    )
+    printed = import_it({"HEDRUGAL_LIBRARY": LIBRARY}, before=before)
+    assert_message(printed, "Linux on x86-64 and 64-bit ARM")

@@ -1,15 +1,18 @@
 """Memory is refused or given back."""
+import contextlib
 import pickle
 from unittest import mock
 
 import pytest
 
 import hedrugal
-from hedrugal import KeyReport, KittyModifiers, ParseError, Parser, Paste
-from hedrugal import PastePart, Waiting
-from hedrugal._calls import RawHandle
+from hedrugal import Chord, Csi, FocusGained, KeyMap, KeyPress, KeyReport, KittyKeyboardFlags
+from hedrugal import KittyModifiers, MouseButton, MouseEncoding, MouseTracking, ParseError, Parser
+from hedrugal import Paste, PastePart, SentMouse, Waiting, encode_event, encode_paste, reply
+from hedrugal._calls import STATUS_NO_MEMORY, RawHandle
 from hedrugal._library import library
-from helpers import EVENTS, LIMITS, STREAM, assert_prints, assert_rest, needs_limits
+from helpers import EVENTS, LIMITS, STREAM, assert_prints, assert_raises, assert_refused
+from helpers import assert_rest, needs_limits
 
 REFUSED_FEED = """
 body = b"x" * (16 * MB)
@@ -146,59 +149,79 @@ def test_shrink_to():
 
 
 def test_capacities(parser):
-    for wrong, error in ((-1, ValueError), (None, TypeError), (1.0, TypeError)):
-        with pytest.raises(error):
-            parser.shrink_to(wrong)
+    assert_refused(ValueError, parser.shrink_to, -1)
+    assert_refused(TypeError, parser.shrink_to, None, 1.0)
 
 
-def test_refused_parsers():
-    """The table is refused memory, and the next parser makes it. Or a parser is refused memory,
-    once the table is there."""
+# Calls of the library, and what makes each.
+PRESS, MOUSE = KeyPress("a"), SentMouse(1, 1, MouseButton.NONE)
+CALLS = {
+    "hed_encode_event": [lambda: encode_event(FocusGained(), Parser())],
+    "hed_encode_kitty": [lambda: KeyReport("a").encode(KittyKeyboardFlags(31))],
+    "hed_encode_mouse": [lambda: MOUSE.encode(MouseTracking.ANY, MouseEncoding.SGR)],
+    "hed_encode_paste": [lambda: encode_paste(b"a", True)],
+    "hed_key_print": [lambda: str(PRESS), lambda: str(Chord([PRESS, PRESS]))],
+    "hed_keymap_init": [KeyMap],
+    "hed_parser_init_sharing": [Parser],
+    "hed_read_reply": [lambda: reply(Csi(b"?62c"))],
+}
+
+
+@pytest.mark.parametrize("name", CALLS)
+def test_refused_calls(name):
+    """The next one succeeds. An answer that nobody knows is another error, but of what makes."""
+    unknown = MemoryError if "init" in name else RuntimeError
+    for answer, error in (STATUS_NO_MEMORY, MemoryError), (99, unknown):
+        with mock.patch.object(library, name, lambda *_: answer):
+            assert_raises(error, *CALLS[name])
+        assert None not in [use() for use in CALLS[name]]
+
+
+def test_refused_table():
+    """The next parser makes it."""
     with mock.patch.object(hedrugal.parser, "_idle", RawHandle()) as idle:
-        with mock.patch.object(library, "hed_parser_init", lambda *_: 2):
-            with pytest.raises(MemoryError):
-                Parser()
+        with mock.patch.object(library, "hed_parser_init", lambda *_: STATUS_NO_MEMORY):
+            assert_raises(MemoryError, Parser)
         with Parser() as parser:
             assert idle.live
             library.hed_parser_free(idle)
             assert parser.feed(b"q") == [KeyReport("q")]
-    with mock.patch.object(library, "hed_parser_init_sharing", lambda *_: 2):
-        with pytest.raises(MemoryError):
-            Parser()
 
 
 # Memory for an event, or for a place in the list, is refused in the middle of a call.
 
 
-class Refusal:
-    """In its block the next events but so many are refused memory."""
+@contextlib.contextmanager
+def refusal(count, error=MemoryError):
+    """In its block the next events but so many are refused memory, or raise another error."""
+    granted = iter([True] * count)
 
-    def __init__(self, count):
-        self.count, self.events = count, hedrugal.parser._events
-        self.event_of = hedrugal.parser.event_of
+    def refusing(make):
+        def made(*words):
+            event = make(*words)
+            if not next(granted, False):
+                raise error
+            return event
 
-    def make(self, make, *words):
-        event = make(*words)
-        if not self.count:
-            raise MemoryError
-        self.count -= 1
-        return event
+        return made
 
-    def __getitem__(self, record):
-        return self.make(self.events.__getitem__, record)
+    events, event_of = mock.MagicMock(), refusing(hedrugal.parser.event_of)
+    events.__getitem__.side_effect = refusing(hedrugal.parser._events.__getitem__)
+    with mock.patch.multiple(hedrugal.parser, _events=events, event_of=event_of):
+        yield
 
-    def __enter__(self):
-        hedrugal.parser._events = self
-        hedrugal.parser.event_of = lambda *words: self.make(self.event_of, *words)
 
-    def __exit__(self, *_):
-        hedrugal.parser._events, hedrugal.parser.event_of = self.events, self.event_of
+def refused(count, call, *words):
+    """The error of a call that is refused memory behind so many events."""
+    with refusal(count), pytest.raises(ParseError) as caught:
+        call(*words)
+    return caught.value
 
 
 TEXTS = [b"a", b"b" * 500, b"c" * 512, b"d" * 5000]
 PASTES = b"x" + b"".join(b"\x1b[200~%s\x1b[201~" % it for it in TEXTS) + b"\x1b[97;;65uy\x1b[I"
 PASTED = [KeyReport("x"), *(Paste(it.decode()) for it in TEXTS)]
-PASTED += [KeyReport("a", text="A"), KeyReport("y"), hedrugal.FocusGained()]
+PASTED += [KeyReport("a", text="A"), KeyReport("y"), FocusGained()]
 
 
 @pytest.mark.parametrize("data, events", [(STREAM, EVENTS), (PASTES, PASTED)])
@@ -208,7 +231,7 @@ def test_each_event(data, events, again):
     with Parser() as parser:
         for count in range(len(events)):
             is_last = data is STREAM and count == len(events) - 1
-            with Refusal(count), pytest.raises(ParseError) as caught:
+            with refusal(count), pytest.raises(ParseError) as caught:
                 told = parser.feed(data)
                 parser.flush()
             told = told if is_last else caught.value.events
@@ -216,9 +239,7 @@ def test_each_event(data, events, again):
             assert parser.timeout() == 0
             copied = pickle.loads(pickle.dumps(caught.value))
             assert (copied.events, copied.taken) == (caught.value.events, True)
-            with Refusal(0), pytest.raises(ParseError) as caught:
-                parser.flush()
-            assert caught.value.events == []
+            assert refused(0, parser.flush).events == []
             told += parser.feed(b"") if again == "feed" else getattr(parser, again)()
             assert told + parser.flush() == events
             assert_rest(parser, 0, Waiting.NOTHING)
@@ -252,9 +273,8 @@ def test_bytes_come_behind_a_flush(parser):
     flushed = [KeyReport("[", KittyModifiers.ALT), *map(KeyReport, "1;5")]
     for count in range(len(flushed)):
         assert parser.feed(b"\x1b[1;5", 5) == []
-        with Refusal(count), pytest.raises(ParseError) as caught:
-            parser.idle(6)
-        assert (caught.value.events, parser.timeout(6)) == (flushed[:count], 0)
+        assert refused(count, parser.idle, 6).events == flushed[:count]
+        assert parser.timeout(6) == 0
         assert parser.feed(b"A", 7) == [*flushed[count:], KeyReport("A")]
         assert parser.timeout(7) is None
 
@@ -263,20 +283,17 @@ def test_bytes_that_come_too_early():
     """While a flush is left, none are taken."""
     with Parser() as parser:
         assert parser.feed(b"\x1b[1" + b";1" * 100, 5) == []
-        with Refusal(0), pytest.raises(ParseError):
-            parser.idle(6)
-        with Refusal(0), pytest.raises(ParseError) as caught:
-            parser.feed(b"A", 7)
-        assert (caught.value.events, caught.value.taken) == ([], False)
+        assert refused(0, parser.idle, 6).taken
+        error = refused(0, parser.feed, b"A", 7)
+        assert (error.events, error.taken) == ([], False)
         assert len(parser.feed(b"A", 7)) == 203
 
 
 def test_interrupted_after_a_refusal(parser):
     """What is left is told by the next call, and is not what is forgotten."""
-    with Refusal(1), pytest.raises(ParseError) as caught:
-        parser.feed(b"a" + b"b" * 200 + b"\x1b[1", 0)
-    assert caught.value.events == [KeyReport("a")]
-    with Refusal(0), pytest.raises(MemoryError):
+    error = refused(1, parser.feed, b"a" + b"b" * 200 + b"\x1b[1", 0)
+    assert error.events == [KeyReport("a")]
+    with refusal(0), pytest.raises(MemoryError):
         parser.interrupted(1)
     parser.interrupted(1)
     assert (parser.timeout(1), parser.waiting) == (0, Waiting.NOTHING)
@@ -284,30 +301,21 @@ def test_interrupted_after_a_refusal(parser):
 
 
 def test_reset_forgets_them(parser):
-    with Refusal(1), pytest.raises(ParseError):
-        parser.feed(PASTES)
+    refused(1, parser.feed, PASTES)
     parser.reset()
     assert (parser.idle(), parser.timeout(), parser.feed(b"q")) == ([], None, [KeyReport("q")])
 
 
 def test_skip_paste_after_a_refusal(parser):
     parser.parts = 0
-    with Refusal(1), pytest.raises(ParseError):
-        parser.feed(b"ab\x1b[200~cd\x1b[20")
+    refused(1, parser.feed, b"ab\x1b[200~cd\x1b[20")
     assert parser.skip_paste() == 0
     assert parser.feed(b"1~") == [KeyReport("b"), PastePart("cd"), Paste("")]
 
 
 def test_an_exception_of_a_handler(parser):
     """What was told by then comes with the next call."""
-
-    class Stops(Refusal):
-        def __getitem__(self, record):
-            if not self.count:
-                raise KeyboardInterrupt
-            return super().__getitem__(record)
-
-    with Stops(2), pytest.raises(KeyboardInterrupt):
+    with refusal(2, KeyboardInterrupt), pytest.raises(KeyboardInterrupt):
         parser.feed(STREAM)
     assert parser.timeout() == 0
     assert parser.flush() == EVENTS

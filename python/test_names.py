@@ -2,31 +2,20 @@
 import copy
 import pickle
 import random
-from unittest import mock
 
 import pytest
 
-from hedrugal import (
-    Chord,
-    EncodeError,
-    Function,
-    KeyCode,
-    KeyNameError,
-    KeyNameErrorKind,
-    KeyPress,
-    KeyReport,
-    KittyModifiers,
-)
-from hedrugal._calls import STATUS_NO_MEMORY
-from hedrugal._library import library
+from hedrugal import Chord, EncodeError, Function, KeyCode, KeyNameError, KeyNameErrorKind
+from hedrugal import KeyPress, KeyReport, KittyModifiers
 from cases import cases_of
+from helpers import assert_refused
 
 NONE, SHIFT, CTRL = KittyModifiers.NONE, KittyModifiers.SHIFT, KittyModifiers.CTRL
 
 
 def test_what_is_no_name():
-    with pytest.raises(KeyNameError, match="^no key has this name, at byte 2$"):
-        Chord.read("x gg")
+    said = "^no key has this name, at byte 2$"
+    assert_refused(KeyNameError, Chord.read, "x gg", match=said)
     for kind in KeyNameErrorKind:
         error = KeyNameError(kind, 3)
         assert isinstance(error, ValueError) and str(error) == f"{kind}, at byte 3"
@@ -49,17 +38,11 @@ def test_chords_are_values():
     assert pickle.loads(pickle.dumps(chord)) == copy.copy(chord) == chord
     with pytest.raises(AttributeError):
         chord.presses = ()
-    for presses in [(), [KeyPress("a")] * 33, [KeyPress("a", SHIFT)], [KeyPress(KeyCode.SHIFT)]]:
-        with pytest.raises(ValueError):
-            Chord(presses)
-    with pytest.raises(EncodeError):
-        Chord([KeyPress("ab")])
-    for presses in ["a", [KeyReport("a")], 1]:
-        with pytest.raises(TypeError):
-            Chord(presses)
-    for name in [b"a", None]:
-        with pytest.raises(TypeError):
-            Chord.read(name)
+    wrong = (), [KeyPress("a")] * 33, [KeyPress("a", SHIFT)], [KeyPress(KeyCode.SHIFT)]
+    assert_refused(ValueError, Chord, *wrong)
+    assert_refused(EncodeError, Chord, [KeyPress("ab")])
+    assert_refused(TypeError, Chord, "a", [KeyReport("a")], 1)
+    assert_refused(TypeError, Chord.read, b"a", None)
 
 
 def test_names_of_presses():
@@ -77,10 +60,8 @@ def test_names_of_presses():
     for press in (KeyPress("a", SHIFT), KeyPress(KeyCode.NUMPAD_5), KeyPress("a", ~NONE)):
         assert str(press) == repr(press)
         assert press.text is None
-    with pytest.raises(EncodeError):
-        str(KeyPress("ab"))
-    with pytest.raises(TypeError):
-        str(KeyPress("a", 0))
+    assert_refused(EncodeError, str, KeyPress("ab"))
+    assert_refused(TypeError, str, KeyPress("a", 0))
 
 
 def test_names_are_read_back():
@@ -89,23 +70,8 @@ def test_names_are_read_back():
     for _ in range(3000):
         press = None
         while press is None:
-            key = draws.choice(
-                [
-                    draws.choice(keys),
-                    Function(draws.randrange(256)),
-                    draws.randrange(57344, 63744),
-                    chr(draws.choice([draws.randrange(0x3000), draws.randrange(0xE000, 0x110000)])),
-                ]
-            )
+            character = draws.choice([draws.randrange(0x3000), draws.randrange(0xE000, 0x110000)])
+            functions = draws.choice(keys), Function(draws.randrange(256))
+            key = draws.choice([*functions, draws.randrange(57344, 63744), chr(character)])
             press = KeyPress.of_report(KeyReport(key, KittyModifiers(draws.randrange(256))))
         assert Chord.read(str(press)) == Chord([press])
-
-
-def test_refused_memory():
-    no_memory = mock.Mock(return_value=STATUS_NO_MEMORY)
-    chord = Chord.read("a b")
-    with mock.patch.object(library, "hed_key_print", no_memory):
-        for it in (chord, KeyPress("a")):
-            with pytest.raises(MemoryError):
-                str(it)
-    assert str(chord) == "a b"

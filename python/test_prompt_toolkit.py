@@ -17,7 +17,7 @@ from prompt_toolkit.keys import Keys  # noqa: E402
 
 from hedrugal import prompt_toolkit as for_prompt_toolkit  # noqa: E402
 from hedrugal.prompt_toolkit import Input, Parser  # noqa: E402
-from helpers import assert_documented, read  # noqa: E402
+from helpers import assert_documented, cut, read  # noqa: E402
 
 
 def key_presses(make, *texts):
@@ -32,11 +32,6 @@ def key_presses(make, *texts):
 
 def keys(make, *texts):
     return [it.key for it in key_presses(make, *texts)]
-
-
-def different():
-    """The sequences that are other keys than prompt_toolkit's."""
-    return {text for text in ANSI_SEQUENCES if keys(Parser, text) != keys(Vt100Parser, text)}
 
 
 def listed():
@@ -54,7 +49,8 @@ def listed():
 def test_the_table():
     """Each sequence is the same key, or is listed."""
     assert len(ANSI_SEQUENCES) > 200
-    assert different() == listed()
+    others = {text for text in ANSI_SEQUENCES if keys(Parser, text) != keys(Vt100Parser, text)}
+    assert others == listed()
 
 
 def test_texts():
@@ -80,7 +76,7 @@ OTHERS = {
 PRINTABLE = [*map(chr, range(0x20, 0x7F)), "é", "世"]
 # The last characters of ESC O that are those of a keypad.
 KEYPAD = dict(zip("jklmnopqrstuvwxyX", "*+,-./0123456789="))
-SHIFT, ALT, CTRL = 1, 2, 4
+ALT, CTRL = 2, 4
 
 
 def reports(character, held=0):
@@ -155,11 +151,7 @@ def test_texts_of_reports():
 
 def test_pastes():
     text = "q\r\x1b[A" * 50000
-    parts = [
-        "a\x1b[200~",
-        *(text[at : at + 1000] for at in range(0, len(text), 1000)),
-        "\x1b[201~b",
-    ]
+    parts = ["a\x1b[200~", *cut(text, 1000), "\x1b[201~b"]
     pressed = key_presses(Parser, *parts, *parts)
     assert [it.key for it in pressed] == ["a", Keys.BracketedPaste, "b"] * 2
     assert pressed[1].data == pressed[4].data == text

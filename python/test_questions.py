@@ -1,9 +1,12 @@
 """Which events are replies to which question."""
+import functools
+
 import pytest
 
 from hedrugal import Csi, CursorPosition, FocusGained, Function, KeyReport, KittyModifiers, Osc
 from hedrugal import Parser, Paste, PastePart
 from hedrugal.questions import Questions
+from helpers import assert_raises, assert_refused
 
 COLOUR, POSITION, LAST = b"\x1b]11;?\x07", b"\x1b[6n", b"\x1b[?62;22c"
 # The reply to a question for the position, and the key that it is else.
@@ -83,39 +86,23 @@ def test_most_questions(parser, questions):
 
 def test_each_kind_of_event(parser, questions):
     questions.ask(parser, COLOUR, 1, now=0)
-    for event, number in [
-        (KEY, 0),
-        (FocusGained(), 0),
-        (Paste("a"), 0),
-        (PastePart("a"), 0),
-        (object(), 0),
-        (Osc(b"a" * 70000), 1),
-        (Csi(b"?" + b"1;" * 40000 + b"d"), 1),
-        (CursorPosition(1, 1), 1),
-    ]:
-        assert questions.note(parser, event, 0) == number
+    for event in (KEY, FocusGained(), Paste("a"), PastePart("a"), object()):
+        assert questions.note(parser, event, 0) == 0, event
+    long = Csi(b"?" + b"1;" * 40000 + b"d")
+    for event in (Osc(b"a" * 70000), long, CursorPosition(1, 1)):
+        assert questions.note(parser, event, 0) == 1, event
 
 
 def test_wrong_use(parser, questions):
-    for wrong, error in ((-1, ValueError), ("1", TypeError)):
-        for use in (
-            lambda: questions.ask(parser, b"", wrong),
-            lambda: questions.ask(parser, b"", 1, wrong),
-            lambda: questions.expire(parser, wrong),
-            lambda: questions.timeout(wrong),
-        ):
-            with pytest.raises(error):
-                use()
-    with pytest.raises(TypeError):
-        questions.ask(parser, "?", 1)
-    questions.ask(parser, COLOUR, 1)
+    ask, expire = (functools.partial(it, parser) for it in (questions.ask, questions.expire))
+    at_times = (lambda it: ask(b"", it), lambda it: ask(b"", 1, it), expire, questions.timeout)
+    for use in at_times:
+        assert_refused(ValueError, use, -1)
+        assert_refused(TypeError, use, "1")
+    assert_refused(TypeError, ask, "?", 1)
+    ask(COLOUR, 1)
     parser.close()
-    for use in (
-        lambda: questions.ask(parser, b"", 1),
-        lambda: questions.note(parser, Csi(b"?62c")),
-        lambda: questions.expire(parser),
-    ):
-        with pytest.raises(ValueError, match="^the parser is closed$"):
-            use()
+    uses = (lambda: ask(b"", 1), lambda: questions.note(parser, Csi(b"?62c")), expire)
+    assert_raises(ValueError, *uses, match="^the parser is closed$")
     questions.forget(parser)
     assert questions.count == 0

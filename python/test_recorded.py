@@ -5,20 +5,10 @@ import re
 
 import pytest
 
-from hedrugal import (
-    Dialect,
-    EncodeError,
-    KeyboardEncoding,
-    KeyCode,
-    KeyCodeEncodeModes,
-    Modifiers,
-    MouseReport,
-    Parser,
-    Paste,
-    encode,
-)
-from cases import line_of, key_of, set_of
-from helpers import read
+from hedrugal import Dialect, EncodeError, KeyboardEncoding, KeyCode, KeyCodeEncodeModes
+from hedrugal import Modifiers, MouseReport, Parser, Paste, encode
+from cases import cuts_of, key_of, line_of, set_of
+from helpers import assert_raises, read
 
 
 @functools.lru_cache(maxsize=None)
@@ -29,12 +19,6 @@ def recorded(event):
         return f"paste {len(text)}:{text.hex()}"
     words = line_of(event).split(" ")
     return " ".join(words[:5] if isinstance(event, MouseReport) else words)
-
-
-def answer(events, rest):
-    """The events, and the bytes that stay buffered, as they are recorded."""
-    told = [",".join(map(recorded, events)), f"; {rest.hex()}" if rest else ""]
-    return " ".join(it for it in told if it) or "nothing"
 
 
 def check_file(file, check_line):
@@ -51,36 +35,36 @@ class Feeder:
     def __init__(self, parser):
         self.parser = parser
 
-    def check(self, pieces, more, wanted):
-        """Feeds pieces, the last with this flag, and compares all that they give."""
+    def begin(self):
         self.parser.reset()
+        self.fed = b""
+
+    def feed(self, pieces, more):
+        """Feeds pieces, the last with this flag. Returns the events, and the bytes that stay
+        buffered, as they are recorded."""
         events = [event for piece in pieces for event in self.parser.feed(piece)]
         events += [] if more else self.parser.flush()
-        fed = b"".join(pieces)
-        assert answer(events, fed[len(fed) - self.parser.waiting_len :]) == wanted, pieces
+        self.fed += b"".join(pieces)
+        rest = self.fed[len(self.fed) - self.parser.waiting_len :].hex()
+        told = [",".join(map(recorded, events)), f"; {rest}" if rest else ""]
+        return " ".join(filter(None, told)) or "nothing"
+
+    def check(self, pieces, more, wanted):
+        self.begin()
+        assert self.feed(pieces, more) == wanted, pieces
         return 1
 
     def check_text(self, text, wanted):
-        """Feeds a text whole, cut in two at each place, each with and without a flush, and byte by
-        byte."""
-        count = self.check([text], False, wanted) + self.check([text, b""], False, wanted)
-        for place in range(1, len(text)):
-            count += self.check([text[:place], text[place:]], False, wanted)
-            count += self.check([text[:place], text[place:], b""], False, wanted)
-        return count + self.check(
-            [*(text[at : at + 1] for at in range(len(text))), b""], False, wanted
-        )
+        """Feeds a text cut in each way, with the last piece or an empty one before the flush."""
+        ways = [[*pieces, *last] for pieces in cuts_of(text) for last in ([], [b""])]
+        return sum(self.check(pieces, False, wanted) for pieces in ways)
 
     def check_steps(self, steps, answers):
         """Feeds texts one after another, each with a flag, and compares what each gives."""
         assert len(steps) == len(answers)
-        self.parser.reset()
-        fed = b""
+        self.begin()
         for step, wanted in zip(steps, answers):
-            data = bytes.fromhex(step[1:])
-            fed += data
-            events = self.parser.feed(data) + ([] if step[0] == "+" else self.parser.flush())
-            assert answer(events, fed[len(fed) - self.parser.waiting_len :]) == wanted, fed
+            assert self.feed([bytes.fromhex(step[1:])], step[0] == "+") == wanted, self.fed
         return len(steps)
 
     def check_rows(self, line):
@@ -121,8 +105,7 @@ def check_encoding(key, modifiers, mode, text):
     )
     assert encode(key, modifiers, modes, is_down=False) == b""
     if text == "refused":
-        with pytest.raises(EncodeError):
-            encode(key, modifiers, modes)
+        assert_raises(EncodeError, lambda: encode(key, modifiers, modes))
     else:
         wanted = b"" if text == "-" else bytes.fromhex(text)
         assert encode(key, modifiers, modes) == wanted, (key, modifiers, mode)

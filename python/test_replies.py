@@ -2,15 +2,12 @@
 import base64
 import pickle
 import random
-from unittest import mock
 
 import pytest
 
 import hedrugal
 from hedrugal import Apc, ClipboardReply, Csi, Dcs, Osc, Parser, StringKind, StringPart
 from hedrugal import VersionReply, reply
-from hedrugal._calls import STATUS_NO_MEMORY
-from hedrugal._library import library
 from cases import cases_of, event_by, line_of
 
 
@@ -25,21 +22,13 @@ def test_replies_are_values():
         assert pickle.loads(pickle.dumps(it)) == it
 
 
-@pytest.mark.parametrize(
-    "event",
-    [
-        Apc(b"11;rgb:0/0/0"),
-        StringPart(StringKind.OSC, b"11;rgb:0/0/0"),
-        Csi(b""),
-        Osc(b""),
-        Dcs(b""),
-        Osc(b"?62c"),
-        Csi(b"11;rgb:0/0/0"),
-    ],
-    ids=repr,
-)
+# No bytes are read as these.
+NO_REPLIES = [Csi(b""), Osc(b""), Dcs(b""), Osc(b"?62c"), Csi(b"11;rgb:0/0/0")]
+NO_REPLIES += [Apc(b"11;rgb:0/0/0"), StringPart(StringKind.OSC, b"11;rgb:0/0/0")]
+
+
+@pytest.mark.parametrize("event", NO_REPLIES, ids=repr)
 def test_no_reply(event):
-    """No bytes are read as these."""
     assert reply(event) is None
 
 
@@ -62,13 +51,6 @@ def test_long_clipboard():
         sent = b"\x1b]52;c;" + base64.b64encode(data[:48000]) + b"\x07"
         [event] = parser.feed(sent)
     assert reply(event) == ClipboardReply("c", data[:48000])
-
-
-def test_refused_memory():
-    answer = mock.Mock(return_value=STATUS_NO_MEMORY)
-    with mock.patch.object(library, "hed_read_reply", answer):
-        with pytest.raises(MemoryError):
-            reply(Csi(b"?62c"))
 
 
 def test_exported():

@@ -1,5 +1,4 @@
 """Threads share a parser or a map, and a call comes in the middle of another of its own thread."""
-import collections
 import contextlib
 import gc
 import itertools
@@ -7,12 +6,14 @@ import signal
 import sys
 import threading
 import time
+from concurrent.futures import ThreadPoolExecutor
+from unittest import mock
 
 import pytest
 
 import hedrugal
 from hedrugal import Dialect, Exact, KeyMap, Parser, Waiting
-from helpers import EVENTS, SECONDS, STREAM, all_of, assert_prints, uses_of
+from helpers import EVENTS, SECONDS, STREAM, all_of, assert_prints, assert_raises, cut, uses_of
 
 THREADS = 4
 
@@ -28,20 +29,9 @@ def often():
 
 def run_all(work):
     """Runs it in several threads, and returns what each returned or raised."""
-    results = []
-
-    def run():
-        try:
-            results.append(work())
-        except Exception as error:
-            results.append(error)
-
-    threads = [threading.Thread(target=run) for _ in range(THREADS)]
-    for it in threads:
-        it.start()
-    for it in threads:
-        it.join(SECONDS)
-    return results
+    threads = ThreadPoolExecutor(THREADS)
+    works = [threads.submit(work) for _ in range(THREADS)]
+    return [it.exception(SECONDS) or it.result() for it in works]
 
 
 def test_feed(parser, often):
@@ -91,37 +81,29 @@ def test_close_in_any_thread(often):
         parser, keys, begun = Parser(), KeyMap(), threading.Barrier(THREADS)
 
         def work():
-            begun.wait(SECONDS)
+            closes = begun.wait(SECONDS) == 0
             with contextlib.suppress(ValueError):
                 while True:
                     assert parser.feed(STREAM[:-1]) == EVENTS[:-1]
                     keys.insert(STREAM, 1)
                     assert keys.lookup(STREAM) == Exact(len(STREAM), 1)
-                    if threading.current_thread() is closer:
+                    if closes:
                         parser.close()
                         keys.close()
 
-        closer = None
-
-        def run():
-            nonlocal closer
-            closer = closer or threading.current_thread()
-            work()
-
-        assert run_all(run) == [None] * THREADS
+        assert run_all(work) == [None] * THREADS
         assert parser.closed and keys.closed
 
 
 @pytest.mark.parametrize("dialect", Dialect)
 def test_each_has_a_parser(dialect, often):
     stream = (STREAM + b"[A") * 20
-    pieces = [stream[at : at + 7] for at in range(0, len(stream), 7)]
     with Parser(dialect) as parser:
         wanted = all_of(parser, stream)
 
     def work():
         with Parser(dialect) as parser:
-            return [all_of(parser, *pieces) for _ in range(50)]
+            return [all_of(parser, *cut(stream, 7)) for _ in range(50)]
 
     assert wanted and run_all(work) == [[wanted] * 50] * THREADS
 
@@ -162,23 +144,17 @@ def test_close_and_remake(dialect, often):
     parser.close()
 
 
-class InTheMiddle:
+def in_the_middle(does):
     """Has it done while a parser makes its next event."""
+    events, known, todo = mock.MagicMock(), hedrugal.parser._events, [does]
 
-    def __init__(self, does):
-        self.does, self.events = does, hedrugal.parser._events
+    def event_of(record):
+        if todo:
+            todo.pop()()
+        return known[record]
 
-    def __getitem__(self, record):
-        hedrugal.parser._events = self.events
-        does, self.does = self.does, lambda: None
-        does()
-        return self.events[record]
-
-    def __enter__(self):
-        hedrugal.parser._events = self
-
-    def __exit__(self, *_):
-        hedrugal.parser._events = self.events
+    events.__getitem__.side_effect = event_of
+    return mock.patch.object(hedrugal.parser, "_events", events)
 
 
 def test_close_waits(parser):
@@ -186,7 +162,7 @@ def test_close_waits(parser):
     events = []
     one = threading.Thread(target=lambda: events.extend(parser.feed(STREAM)))
     other = threading.Thread(target=lambda: (parser.close(), closed.set()))
-    with InTheMiddle(lambda: (inside.set(), goes_on.wait(SECONDS))):
+    with in_the_middle(lambda: (inside.set(), goes_on.wait(SECONDS))):
         one.start()
         assert inside.wait(SECONDS)
     other.start()
@@ -203,23 +179,20 @@ def test_signals(parser):
     asks += " shrink_to timeout waiting waiting_len"
     refused = [use for name, use in uses_of(parser).items() if name not in asks.split()]
     refused.append(parser.close)
-    seen = collections.Counter()
+    seen = []
 
     def handle(*_):
-        for use in refused:
-            with pytest.raises(RuntimeError, match="^the parser is in the middle of a call of "):
-                use()
-            seen["refused"] += 1
+        assert_raises(RuntimeError, *refused, match="^the parser is in the middle of a call of ")
         parser.shrink_to()
         parser.expect_position()
         assert parser.timeout() == 0
-        seen[repr(parser), parser.waiting_len] += 1
+        seen.append((repr(parser), parser.waiting_len))
 
     before = signal.signal(signal.SIGUSR1, handle)
     try:
-        with InTheMiddle(lambda: signal.raise_signal(signal.SIGUSR1)):
+        with in_the_middle(lambda: signal.raise_signal(signal.SIGUSR1)):
             assert all_of(parser, STREAM) == EVENTS
-        assert seen == {"refused": len(refused), ("<Parser, 1 bytes are buffered>", 1): 1}
+        assert seen == [("<Parser, 1 bytes are buffered>", 1)]
     finally:
         signal.signal(signal.SIGUSR1, before)
 
@@ -231,7 +204,7 @@ def test_values_that_use_the_map_as_they_go():
     class Uses:
         def __del__(self):
             with contextlib.suppress(ValueError):
-                keys.insert(b"other", None)
+                keys.insert(b"other", len(keys))
             seen.append(keys.closed)
 
     keys = KeyMap()
@@ -239,7 +212,7 @@ def test_values_that_use_the_map_as_they_go():
         keys.insert(b"key", value)
     del value
     gc.collect()
-    assert (seen, len(keys)) == ([False, False], 2)
+    assert (seen, len(keys), keys.lookup(b"other")) == ([False, False], 2, Exact(5, 2))
     keys.close()
     assert seen == [False, False, True]
 
@@ -247,9 +220,8 @@ def test_values_that_use_the_map_as_they_go():
 def test_map_in_the_middle_of_a_call():
     with KeyMap() as keys:
         with keys.lock:
-            for use in (lambda: keys.insert(b"q", 1), keys.close):
-                with pytest.raises(RuntimeError, match="^the map is in the middle of a call of "):
-                    use()
+            uses = (lambda: keys.insert(b"q", 1), keys.close)
+            assert_raises(RuntimeError, *uses, match="^the map is in the middle of a call of ")
             assert (len(keys), repr(keys)) == (0, "<KeyMap, 0 keys>")
 
 

@@ -4,35 +4,8 @@ import math
 import random
 import time
 
-import pytest
-
 from hedrugal import Age, Timer
-
-# Notes of one timer: the time, the limit and its age, and letters for fed, taken and empty. Then a
-# time, and what is left of the limit at it.
-NOTES = [
-    # The pause of a chord: each press begins it again.
-    (5, 1, Age.LAST, "f", 5, 1.0),
-    (5, 1, Age.LAST, "", 5.4, 0.6),
-    (5.4, 1, Age.LAST, "f", 6.399, 0.001),
-    (6.4, 1, Age.LAST, "", 6.4, 0.0),
-    (6.4, None, Age.LAST, "te", 9, None),
-    # While the clock steps back no time passes.
-    (9, 1, Age.LAST, "f", 9.3, 0.7),
-    (9.3, 1, Age.LAST, "", 0.1, 0.7),
-    (0.1, 1, Age.LAST, "", 0, 0.7),
-    (0.1, 1, Age.LAST, "", 0.799, 0.001),
-    # What is fed doesn't put off what is at the front.
-    (1, 0.3, Age.FRONT, "te", 2, 0.0),
-    (3, 0.3, Age.FRONT, "f", 3, 0.3),
-    (3.2, 0.3, Age.FRONT, "f", 3.2, 0.1),
-    (3.25, 0.3, Age.FRONT, "t", 3.35, 0.2),
-    # A limit of 0, and the longest times.
-    (3.35, 0, Age.FRONT, "f", 3.35, 0.0),
-    (3.35, math.inf, Age.LAST, "f", 3.35, 2147483.647),
-    (3.35, 1.0019, Age.LAST, "f", 3.35, 1.001),
-    (3.35, 1e99, Age.LAST, "", math.inf, 0.0),
-]
+from helpers import assert_raises, assert_refused
 
 
 def note(timer, now, limit, by, what):
@@ -43,11 +16,16 @@ def assert_left(timer, now, left):
     assert (timer.timeout(now), timer.is_due(now)) == (left, left == 0)
 
 
-def test_how_long_to_wait():
+def test_limits_are_whole_milliseconds():
+    """At most as many as the library has."""
     timer = Timer()
     assert_left(timer, 7, None)
-    for noted, limit, by, what, asked, left in NOTES:
-        note(timer, noted, limit, by, what)
+    for limit, asked, left in [
+        (math.inf, 3.35, 2147483.647),
+        (1.0019, 3.35, 1.001),
+        (1e99, math.inf, 0),
+    ]:
+        note(timer, 3.35, limit, Age.LAST, "f")
         assert_left(timer, asked, left)
 
 
@@ -92,14 +70,10 @@ def test_what_is_no_time():
     """A call that raises changes nothing."""
     timer = Timer()
     timer.note(0.05, fed=True, now=1)
-    for wrong, error in [(-1, ValueError), (math.nan, ValueError), ("1", TypeError)]:
-        for call in (timer.timeout, timer.is_due, timer.note):
-            with pytest.raises(error):
-                call(wrong)
-        with pytest.raises(error):
-            timer.note(None, now=wrong)
-    with pytest.raises(TypeError, match="^an Age is required, not int$"):
-        timer.note(1, 1)
+    for call in (timer.timeout, timer.is_due, timer.note, lambda it: timer.note(None, now=it)):
+        assert_refused(ValueError, call, -1, math.nan)
+        assert_refused(TypeError, call, "1")
+    assert_raises(TypeError, lambda: timer.note(1, 1), match="^an Age is required, not int$")
     assert timer.timeout(1.02) == 0.03
 
 

@@ -1,24 +1,21 @@
-"""Events that are written, and read back; and what a terminal replies."""
+"""What a terminal sends: events that are written, and read back, replies, pastes and reports of the
+mouse."""
 import itertools
-from unittest import mock
 
 import pytest
 
 from hedrugal import ColourScheme, Csi, CursorPosition, Dcs, Dialect, EncodeError, EraseByte
 from hedrugal import FocusGained, KeyboardFlags, KeyCode, KeyEventKind, KeyReport
 from hedrugal import KittyKeyboardFlags, KittyModifiers, Parser
-from hedrugal import Modifiers, MouseButtons, MouseKind, MouseReport, NewlineByte, Osc, Paste
-from hedrugal import Reading, StringCut, StringKind, StringPart, encode, encode_colour_scheme
-from hedrugal import encode_cursor_position, encode_device_attributes, encode_event
-from hedrugal._library import library
+from hedrugal import Modifiers, MouseButton, MouseButtons, MouseEncoding, MouseKind, MouseReport
+from hedrugal import MouseTracking, NewlineByte, Osc, Paste, Reading, SentMouse, StringCut
+from hedrugal import StringKind, StringPart, encode, encode_colour_scheme, encode_cursor_position
+from hedrugal import encode_device_attributes, encode_event, encode_paste
 from cases import parser_by
-from helpers import all_of, assert_read_back
+from helpers import all_of, assert_raises, assert_read_back, assert_refused
 
 SHIFT, ALT, CTRL = KittyModifiers.SHIFT, KittyModifiers.ALT, KittyModifiers.CTRL
-SUPER, NONE = KittyModifiers.SUPER, MouseButtons.NONE
-REPEAT, RELEASE = KeyEventKind.REPEAT, KeyEventKind.RELEASE
-UP, BACKSPACE = KeyCode.UP_ARROW, KeyCode.BACKSPACE
-PRIVATE = "\ue000"
+NONE, PRIVATE = MouseButtons.NONE, "\ue000"
 READINGS = [
     Reading(),
     Reading(x10_mouse=True, questions=1),
@@ -41,7 +38,7 @@ UNWRITTEN = [
     KeyReport(57358),
     KeyReport("\0", SHIFT),
     KeyReport("\r"),
-    KeyReport(PRIVATE, kind=RELEASE),
+    KeyReport(PRIVATE, kind=KeyEventKind.RELEASE),
     KeyReport(PRIVATE, text="a"),
     KeyReport(PRIVATE, shifted=PRIVATE),
     KeyReport(PRIVATE, SHIFT, shifted="a"),
@@ -87,18 +84,16 @@ def test_events_of_another_reading():
         (Reading(Dialect.TERMWIZ), FocusGained()),
     ]:
         for event in events:
-            name = type(event).__name__
-            with pytest.raises(EncodeError, match=f"no bytes are read as this {name}"):
-                encode_event(event, parser_by(reading))
+            why = f"no bytes are read as this {type(event).__name__}"
+            assert_raises(EncodeError, lambda: encode_event(event, parser_by(reading)), match=why)
 
 
 def test_what_is_buffered_stays():
     with Parser() as parser:
         assert parser.feed(b"\x1b[1;") == []
         assert [encode_event(KeyReport("a"), parser) for _ in range(2)] == [b"a"] * 2
-        assert parser.feed(b"5A") == [KeyReport(UP, CTRL)]
-    with pytest.raises(ValueError):
-        encode_event(KeyReport("a"), parser)
+        assert parser.feed(b"5A") == [KeyReport(KeyCode.UP_ARROW, CTRL)]
+    assert_raises(ValueError, lambda: encode_event(KeyReport("a"), parser))
 
 
 @pytest.mark.parametrize("reading", READINGS)
@@ -114,31 +109,40 @@ def test_too_long(event):
         encode_event(event, Parser())
 
 
+# Forms of sequences of every kind, and what each is filled with.
+NUMBERS = (b"", b"0", b"1", b"27", b"97", b"57358", b"57427", b"0097", b"1114111")
+PARAMETERS = (NUMBERS, (b"", b"1", b"5:2", b"300"), b"AEHPRSZu~cMt")
+FORMS = [
+    (b"%c%c", b"\x1ba\xc3\xff", range(256)),
+    (b"\x1b[%b;%b%c", *PARAMETERS),
+    (b"\x1b[%b;%b;98:99%c", *PARAMETERS),
+    (b"\x1b[%b:65:66;%b%c", *PARAMETERS),
+    (b"\x1b[<%d;3;4%c", range(200), b"Mm"),
+    (b"\x1b[%d;3;4M", range(200)),
+    (b"\x1bO%c%c", b"01;258PjMX", b"01;258PjMX"),
+    (b"\x1b[%d%c", range(10), b"ADGPRSZ"),
+    (b"\x1b[27;%d;%d~", (2, 5, 10), (0, 8, 65, 57344)),
+    (b"\x1b[%d%c", range(40), b"^@$"),
+    (b"\x1b[[%c", range(64, 96)),
+    (b"\x1b]l%b%b", (b"", b"t" * 251, b"t" * 252), (b"\x07", b"\x1b\\")),
+    (b"\x1b[200~a\xffb\x1b[201~",),
+]
+
+
 def texts():
     """Sequences of every kind, whole and broken off."""
-    table = Parser().entries()
-    yield from (entry.bytes for entry in table)
-    yield from (b"\x1b" + entry.bytes for entry in itertools.islice(table, 0, None, 7))
-    yield from (bytes([first, second]) for first in b"\x1ba\xc3\xff" for second in range(256))
-    numbers = (b"", b"0", b"1", b"27", b"97", b"57358", b"57427", b"0097", b"1114111")
-    for first, second, last in itertools.product(
-        numbers, (b"", b"1", b"5:2", b"300"), b"AEHPRSZu~cMt"
-    ):
-        yield b"\x1b[%b;%b%c" % (first, second, last)
-        yield b"\x1b[%b;%b;98:99%c" % (first, second, last)
-        yield b"\x1b[%b:65:66;%b%c" % (first, second, last)
-    for code, last in itertools.product(range(200), b"Mm"):
-        yield b"\x1b[<%d;3;4%c" % (code, last)
-        yield b"\x1b[%d;3;4M" % code
-    yield from (b"\x1bO" + bytes(letters) for letters in itertools.product(b"01;258PjMX", repeat=2))
-    yield from (b"\x1b[%d%c" % (number, last) for number in range(10) for last in b"ADGPRSZ")
-    yield from (b"\x1b[27;%d;%d~" % it for it in itertools.product((2, 5, 10), (0, 8, 65, 57344)))
-    yield from (b"\x1b[%d%c" % (number, last) for number in range(40) for last in b"^@$")
-    yield from (b"\x1b[[" + bytes([letter]) for letter in range(64, 96))
-    yield from (
-        b"\x1b]l" + b"t" * size + end for size in (0, 251, 252) for end in (b"\x07", b"\x1b\\")
-    )
-    yield b"\x1b[200~a\xffb\x1b[201~"
+    table = [entry.bytes for entry in Parser().entries()]
+    yield from table
+    yield from (b"\x1b" + it for it in table[::7])
+    for form, *parts in FORMS:
+        yield from (form % it for it in itertools.product(*parts))
+
+
+def anew(parser, reading):
+    """A parser that was reset, and reads so."""
+    parser.reset()
+    parser.reading = reading
+    return parser
 
 
 @pytest.mark.parametrize("reading", [*READINGS, Reading(Dialect.TERMWIZ)])
@@ -146,16 +150,13 @@ def test_what_is_read_is_written(reading):
     """Each event that a parser emits is written, and what is written is that event."""
     parser, seen = Parser(), set()
     for text in texts():
-        parser.reset()
-        parser.reading = reading
-        seen.update(all_of(parser, text))
-        parser.reset()
+        seen.update(all_of(anew(parser, reading), text))
     whole = [event for event in seen if not isinstance(event, (StringPart, StringCut))]
     assert len(whole) > 1000
+    anew(parser, reading)
     for event in whole:
         parser.reading = reading
-        sent = encode_event(event, parser)
-        assert_read_back(parser, event, sent)
+        assert_read_back(parser, event, encode_event(event, parser))
 
 
 def typed_text(key, held, reads):
@@ -171,9 +172,7 @@ def test_first_rows(reading):
     parser, first = Parser(), {}
 
     def read(text):
-        parser.reset()
-        parser.reading = reading
-        events = all_of(parser, text)
+        events = all_of(anew(parser, reading), text)
         return None if parser.waiting_len else events
 
     for entry in Parser().entries():
@@ -183,9 +182,7 @@ def test_first_rows(reading):
     assert len(first) > 1000
     for event, row in first.items():
         typed = typed_text(event.key, event.modifiers, lambda text: read(text) == [event])
-        parser.reset()
-        parser.reading = reading
-        assert encode_event(event, parser) == (typed or row)
+        assert encode_event(event, anew(parser, reading)) == (typed or row)
 
 
 def test_replies():
@@ -197,42 +194,49 @@ def test_replies():
     assert encode_device_attributes([]) == b"\x1b[?c"
     assert encode_device_attributes([62, 4, 22]) == b"\x1b[?62;4;22c"
     assert len(encode_device_attributes([65535] * 42)) == 255
-    with pytest.raises(EncodeError, match="is too long"):
-        encode_device_attributes([65535] * 43)
+    long = [65535] * 43
+    assert_refused(EncodeError, encode_device_attributes, long, match="is too long")
 
 
 def test_bad_values():
-    parser = Parser()
-    for event in (
-        None,
-        "a",
-        KeyReport("a", None),
+    def write(event):
+        return encode_event(event, Parser())
+
+    wrong = [
         MouseReport(1, 1, None, NONE, MouseKind.MOVE),
         MouseReport(1, 1, Modifiers.NONE, None, MouseKind.MOVE),
         MouseReport(1, 1, Modifiers.NONE, NONE, 4),
-    ):
-        with pytest.raises(TypeError):
-            encode_event(event, parser)
-    with pytest.raises(TypeError):
-        encode_event(FocusGained(), Dialect.EXTENDED)
-    for event in (
-        MouseReport(-1, 1, Modifiers.NONE, NONE, MouseKind.MOVE),
-        side(0, MouseKind.PRESS, 1, 1),
-        CursorPosition(1, 65536),
-        side(300, MouseKind.PRESS, 1, 1),
-    ):
-        with pytest.raises(EncodeError):
-            encode_event(event, parser)
-    with pytest.raises(EncodeError):
-        encode_event(Paste("\ud800"), parser)
-    with pytest.raises(EncodeError):
-        encode_cursor_position(-1, 1)
-    with pytest.raises(TypeError):
-        encode_colour_scheme("dark")
+    ]
+    assert_refused(TypeError, write, None, "a", KeyReport("a", None), *wrong)
+    assert_raises(TypeError, lambda: encode_event(FocusGained(), Dialect.EXTENDED))
+    moved = MouseReport(-1, 1, Modifiers.NONE, NONE, MouseKind.MOVE)
+    sides = (side(number, MouseKind.PRESS, 1, 1) for number in (0, 300))
+    assert_refused(EncodeError, write, moved, *sides, CursorPosition(1, 65536), Paste("\ud800"))
+    assert_raises(EncodeError, lambda: encode_cursor_position(-1, 1))
+    assert_refused(TypeError, encode_colour_scheme, "dark")
 
 
-@pytest.mark.parametrize("answer, error", [(2, MemoryError), (99, RuntimeError)])
-def test_answers(answer, error):
-    with mock.patch.object(library, "hed_encode_event", lambda *_: answer):
-        with pytest.raises(error):
-            encode_event(FocusGained(), Parser())
+def test_a_long_paste(parser):
+    text = "␛" * 1000
+    assert encode_paste(b"\x1b" * 1000, False) == text.encode()
+    assert parser.feed(encode_paste(b"\x1b" * 1000, True)) == [Paste(text)]
+
+
+def test_a_text_of_2_mb(parser):
+    text = "x" * (2 << 20)
+    sent = encode_paste(text.encode(), True)
+    assert parser.feed(sent) == [Paste(text)]
+    assert encode_event(Paste(text), parser) == sent
+    assert KeyReport("x", text=text).encode(KittyKeyboardFlags.NONE) == text.encode()
+
+
+def test_what_is_no_report():
+    def send(report, encoding=MouseEncoding.SGR):
+        return report.encode(MouseTracking.ANY, encoding)
+
+    none, far = MouseButton.NONE, SentMouse(1, 224, MouseButton.BUTTON1_PRESS)
+    too_far = "the place 1, 224 is too far"
+    assert_raises(EncodeError, lambda: send(far, MouseEncoding.DEFAULT), match=too_far)
+    assert_refused(EncodeError, send, SentMouse(65536, 1, none), SentMouse(1, -1, none))
+    assert_refused(TypeError, send, SentMouse(1, 1, 0), SentMouse(1, 1, none, 2))
+    assert_raises(TypeError, lambda: SentMouse(1, 1, none).encode(3, MouseEncoding.SGR))

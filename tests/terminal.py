@@ -8,7 +8,6 @@ import re
 import signal
 import struct
 import subprocess
-import sys
 import termios
 import time
 import tty
@@ -26,19 +25,6 @@ START, END = b"\033[200~", b"\033[201~"
 END_OF_OUTPUT = b"\x1e\x1e"
 ENDING_SIGNALS = [signal.SIGHUP, signal.SIGINT, signal.SIGQUIT, signal.SIGTERM]
 IFLAG, LFLAG, CC = 0, 3, 6
-# Runs a program, and then prints what is left for the shell.
-PRINT_LEFT = """import os, termios, time, tty
-time.sleep(0.3)
-before = termios.tcgetattr(0)
-tty.setraw(0, termios.TCSANOW)
-os.set_blocking(0, False)
-try:
-    left = os.read(0, 1000)
-except BlockingIOError:
-    left = b""
-termios.tcsetattr(0, termios.TCSANOW, before)
-print("left", left)"""
-BEFORE_SHELL = ["sh", "-c", f'trap : TERM; "$0" "$@"; exec {sys.executable} -c \'{PRINT_LEFT}\'']
 # Linux's request that opens the other end of a pseudo-terminal.
 TIOCGPTPEER = 0x5441
 
@@ -117,6 +103,12 @@ class Terminal(fdspawn):
     settings say which byte Backspace sends, whether CR that comes is turned into LF, which flags of
     the input are on, whether it echoes, and whether a read of nothing waits."""
 
+    # Descriptors that the shell doesn't have.
+    hidden = ()
+    # The line that the program prints before all else; and what switches modes or asks.
+    FIRST = None
+    SWITCH = re.compile(rb"\033\[[?<>]?[\d;]*[hlnuc]|\033\[>4(;\d)?m|\033\]11;\?\033\\")
+
     def __init__(
         self, words, size=(80, 24), is_orphaned=False, env=None, is_stopped=False, **settings
     ):
@@ -132,7 +124,8 @@ class Terminal(fdspawn):
         self.shell = os.fork()
         if not self.shell:
             try:
-                os.close(ours)
+                for it in (ours, *self.hidden):
+                    os.close(it)
                 self.told.close()
                 os.login_tty(terminal)
                 run_shell(words, env, None if is_orphaned else 0, told)
@@ -172,9 +165,21 @@ class Terminal(fdspawn):
         return not settings[LFLAG] & off and not settings[IFLAG] & (termios.ICRNL | termios.IXON)
 
     def modes(self):
-        """The modes that the program switched on and not off again."""
+        """The modes that the program switched on and not off again, without those that a terminal
+        begins with: a line wraps, and the cursor is shown."""
         switched = dict(re.findall(rb"\033\[\?(\d+)([hl])", self.output))
-        return {int(mode) for mode, to in switched.items() if to == b"h"}
+        return {int(mode) for mode, to in switched.items() if to == b"h"} - {7, 25}
+
+    def plain(self):
+        """The output without what the program asked and switched."""
+        return self.SWITCH.sub(b"", self.output).decode()
+
+    def lines(self):
+        return self.plain().split("\r\n")[:-1]
+
+    def shown(self):
+        """The lines below the first."""
+        return self.lines()[1:]
 
     def let_end_input(self):
         """Sets the terminal so that ^D ends the input."""
@@ -207,21 +212,24 @@ class Terminal(fdspawn):
     def wait_for_raw(self):
         self.wait_for(self.is_raw, "raw mode")
 
-    def hang_up(self):
+    def wait_for_modes(self):
+        self.wait_for(self.modes, "modes")
+
+    def hang_up(self, descriptor=None):
         with open(os.devnull, "rb") as nothing:
-            os.dup2(nothing.fileno(), self.child_fd)
+            os.dup2(nothing.fileno(), descriptor or self.child_fd)
 
     def play(self, steps):
-        """Types bytes, waits for a text that the program writes next, or until the lines below its
-        first are those of a list, sends a signal, sets a size, calls a function with the terminal,
-        and pauses."""
+        """Types bytes, waits for a text that the program writes next, or until what it shows is a
+        list of lines, sends a signal, sets a size, calls a function with the terminal, and
+        pauses."""
         for step in steps:
             if isinstance(step, bytes):
                 self.send(step)
             elif isinstance(step, str):
                 self.expect_exact(step)
             elif isinstance(step, list):
-                self.wait_for(lambda: self.lines() == [self.FIRST, *step], f"lines {step!r}")
+                self.wait_for(lambda: self.shown() == step, f"lines {step!r}")
             elif isinstance(step, tuple):
                 self.resize(*step)
             elif isinstance(step, signal.Signals):
@@ -237,6 +245,9 @@ class Terminal(fdspawn):
             if self.expect([TIMEOUT, EOF], timeout=0.02):
                 time.sleep(0.02)
             assert time.monotonic() < end, f"no {what} in {SECONDS} s after {self.output[-300:]!r}"
+
+    def start_clock(self):
+        self.began = time.monotonic()
 
     def kill(self, number):
         os.kill(self.job, number)
@@ -264,7 +275,7 @@ class Terminal(fdspawn):
         if number == signal.SIGSTOP:
             termios.tcsetattr(self.child_fd, termios.TCSANOW, self.settings_before)
             return
-        assert self.settings() == self.settings_before
+        self.check_settings()
         self.wait_for(lambda: not self.modes(), "end of the modes")
 
     def stop_and_continue(self, number=signal.SIGTSTP):
@@ -283,6 +294,10 @@ class Terminal(fdspawn):
         """The letter of the system for what it does."""
         return stat_of(self.job)[0]
 
+    def processor_ticks(self):
+        """Of the processor, a hundred in a second."""
+        return sum(map(int, stat_of(self.job)[11:13]))
+
     def wait_for_end(self):
         """The status with which the program ends, below zero for a signal. Its output is read."""
         self.wait_for(self.told.poll, "end")
@@ -292,11 +307,28 @@ class Terminal(fdspawn):
         self.expect([END_OF_OUTPUT, EOF])
         return status
 
-    def check_end(self, status):
-        """It ends so, and restores the terminal."""
-        assert self.wait_for_end() == status
+    def check_settings(self):
         assert self.settings() == self.settings_before
-        assert not self.modes()
+
+    def check_end(self, status, has_output=True):
+        """It ends so, and restores the terminal: its modes too, unless nobody takes its output."""
+        assert self.wait_for_end() == status
+        self.check_settings()
+        assert not has_output or not self.modes()
+
+    def ends_with(self, *lines, status=0):
+        """The same, and it has printed these lines behind its first."""
+        self.check_end(status)
+        assert self.lines() == [self.FIRST, *lines]
+
+
+def took(least, most):
+    """A step: so many seconds have passed since the clock was started."""
+
+    def check(it):
+        assert least < time.monotonic() - it.began < most
+
+    return check
 
 
 # Steps to play. SIGSTOP stops it, and nobody touches the terminal meanwhile.

@@ -1,4 +1,5 @@
 """The lines of tests/terminals: what terminals sent. Its README.md says what the columns mean."""
+import functools
 import re
 from pathlib import Path
 from typing import NamedTuple
@@ -48,6 +49,36 @@ def load(path):
         numbers = int(count), int(everyday)
         found.append(Line(kind, layout, modes, bytes.fromhex(digits), *rest, *numbers))
     return head + "\n", found
+
+
+def recorded(name, mode, kind="press"):
+    """The presses of a terminal in a mode, and the bytes that it sent for each."""
+    _, lines = load(FOLDER / f"{name}.tsv")
+    told = [it for it in lines if it.kind == kind and mode in it.modes.split(",") and not it.layout]
+    return {press: it.bytes for it in told for press in it.what.split()}
+
+
+@functools.cache
+def load_all():
+    """The version of each terminal, and its lines."""
+    found = {}
+    for path in data_files():
+        head, lines = load(path)
+        found[path.stem] = (re.fullmatch(r"# \S+: (\S+) .*\n", head)[1], lines)
+    return found
+
+
+def lines_of(kind, *terminals):
+    """The lines of a kind of these terminals or of all, each with its terminal."""
+    names = terminals or load_all()
+    return [(name, it) for name in names for it in load_all()[name][1] if it.kind == kind]
+
+
+def mouse_done(line):
+    """The modifiers that were held, the button, and what was done with it."""
+    pressed, _, what = line.what.replace("-corner", "").rpartition(" ")
+    *held, button = pressed.split("+")
+    return held, button, what
 
 
 def left_out(test):

@@ -39,17 +39,6 @@ def read_pieces(reader, pieces):
     """The events of pieces, and how many bytes stay buffered after a pause."""
     parser, reading = parsers()[reader]
     parser.reading = reading
-    return events_of(parser, pieces)
-
-
-def read_by(reading, pieces):
-    """The same by any reading."""
-    parser, _ = parsers()["extended"]
-    parser.reading = reading
-    return events_of(parser, pieces)
-
-
-def events_of(parser, pieces):
     events = [event for piece in pieces for event in parser.feed(piece, 0)]
     events += parser.idle(PAUSE)
     rest = parser.waiting_len

@@ -2,7 +2,7 @@
 import re
 from pathlib import Path
 
-from terminal_data import FOLDER, KEY_MODES, data_files, is_kitty, load
+from terminal_data import FOLDER, KEY_MODES, is_kitty
 
 DOCUMENT = Path(__file__).resolve().parent.parent / "docs/TERMINALS.md"
 TITLES = {
@@ -57,15 +57,6 @@ QUESTIONS = {
 }
 
 
-def load_all():
-    """The version of each terminal, and its lines."""
-    found = {}
-    for path in data_files():
-        head, lines = load(path)
-        found[path.stem] = (re.fullmatch(r"# \S+: (\S+) .*\n", head)[1], lines)
-    return found
-
-
 def set_up(terminal, line):
     """A terminal with a layout, if it isn't that of the United States."""
     return f"{terminal} {line.layout}".strip()
@@ -77,15 +68,11 @@ def title(name):
 
 
 def row(*cells):
-    return "| " + " | ".join(cells) + " |\n"
+    return f"| {' | '.join(map(str, cells))} |\n"
 
 
 def table(head, rows):
     return row(*head) + "|" + "---|" * len(head) + "\n" + "".join(row(*it) for it in rows)
-
-
-def percent(good, all_):
-    return str(100 * good // all_)
 
 
 def peers():
@@ -109,8 +96,8 @@ def exact(judged):
         # Those that were measured on other presses are left out.
         goods = goods if measured == counts["presses"] else [None] * len(names)
         goods = [counts[it] for it in ("port", "extended", "reason")] + goods
-        cells = ["" if it is None else percent(it, counts["presses"]) for it in goods]
-        found.setdefault((name, str(counts["presses"]), *cells), []).append(mode)
+        cells = ["" if it is None else 100 * it // counts["presses"] for it in goods]
+        found.setdefault((name, counts["presses"], *cells), []).append(mode)
     rows = ([title(name), ", ".join(modes), *cells] for (name, *cells), modes in found.items())
     head = ("Terminal", "Modes", "Presses", "Termwiz", "Extended", "Reason", *names)
     return table(head, rows)
@@ -120,12 +107,10 @@ def everyday(judged):
     """The figures of all terminals."""
     rows = []
     for name, start in (("all", ""), ("everyday", "everyday ")):
-        presses, good, reason = (
-            sum(it[start + kind] for it in judged.values())
-            for kind in ("presses", "extended", "reason")
-        )
+        kinds = (start + kind for kind in ("presses", "extended", "reason"))
+        presses, good, reason = (sum(it[kind] for it in judged.values()) for kind in kinds)
         shares = f"{100 * good / presses:.1f}", f"{100 * good / (presses - reason):.1f}"
-        rows.append([name, *map(str, (presses, good, reason)), *shares])
+        rows.append([name, presses, good, reason, *shares])
     head = ("", "Presses", "Exact", "With a reason", "Percent exact", "of those without a reason")
     return table(head, rows)
 
@@ -134,24 +119,19 @@ def reasons(files):
     """Of each reason how many byte strings it has, how many presses, and in which terminals."""
     found = {it: {} for it in REASONS}
     for terminal, (_, lines) in files.items():
-        for line in lines:
-            if line.kind == "press" and line.why:
-                kind, _, text = line.why.partition(": ")
-                text = text if kind in ("garbled", "unique") else ""
-                of = found[kind].setdefault(text, [set(), 0, []])
-                of[0].add(line.bytes)
-                of[1] += line.count * len(line.modes.split(","))
-                of[2] += [title(terminal)] * (title(terminal) not in of[2])
-    rows = (
-        (
-            REASONS[kind] + (text and f": {text}"),
-            str(len(strings)),
-            str(count),
-            ", ".join(terminals) if len(terminals) < 5 else f"{len(terminals)} of {len(files)}",
-        )
-        for kind, texts in found.items()
-        for text, (strings, count, terminals) in sorted(texts.items())
-    )
+        for line in (it for it in lines if it.kind == "press" and it.why):
+            kind, _, text = line.why.partition(": ")
+            text = text if kind in ("garbled", "unique") else ""
+            strings, counts, terminals = found[kind].setdefault(text, (set(), [], {}))
+            strings.add(line.bytes)
+            counts.append(line.count * len(line.modes.split(",")))
+            terminals[title(terminal)] = True
+    rows = []
+    for kind, texts in found.items():
+        for text, (strings, counts, terminals) in sorted(texts.items()):
+            few = len(terminals) < 5
+            of = ", ".join(terminals) if few else f"{len(terminals)} of {len(files)}"
+            rows.append([REASONS[kind] + (text and f": {text}"), len(strings), sum(counts), of])
     return table(("What isn't read exactly, and why", "Byte strings", "Presses", "Terminals"), rows)
 
 
@@ -177,16 +157,11 @@ def apart(files):
         told = {mode: is_told(lines, mode, *pair) for mode in KEY_MODES}
         if told["default"]:
             return "always"
-        names = []
-        if told["deckpam"] or told["decckm+deckpam"]:
-            names.append("keypad")
+        names = ["keypad"] * bool(told["deckpam"] or told["decckm+deckpam"])
         names += [it for it in ("mok1", "mok2") if told[it]]
         kitty = [it for it in told if is_kitty(it) and told[it]]
-        if kitty:
-            names.append("kitty" if kitty[0] == "kitty1" else kitty[0])
-        if told["default"] is None and not names:
-            return "?"
-        return " ".join(names) if names else "-"
+        names += ["kitty" if it == "kitty1" else it for it in kitty[:1]]
+        return " ".join(names) or ("?" if told["default"] is None else "-")
 
     rows = ([*it, *(cell(lines, it) for _, lines in files.values())] for it in PAIRS)
     return table(("Press", "and not", *map(title, files)), rows)
@@ -221,30 +196,19 @@ def pastes(files):
 def replies(files):
     rows = []
     for name, question in QUESTIONS.items():
-        answers = [
-            any(it.kind == "reply" and it.what == question for it in lines)
-            for _, lines in files.values()
-        ]
-        rows.append([name, *("yes" if it else "" for it in answers)])
+        asked = [{it.what for it in lines if it.kind == "reply"} for _, lines in files.values()]
+        rows.append([name, *("yes" if question in it else "" for it in asked)])
     return table(("", *map(title, files)), rows)
 
 
-def in_document(name, text):
-    """The table of a name in the document: where it begins and where it ends."""
+def with_table(text, name, made):
+    """The document with this table below its marker."""
     marker = f"<!-- table: {name} -->\n"
     assert marker in text, marker
-    start = text.index(marker) + len(marker)
-    found = re.compile(r"(\|.*\n)*").match(text, start)
-    return found.start(), found.end()
+    return re.sub(rf"(?<={re.escape(marker)})(\|.*\n)*", lambda _: made, text, count=1)
 
 
 def tables(files, judged):
     """The tables by their names in the document."""
-    return {
-        "everyday": everyday(judged),
-        "exact": exact(judged),
-        "reasons": reasons(files),
-        "apart": apart(files),
-        "pastes": pastes(files),
-        "replies": replies(files),
-    }
+    by_counts = {it.__name__: it(judged) for it in (everyday, exact)}
+    return by_counts | {it.__name__: it(files) for it in (reasons, apart, pastes, replies)}

@@ -8,11 +8,11 @@ import signal
 import time
 
 import pytest
-from conftest import run_without_terminal
+from conftest import check_refused, run_without_terminal
 from terminal import CONTINUE, SECONDS, STOP, Terminal
 
 # The last question, which nearly every terminal answers.
-LAST_QUESTION = b"\033[c"
+LAST_QUESTION = "\033[c"
 POSITION, FLAGS, ATTRIBUTES = b"\033[12;40R", b"\033[?5u", b"\033[?62;22c"
 TEXT, GROUND = b"\033]10;rgb:dada/dada/dada\033\\", b"\033]11;rgb:1e1e/1e1e/1e1e\007"
 # It would be Ctrl-F3, if the program didn't expect a position.
@@ -54,9 +54,7 @@ def program(request, example):
 def asked(program, replies, status, pause=0):
     """Answers the questions by these texts, and returns what was printed."""
     with Terminal(program) as terminal:
-        terminal.expect_exact(LAST_QUESTION)
-        for text in replies:
-            terminal.play([pause, text])
+        terminal.play([LAST_QUESTION, *(it for text in replies for it in (pause, text))])
         terminal.check_end(status)
         return terminal.before
 
@@ -148,6 +146,4 @@ def test_interrupt_of_python(example):
 
 def test_python_without_terminal(example):
     """Nothing is asked."""
-    done = run_without_terminal(example("python", "ask"), text=True)
-    assert (done.returncode, done.stdout) == (1, "")
-    assert re.fullmatch(r"ask: .*/dev/tty'\n", done.stderr)
+    check_refused(example("python", "ask"), 1, r"ask: .*/dev/tty'\n")

@@ -5,12 +5,11 @@ Errors of the file are told before the terminal is touched. On a pseudo-terminal
 print the right lines, restore the terminal's settings, and switch its modes off again."""
 import re
 import signal
-import time
 
 import pytest
-from conftest import TOP, run_without_terminal
-from terminal import END, ENDING_SIGNALS, PAUSE, START, Terminal
-from terminal_data import FOLDER, load
+from conftest import TOP, check_refused, run_without_terminal
+from terminal import END, ENDING_SIGNALS, PAUSE, START, Terminal, took
+from terminal_data import recorded
 
 KEYS = TOP / "docs/edit.keys"
 ENTER, LEAVE = b"\033[?2004h\033[>4;2m\033[>5u", b"\033[<u\033[>4m\033[?2004l"
@@ -26,27 +25,19 @@ TOP_OF_AB = [*AB, *AFTER_G, "text: |ab"]
 
 class Edit(Terminal):
     FIRST = "ctrl+x ctrl+c ends"
-    entered = 1
+    SWITCH = re.compile(b"|".join(map(re.escape, (ENTER, LEAVE))))
 
-    def lines(self):
-        """The lines that the program printed, in which there is no control character."""
-        text = self.output
-        for it in (ENTER, LEAVE):
-            text = text.replace(it, b"")
-        text = text.decode()
-        assert not re.search(r"[^\r\n -~\u00a0-\U0010ffff]", text), text
-        return text.split("\r\n")[:-1]
-
-    def check_end(self, status, *lines):
-        super().check_end(status)
-        assert self.lines() == [*filter(None, [self.FIRST]), *lines]
+    def ends_with(self, *lines, status=0, entered=1):
+        """There is no control character in the lines."""
+        super().ends_with(*lines, status=status)
+        assert not re.search(r"[^\r\n -~\u00a0-\U0010ffff]", self.plain()), self.plain()
         assert self.output.startswith(ENTER) and self.output.endswith(LEAVE)
-        assert self.output.count(ENTER) == self.output.count(LEAVE) == self.entered
+        assert self.output.count(ENTER) == self.output.count(LEAVE) == entered
 
-    def quit(self, *lines):
+    def quit(self, *lines, **how):
         """Ends it by the chord of docs/edit.keys."""
         self.send(b"\030\003")
-        self.check_end(0, *lines, *AFTER_X)
+        self.ends_with(*lines, *AFTER_X, **how)
 
 
 @pytest.fixture(scope="session", params=["c", "rust", "python"])
@@ -115,14 +106,13 @@ def test_wrong_line_on_a_terminal(program, write_keys):
     """The terminal is left alone."""
     keys = write_keys(b"save ctrl+s", b"quit shift+!")
     with Edit([*program, keys]) as edit:
-        assert edit.wait_for_end() == 2
-        assert edit.settings() == edit.settings_before
+        edit.check_end(2)
         assert re.fullmatch(rf"edit: {keys}:2:12: [ -~]+\r\n", edit.output.decode())
 
 
 REFUSED = {
-    "no file": ([], 2, "usage: edit FILE\n"),
-    "two files": ([KEYS, KEYS], 2, "usage: edit FILE\n"),
+    "no file": ([], 2, "usage: edit FILE"),
+    "two files": ([KEYS, KEYS], 2, "usage: edit FILE"),
     "a file that isn't there": ([TOP / "nothing"], 2, "No such file or directory"),
     "a folder": ([TOP], 2, "Is a directory"),
     "no terminal": ([KEYS], 1, "edit: standard input and output have to be a terminal"),
@@ -131,8 +121,7 @@ REFUSED = {
 
 @pytest.mark.parametrize("words, status, says", REFUSED.values(), ids=REFUSED)
 def test_refused(program, words, status, says):
-    done = run_without_terminal([*program, *words])
-    assert (done.returncode, done.stdout) == (status, b"") and says in done.stderr.decode()
+    check_refused([*program, *words], status, rf".*{says}.*\n")
 
 
 PASTED = b"a\033[31m\r\n\t\0\177\302\233\302\205|\\ \303\251"
@@ -205,22 +194,15 @@ def test_long_paste(start):
     edit, part = start(), b"a" * (PASTE_LIMIT + 1)
     edit.play([START + part, "text: a", "a|\r\n", b"b" + END + b"\030\023"])
     edit.play([f"saved {len(part) + 1} characters\r\n", b"\030\003"])
-    Terminal.check_end(edit, 0)
-
-
-def seconds(edit, steps):
-    begin = time.monotonic()
-    edit.play(steps)
-    return time.monotonic() - begin
+    edit.check_end(0)
 
 
 @pytest.mark.timed
 def test_given_up(start):
     """A second after the last press, whatever else comes meanwhile."""
     edit = start()
-    edit.play([b"abgg", "text: |ab\r\n"])
-    took = seconds(edit, [b"g", SHORT_PAUSE, b"\033[I", "text: ab|\r\n"])
-    assert CHORD_PAUSE - 0.01 <= took < CHORD_PAUSE + SHORT_PAUSE
+    edit.play([b"abgg", "text: |ab\r\n", Edit.start_clock, b"g", SHORT_PAUSE, b"\033[I"])
+    edit.play(["text: ab|\r\n", took(CHORD_PAUSE - 0.01, CHORD_PAUSE + SHORT_PAUSE)])
     edit.quit(*TOP_OF_AB, *AFTER_G, "text: ab|")
 
 
@@ -228,7 +210,8 @@ def test_given_up(start):
 def test_escape_behind_a_chord(start):
     """It has a limit of its own."""
     edit = start()
-    assert seconds(edit, [b"g", "  g  top\r\n", b"\033", "unbound: escape\r\n"]) < SHORT_PAUSE
+    edit.play([Edit.start_clock, b"g", "  g  top\r\n", b"\033", "unbound: escape\r\n"])
+    edit.play([took(0, SHORT_PAUSE)])
     edit.quit(*AFTER_G, "unbound: escape")
 
 
@@ -241,7 +224,7 @@ def test_slow_chord(start, write_keys):
     pending = ["pending: a", "  b c  save", "pending: a b", "  c  save"]
     edit.send(b"\030\003")
     last = ["pending: ctrl+x", "  ctrl+c  quit"]
-    edit.check_end(0, *pending, "saved 0 characters", *pending, *AB, *last)
+    edit.ends_with(*pending, "saved 0 characters", *pending, *AB, *last)
 
 
 def test_bound_twice(start, write_keys):
@@ -249,22 +232,22 @@ def test_bound_twice(start, write_keys):
     keys = write_keys(b"quit f1", b"save ctrl+q", b"quit ctrl+q", b"quit f2")
     edit = start(keys, "ctrl+q ends")
     edit.send(b"\021")
-    edit.check_end(0)
+    edit.ends_with()
 
 
 def test_without_quit(program, write_keys):
     """No line says how it ends."""
     with Edit([*program, write_keys(b"save x")]) as edit:
-        edit.FIRST = None
+        edit.FIRST = "saved 0 characters"
         edit.play([ENTER.decode(), b"x", "saved 0 characters\r\n", signal.SIGTERM])
-        edit.check_end(-signal.SIGTERM, "saved 0 characters")
+        edit.ends_with(status=-signal.SIGTERM)
 
 
 @pytest.mark.parametrize("number", ENDING_SIGNALS, ids=lambda it: it.name)
 def test_signal(start, number):
     edit = start()
     edit.play([b"ab", "text: ab|\r\n", number])
-    edit.check_end(-number, *AB)
+    edit.ends_with(*AB, status=-number)
 
 
 @pytest.mark.parametrize("number", [signal.SIGTSTP, signal.SIGSTOP], ids=lambda it: it.name)
@@ -276,9 +259,8 @@ def test_stop(start, number):
     edit.stop_and_continue(number)
     edit.wait_for(lambda: edit.output.count(ENTER) == 2, "modes")
     assert edit.is_raw() and edit.output.count(LEAVE) == 1
-    edit.entered = 2
     edit.send(b"\r" + END + b"x")
-    edit.quit(*AB, "text: abc\\x0d|", "text: abc\\x0dx|")
+    edit.quit(*AB, "text: abc\\x0d|", "text: abc\\x0dx|", entered=2)
 
 
 @pytest.mark.parametrize("last, lines", [(b"\033", ["unbound: escape"]), (b"g", AFTER_G)])
@@ -286,30 +268,14 @@ def test_end_of_the_input(start, last, lines):
     """What is buffered is flushed, and a chord is given up. The first ^D ends a read, and the
     second the input."""
     edit = start()
-    edit.play([b"abgg", "text: |ab\r\n"])
-    edit.let_end_input()
-    edit.send(last + b"\x04\x04")
-    edit.check_end(0, *TOP_OF_AB, *lines, *(["text: ab|"] if last == b"g" else []))
+    edit.play([b"abgg", "text: |ab\r\n", Edit.let_end_input, last + b"\x04\x04"])
+    edit.ends_with(*TOP_OF_AB, *lines, *(["text: ab|"] if last == b"g" else []))
 
 
 def test_terminal_that_is_gone(start):
     edit = start()
     edit.hang_up()
     edit.wait_for_end()
-
-
-def recorded(name, mode):
-    """What a terminal sends for a press in a mode."""
-    _, lines = load(FOLDER / f"{name}.tsv")
-
-    def sent(press):
-        return next(
-            it.bytes
-            for it in lines
-            if it.kind == "press" and mode in it.modes.split(",") and press in it.what.split()
-        )
-
-    return sent
 
 
 def encoded(press):
@@ -324,11 +290,11 @@ def encoded(press):
 
 # What is sent for a press.
 PROTOCOLS = {
-    "xterm": recorded("xterm", "default"),
-    "xterm, modifyOtherKeys": recorded("xterm", "mok2"),
-    "tmux": recorded("tmux-xterm", "default"),
-    "kitty, flag 1": recorded("kitty", "kitty1"),
-    "foot, flag 1": recorded("foot", "kitty1"),
+    "xterm": recorded("xterm", "default").get,
+    "xterm, modifyOtherKeys": recorded("xterm", "mok2").get,
+    "tmux": recorded("tmux-xterm", "default").get,
+    "kitty, flag 1": recorded("kitty", "kitty1").get,
+    "foot, flag 1": recorded("foot", "kitty1").get,
     "flags 1 and 4": encoded,
 }
 # Presses, and the lines that they print.
@@ -351,4 +317,4 @@ SCRIPT = [
 def test_protocols(start, sent):
     edit = start()
     edit.send(b"".join(sent(press) for names, _ in SCRIPT for press in names.split()))
-    edit.check_end(0, *(line for _, lines in SCRIPT for line in lines))
+    edit.ends_with(*(line for _, lines in SCRIPT for line in lines))

@@ -149,46 +149,40 @@ def test_flushed_by_a_pause(show, typed, reason, events):
     assert keys.screen().frames == [[HELLO, f"   1  {spelled(typed)} -> {reason}"]]
 
 
+def over_two_reads(begun, rest):
+    """The line of a read says where its bytes went."""
+    return [f"   1  {begun} -> goes on in read 2", f"   2  ({begun}) {rest}"]
+
+
 OSC = "a string of 6 bytes so far: waits up to 6 s"
-BEGUN = "   1  ESC -> goes on in read 2"
-THREE_READS = [b"a\033[1", UP_TO, PAUSE, b";5", "   2  ", PAUSE, b"Ab"]
-THREE_LINES = [
-    "   1  a -> key U+0061 NONE = a | ESC [ 1 -> goes on in read 2",
-    "   2  (ESC [ 1) ; 5 -> goes on in read 3",
-    "   3  (ESC [ 1 ; 5) A -> key UpArrow CTRL = ctrl+up | b -> key U+0062 NONE = b",
-]
-STRING = [
-    "   1  ESC ] 1 1 ; r -> goes on in read 2",
-    "   2  (ESC ] 1 1 ; r) ^G -> osc 4:31313b72 | ESC [ I -> focus gained",
-]
 KEYPAD = f"the beginning of a key with modifiers: {UP_TO}"
-KEYPAD_KEY = [
-    "   1  ESC O 2 -> goes on in read 2",
-    "   2  (ESC O 2) P -> key F1 SHIFT = shift+f1",
-]
-# The words, what is typed in time, with texts to wait for and pauses, and the lines. The line of a
-# read says where its bytes went. A second ESC belongs to the group of the first.
+# The words, what is typed in time, with texts to wait for, the bytes of the first read, and what
+# the second read has. A second ESC belongs to the group of the first.
 IN_TIME = {
-    "ESC, then [ A": (
-        "",
-        [b"\033", ESCAPE, b"[A"],
-        [BEGUN, "   2  (ESC) [ A -> key UpArrow NONE = up"],
+    "[ A": ("", [b"\033", ESCAPE, b"[A"], "ESC", "[ A -> key UpArrow NONE = up"),
+    "ESC": ("", [b"\033", ESCAPE, b"\033"], "ESC", "ESC -> key Escape ALT = alt+escape"),
+    "a key": ("--extended", [b"\033O2", KEYPAD, b"P"], "ESC O 2", "P -> key F1 SHIFT = shift+f1"),
+    "a string": (
+        "--extended",
+        [b"\033]11;r", OSC, b"\007\033[I"],
+        "ESC ] 1 1 ; r",
+        "^G -> osc 4:31313b72 | ESC [ I -> focus gained",
     ),
-    "ESC, then ESC": (
-        "",
-        [b"\033", ESCAPE, b"\033"],
-        [BEGUN, "   2  (ESC) ESC -> key Escape ALT = alt+escape"],
-    ),
-    "a sequence over three reads": ("", THREE_READS, THREE_LINES),
-    "a key over two reads": ("--extended", [b"\033O2", KEYPAD, b"P"], KEYPAD_KEY),
-    "a string over two reads": ("--extended", [b"\033]11;r", OSC, b"\007\033[I"], STRING),
 }
 
 
 @pytest.mark.timed
-@pytest.mark.parametrize("words, steps, lines", IN_TIME.values(), ids=IN_TIME)
-def test_in_time(show, words, steps, lines):
-    show(steps, lines, *words.split(), size=WIDE)
+@pytest.mark.parametrize("words, steps, begun, rest", IN_TIME.values(), ids=IN_TIME)
+def test_in_time(show, words, steps, begun, rest):
+    show(steps, over_two_reads(begun, rest), *words.split(), size=WIDE)
+
+
+@pytest.mark.timed
+def test_over_three_reads(show):
+    first = "   1  a -> key U+0061 NONE = a | ESC [ 1 -> goes on in read 2"
+    last = "   3  (ESC [ 1 ; 5) A -> key UpArrow CTRL = ctrl+up | b -> key U+0062 NONE = b"
+    steps = [b"a\033[1", UP_TO, PAUSE, b";5", "   2  ", PAUSE, b"Ab"]
+    show(steps, [first, "   2  (ESC [ 1) ; 5 -> goes on in read 3", last], size=WIDE)
 
 
 @pytest.mark.timed
@@ -203,7 +197,7 @@ def test_held_key(start):
 def test_half_a_character(show):
     """No pause flushes it."""
     half = ["   1  c3 -> half a character: waits for the rest"]
-    lines = ["   1  c3 -> goes on in read 2", "   2  (c3) a9 -> key U+00E9 NONE = U+00E9"]
+    lines = over_two_reads("c3", "a9 -> key U+00E9 NONE = U+00E9")
     show([b"\xc3", half, LONG_PAUSE, half, b"\xa9"], lines)
 
 
@@ -371,8 +365,7 @@ def test_one_ctrl_d_is_no_end(show):
 def test_end_over_two_reads(start):
     keys = start()
     keys.play([b"\x04", [f"   1  {CTRL_D}"], b"\x04"])
-    keys.check_end(0)
-    assert keys.lines() == [HELLO, f"   1  {CTRL_D}", f"   2  {CTRL_D}"]
+    keys.ends_with(f"   1  {CTRL_D}", f"   2  {CTRL_D}")
 
 
 def test_end_by_sequences(start):
@@ -399,8 +392,7 @@ def test_flags_of_kitty_nest(start):
     assert keys.output.count(b"\033[?1004h") == 1
     keys.stop_and_continue(signal.SIGSTOP)
     keys.wait_for(lambda: keys.output.count(b"\033[?1004h") == 2, "focus mode again")
-    keys.stop_and_continue()
-    keys.wait_for(keys.modes, "modes")
+    keys.play([*STOP_AND_CONTINUE, Keys.wait_for_modes])
     keys.end_by(signal.SIGTERM)
     assert re.findall(rb"\033\[(>31|<)u", keys.output) == [b">31", b"<"] * 3
 
@@ -425,22 +417,16 @@ def test_sigtstp_sigcont_sigterm(start):
     keys.end_by(signal.SIGTERM, signal.SIGCONT)
 
 
-def paste_so_far(count, *, until):
-    return f"   1  ESC [ 2 0 0 ~{' a' * count} -> a paste of {count} bytes so far: {until}"
-
-
 @pytest.mark.timed
 def test_stops_in_a_paste(start):
     """The rest of it isn't typed, whoever had the terminal."""
     keys = start("--bracketed-paste", size=WIDE)
-    keys.play([START + b"a", [paste_so_far(1, until="waits for its end")], signal.SIGCONT])
-    keys.play([*STOP, CONTINUE, PAUSE, *STOP_AND_CONTINUE])
-    keys.wait_for(keys.modes, "modes")
-    again = [paste_so_far(1, until="waits for its end"), paste_so_far(1, until=UP_TO)]
-    keys.play([again, b"\r" + END + b"b"])
-    gone = paste_so_far(1, until="goes on in read 2").replace("a paste of 1 bytes so far: ", "")
-    pasted = "   2  (ESC [ 2 0 0 ~ a) ^M ESC [ 2 0 1 ~ -> paste 2:610d | b -> key U+0062 NONE = b"
-    keys.end(again[0], gone, pasted)
+    so_far = "   1  ESC [ 2 0 0 ~ a -> a paste of 1 bytes so far:"
+    before, after = f"{so_far} waits for its end", f"{so_far} {UP_TO}"
+    keys.play([START + b"a", [before], signal.SIGCONT, *STOP, CONTINUE, PAUSE, *STOP_AND_CONTINUE])
+    keys.play([Keys.wait_for_modes, [before, after], b"\r" + END + b"b"])
+    pasted = "^M ESC [ 2 0 1 ~ -> paste 2:610d | b -> key U+0062 NONE = b"
+    keys.end(before, *over_two_reads("ESC [ 2 0 0 ~ a", pasted))
 
 
 @pytest.mark.timed
@@ -524,10 +510,8 @@ def test_bytes_that_come_before_it_looks(show, late_poll):
 def test_end_of_the_input(start):
     """What is buffered is flushed. The first ^D ends a read, and the second the input."""
     keys = start()
-    keys.let_end_input()
-    keys.send(b"z\033[\x04\x04")
-    keys.check_end(0)
-    assert keys.lines()[1:] == [f"   1  z -> key U+007A NONE = z | {BRACKET}"]
+    keys.play([Keys.let_end_input, b"z\033[\x04\x04"])
+    keys.ends_with(f"   1  z -> key U+007A NONE = z | {BRACKET}")
 
 
 def test_terminal_that_is_gone(start):
@@ -573,8 +557,7 @@ def test_full_disk_on_a_terminal(start):
     """The terminal is restored."""
     keys = start(*ALL_MODES, output_to="/dev/full")
     keys.send(b"a")
-    keys.check_end(1)
-    assert keys.lines() == [HELLO, NO_SPACE.strip()]
+    keys.ends_with(NO_SPACE.strip(), status=1)
 
 
 def as_json(items):
@@ -948,21 +931,20 @@ def test_random_bytes():
 @pytest.mark.parametrize("word", ["", "--json"])
 def test_descriptors_that_do_not_block(word):
     """It waits where they have or take nothing more."""
-    ends = [os.pipe() for _ in range(2)]
-    (typed, keyboard), (shown, out) = ends
-    for end in (typed, out):
-        os.set_blocking(end, False)
-    keys = subprocess.Popen([HEDRUGAL_KEYS, *word.split()], stdin=typed, stdout=out)
-    os.close(typed)
-    os.close(out)
-    for _ in range(2):
+
+    def unblock():
+        for descriptor in (0, 1):
+            os.set_blocking(descriptor, False)
+
+    words, pipe = [HEDRUGAL_KEYS, *word.split()], subprocess.PIPE
+    with subprocess.Popen(words, stdin=pipe, stdout=pipe, preexec_fn=unblock) as keys:
+        for _ in range(2):
+            time.sleep(PAUSE)
+            os.write(keys.stdin.fileno(), b"a" * 4096)
+        keys.stdin.close()
         time.sleep(PAUSE)
-        os.write(keyboard, b"a" * 4096)
-    os.close(keyboard)
-    time.sleep(PAUSE)
-    with open(shown, encoding="ascii") as lines:
-        text = lines.read()
-    assert (keys.wait(SECONDS), text.count("U+0061")) == (0, 8192)
+        text = keys.stdout.read().decode("ascii")
+    assert (keys.returncode, text.count("U+0061")) == (0, 8192)
 
 
 def test_closed_pipe():
@@ -997,12 +979,12 @@ def test_memory_refused(compiled, tmp_path, bound, words, has_bindings):
     assert found == run(*words)
 
 
-MORE = "--help says more"
-NO_TERMINAL = f"--mouse wants a terminal as the input; {MORE}"
-
-
 def unknown(word):
     return word, 2, f"what is '{word}'? --help lists the words"
+
+
+def two(what, words):
+    return words, 2, f"wants one {what}, and '{words.split(' ')[-1]}' is another; --help says more"
 
 
 # The words for which nothing is read, the status, and the one line that says why.
@@ -1010,17 +992,13 @@ REFUSED = {
     "an unknown word": unknown("--foo"),
     "an unknown reading": unknown("--extended=vt52"),
     "an unknown level": unknown("--modify-other-keys=3"),
-    "two files": ("a b", 2, f"wants one file, and 'b' is another; {MORE}"),
-    "a file and the input": ("a -", 2, f"wants one file, and '-' is another; {MORE}"),
-    "two forms": ("--hex --json", 2, f"takes one of --hex and --json; {MORE}"),
+    "two files": two("file", "a b"),
+    "a file and the input": two("file", "a -"),
+    "two forms": ("--hex --json", 2, "takes one of --hex and --json; --help says more"),
     "no such file behind --": ("-- --hex", 1, "--hex: No such file or directory"),
-    "a mode without a terminal": ("--mouse", 2, NO_TERMINAL),
-    "no file of bindings": ("--bindings", 2, f"--bindings wants a file behind it; {MORE}"),
-    "two files of bindings": (
-        "--bindings a --bindings b",
-        2,
-        f"wants one file of bindings, and 'b' is another; {MORE}",
-    ),
+    "a mode": ("--mouse", 2, "--mouse wants a terminal as the input; --help says more"),
+    "no bindings": ("--bindings", 2, "--bindings wants a file behind it; --help says more"),
+    "two files of bindings": two("file of bindings", "--bindings a --bindings b"),
     "no such file of bindings": ("--bindings /no", 1, "/no: No such file or directory"),
     "bindings in a folder": ("--bindings /", 1, "/: Is a directory"),
     "no such file": ("/no/such", 1, "/no/such: No such file or directory"),
@@ -1037,8 +1015,8 @@ NAMES = {
 }
 for name, shown in NAMES.items():
     REFUSED[f"no file {shown}"] = name, 1, f"{shown}: No such file or directory"
-    REFUSED[f"unknown {shown}"] = unknown(f"--{name}")[:2] + unknown(f"--{shown}")[2:]
-    REFUSED[f"also {shown}"] = f"x {name}", 2, f"wants one file, and '{shown}' is another; {MORE}"
+    REFUSED[f"unknown {shown}"] = f"--{name}", *unknown(f"--{shown}")[1:]
+    REFUSED[f"also {shown}"] = f"x {name}", *two("file", f"x {shown}")[1:]
 
 
 @pytest.mark.parametrize("name, shown", NAMES.items(), ids=NAMES.values())

@@ -27,7 +27,9 @@ while True:
         print("raised", type(error).__name__, flush=True)
         break
 """
-UP, ESCAPE = b"\033[A", b"\033"
+UP = b"\033[A"
+# Nothing follows, so it is the key.
+ESCAPE = [b"\033", 0.3]
 # What is typed, as bytes and pauses; then the lines that the program gets.
 EMACS = {
     "text": ([b"a b\xc3\xa9"], ["a bé"]),
@@ -52,56 +54,39 @@ EMACS = {
 }
 VI = {
     "insert": ([b"abc"], ["abc"]),
-    "Escape and commands": (
-        [b"one two", ESCAPE, 0.3, b"0cethree", ESCAPE, 0.3, b"$aX"],
-        ["three twoX"],
-    ),
-    "replace": ([b"abc", ESCAPE, 0.3, b"r\xc3\xa9"], ["abé"]),
-    "history": ([ESCAPE, 0.3, b"kk"], ["first"]),
+    "Escape and commands": ([b"one two", *ESCAPE, b"0cethree", *ESCAPE, b"$aX"], ["three twoX"]),
+    "replace": ([b"abc", *ESCAPE, b"r\xc3\xa9"], ["abé"]),
+    "history": ([*ESCAPE, b"kk"], ["first"]),
     "a paste": ([START + b"one\rtwo" + END], ["one\ntwo"]),
     "Escape of Kitty's protocol": ([b"abc\033[27u0x"], ["bc"]),
     "Escape and an arrow at once": ([b"abc\033[D\033[Dx"], ["axbc"]),
 }
 
 
-class Prompt(Terminal):
-    def modes(self):
-        """Without those that a terminal begins with: a line wraps, and the cursor is shown."""
-        return super().modes() - {7, 25}
-
-    def lines(self):
-        return re.findall(rb"(?:got|raised) [^\r]*", self.output)
-
-    def answer(self):
-        """Answers the question for the cursor's position, which is written with each prompt."""
-        self.play(["\033[6n", b"\033[1;1R", "\033[?25h"])
-        assert self.is_raw()
+# Answers the question for the cursor's position, which is written with each prompt.
+ANSWER = ["\033[6n", b"\033[1;1R", "\033[?25h"]
+LINE = re.compile(rb"(?:got|raised) [^\r\n]*")
 
 
 @pytest.fixture
-def prompt():
+def prompt(on_terminal):
     """Starts a program, and waits for its prompt."""
-    prompts = []
 
-    def start(text, **how):
-        it = Prompt([sys.executable, "-W", "error", "-c", text], **how)
-        prompts.append(it)
-        it.answer()
-        return it
+    def start(text=PROGRAM.format(how={}), **how):
+        words = [sys.executable, "-W", "error", "-c", text]
+        return on_terminal(Terminal(words, **how), *ANSWER)
 
-    yield start
-    for it in prompts:
-        it.close()
+    return start
 
 
 def check(program, steps, lines, enter=b"\r"):
     """Types a line, and then ends the program."""
-    program.play([*steps, enter, "got "])
-    program.answer()
+    program.play([*steps, enter, "got ", *ANSWER])
+    assert program.is_raw()
     program.play([b"\x04", "raised EOFError"])
     program.check_end(0)
     wanted = [f"got {ascii(line)}".encode() for line in lines] + [b"raised EOFError"]
-    assert program.lines() == wanted
+    assert LINE.findall(program.output) == wanted
 
 
 MODES = [pytest.param({}, *it, id=f"emacs, {name}") for name, it in EMACS.items()]
@@ -119,26 +104,23 @@ def test_lines(prompt, how, steps, lines):
 @pytest.mark.parametrize("enter", [b"\r", b"\n"], ids=["CR", "byte 10"])
 def test_settings(prompt, erase, has_icrnl, enter):
     """The bytes 8 and 127 are Backspace to prompt_toolkit, and CR and 10 end a line."""
-    program = prompt(PROGRAM.format(how={}), erase=erase, has_icrnl=has_icrnl)
-    check(program, [b"abc\b\x7fd"], ["ad"], enter)
+    check(prompt(erase=erase, has_icrnl=has_icrnl), [b"abc\b\x7fd"], ["ad"], enter)
 
 
 def test_pipe():
     """The same if the input is no terminal."""
     words = [sys.executable, "-W", "error", "-c", PROGRAM.format(how={})]
     done = subprocess.run(words, input=b"abc\b\x7fd\nxy\r", capture_output=True, timeout=SECONDS)
-    lines = re.findall(rb"(?:got|raised) [^\r\n]*", done.stdout)
-    assert (done.returncode, lines) == (0, [b"got 'ad'", b"got 'xy'", b"raised EOFError"])
+    wanted = [b"got 'ad'", b"got 'xy'", b"raised EOFError"]
+    assert (done.returncode, LINE.findall(done.stdout)) == (0, wanted)
 
 
 @pytest.mark.parametrize("number", [signal.SIGCONT, signal.SIGSTOP], ids=lambda it: it.name)
 def test_paste_over_a_stop(prompt, number):
     """None of it is typed."""
-    program = prompt(PROGRAM.format(how={}))
-    stop = STOP if number == signal.SIGSTOP else [number]
-    for part in (START + b"one\r", b"two\r"):
-        program.play([part, 0.1, *stop, CONTINUE])
-    check(program, [0.1, b"three" + END], ["one\ntwo\nthree"])
+    stop = [0.1, *(STOP if number == signal.SIGSTOP else [number]), CONTINUE]
+    steps = [START + b"one\r", *stop, b"two\r", *stop, 0.1, b"three" + END]
+    check(prompt(), steps, ["one\ntwo\nthree"])
 
 
 def test_listing(prompt):
@@ -151,13 +133,13 @@ def test_listing(prompt):
 
 
 def test_interrupt(prompt):
-    program = prompt(PROGRAM.format(how={}))
+    program = prompt()
     program.play([b"ab\x03", "raised KeyboardInterrupt"])
     program.check_end(0)
 
 
 def test_end_of_the_input(prompt):
     """The terminal is gone."""
-    program = prompt(PROGRAM.format(how={}))
+    program = prompt()
     program.play([*STOP, Terminal.hang_up, signal.SIGCONT])
     program.wait_for_end()

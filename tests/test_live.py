@@ -9,8 +9,8 @@ import signal
 import time
 
 import pytest
-from conftest import HEDRUGAL_KEYS, TOP, run_without_terminal
-from terminal import END, LONG_PAUSE, PAUSE, START, Terminal
+from conftest import HEDRUGAL_KEYS, TOP, check_refused
+from terminal import END, LONG_PAUSE, PAUSE, START, STOP_AND_CONTINUE, Terminal
 
 LIMIT = 1 << 20
 MODES = {1003, 1006, 2004}
@@ -25,27 +25,12 @@ LINES += [*TWO_REPORTS, "paste of 2 bytes"]
 
 class Live(Terminal):
     FIRST = "q ends"
-
-    def lines(self):
-        """The lines that the program printed, without the switches of modes."""
-        text = re.sub(rb"\033\[\?\d+[hl]", b"", self.output).decode("utf-8", "replace")
-        return text.split("\r\n")[:-1]
-
-    def wait_for_line(self, line):
-        self.expect_exact(f"{line}\r\n")
-
-    def wait_for_raw_again(self):
-        self.wait_for_line(SIZE)
-        assert self.is_raw()
-
-    def check_end(self, status, *lines):
-        super().check_end(status)
-        assert self.lines() == [self.FIRST, *lines]
+    SWITCH = re.compile(rb"\033\[\?\d+[hl]")
 
     def quit(self, *lines):
         """Ends it by q."""
         self.send(b"q")
-        self.check_end(0, *lines, "Char U+0071")
+        self.ends_with(*lines, "Char U+0071")
 
 
 PROGRAMS = {"c": "live", "rust": "live", "python": "live", "tokio": "stream", "mio": "mio"}
@@ -66,9 +51,8 @@ def test_events(start):
     live = start("--mouse", erase=b"\b")
     for _ in range(2):
         live.play([TYPED, "paste of 2 bytes\r\n", b"\b", "Backspace\r\n", (100, 40)])
-        live.play(["size 100 x 40\r\n", (80, 24), f"{SIZE}\r\n"])
-        live.stop_and_continue()
-        live.wait_for_raw_again()
+        live.play(["size 100 x 40\r\n", (80, 24), f"{SIZE}\r\n", *STOP_AND_CONTINUE, f"{SIZE}\r\n"])
+        assert live.is_raw()
     live.quit(*[*LINES, "Backspace", "size 100 x 40", SIZE, SIZE] * 2)
 
 
@@ -76,7 +60,7 @@ def test_events(start):
 def test_signal(start, number):
     live = start("--mouse")
     live.play([b"a", "Char U+0061\r\n", number])
-    live.check_end(-number, "Char U+0061")
+    live.ends_with("Char U+0061", status=-number)
 
 
 @pytest.mark.parametrize("word", ["", "--mouse"])
@@ -123,13 +107,11 @@ def test_signal_while_nobody_reads(example, name, more, number):
 
 
 REFUSED = {
-    "no terminal": ([], 1, b"live: standard input and output have to be a terminal"),
-    "an unknown word": (["--foo"], 2, b"usage: live [--mouse]"),
+    "no terminal": ([], 1, "live: standard input and output have to be a terminal"),
+    "an unknown word": (["--foo"], 2, r"usage: live \[--mouse\]"),
 }
 
 
 @pytest.mark.parametrize("words, status, says", REFUSED.values(), ids=REFUSED)
 def test_without_terminal(program, words, status, says):
-    done = run_without_terminal([*program, *words])
-    assert (done.returncode, done.stdout) == (status, b"") and done.stderr.startswith(says)
-    assert done.stderr.count(b"\n") == 1
+    check_refused([*program, *words], status, rf"{says}.*\n")

@@ -13,13 +13,12 @@ import socket
 import tempfile
 import termios
 import time
-from pathlib import Path
 
 import pytest
-from conftest import TOP, run_without_terminal
+from conftest import TOP, check_refused, run_without_terminal
 from pexpect.fdpexpect import fdspawn
 from terminal import END, ENDING_SIGNALS, LFLAG, LONG_PAUSE, PAUSE, SECONDS, START
-from terminal import Terminal, change_settings
+from terminal import STOP_AND_CONTINUE, Terminal, change_settings
 
 SHORT = ["prompt", "list", "server"]
 MOST_LINES = 60
@@ -63,33 +62,16 @@ def test_names(language, name):
 class Drawing(Terminal):
     """A program that draws. What it drew last is waited for."""
 
-    def modes(self):
-        """Without those that a terminal begins with: a line wraps, and the cursor is shown."""
-        return super().modes() - {7, 25}
-
     def text(self):
         return self.output.decode("utf-8", "replace")
-
-    def wait_for_drawn(self, drawn):
-        self.wait_for(lambda: self.drawn() == drawn, repr(drawn))
-
-    def draw(self, steps):
-        """Types bytes and waits for what is drawn then, or pauses."""
-        for step in steps:
-            if isinstance(step, float):
-                time.sleep(step)
-            else:
-                self.send(step[0])
-                self.wait_for_drawn(step[1])
 
 
 class Prompt(Drawing):
     LINE = re.compile(r"\r\033\[K\033\[\?7l> ([^\033]*)\0337([^\033]*)\0338\033\[\?7h")
 
-    def drawn(self):
+    def shown(self):
         """The line, with the cursor in it."""
-        drawn = self.LINE.findall(self.text())
-        return drawn and "|".join(drawn[-1])
+        return ["|".join(it) for it in self.LINE.findall(self.text())[-1:]]
 
     def entered(self):
         """The lines that were entered. Each stands between two ends of a line."""
@@ -104,7 +86,7 @@ class Prompt(Drawing):
 
 
 class List(Drawing):
-    def drawn(self):
+    def shown(self):
         """The rows, with a star before the one at which the user is."""
         last = self.text().split("\033[H\033[J")[-1].split("\033[?7h")[0]
         rows = [row.removesuffix("\033[m") for row in last.split("\r\n")]
@@ -117,140 +99,113 @@ class List(Drawing):
         assert re.split(r"\033\[\?\d+[hl]", self.text())[-1] == printed
 
 
-@pytest.fixture
-def start(example, language):
-    """Starts a program, and waits for the first thing that it draws."""
-    with contextlib.ExitStack() as stack:
-
-        def run(kind, drawn, *words, **how):
-            program = example(language, kind.__name__.lower())
-            terminal = stack.enter_context(kind([*program, *words], **how))
-            terminal.wait_for_drawn(drawn)
-            assert terminal.is_raw()
-            return terminal
-
-        yield run
-
-
-PASTED = START + b"one\rtwo\n\033[A\x7f" + END
-# What is typed, as bytes with what is drawn then, and pauses; and the lines that are entered.
-TYPED = {
-    "text": ([(b"a\xc3\xa9b", "aéb|"), (b"c", "aébc|")], []),
-    "the cursor": (
-        [("aé€b".encode(), "aé€b|"), (LEFT * 2, "aé|€b"), (b"x", "aéx|€b"), (LEFT * 9, "|aéx€b")]
-        + [(b"y", "y|aéx€b"), (RIGHT * 2, "yaé|x€b"), (b"z", "yaéz|x€b"), (RIGHT * 9, "yaézx€b|")],
-        [],
-    ),
-    "Backspace": (
-        [("é€b".encode(), "é€b|"), (b"\x7f\x7f", "é|"), (b"\x7f\x7f", "|"), (b"ab", "ab|")]
-        + [(LEFT + b"\x7f", "|b"), (b"\x7f", "|b")],
-        [],
-    ),
-    "lines": ([(b"one\r", "|"), (b"two" + LEFT + b"\r", "|"), (b"\r", "|")], ["one", "two", ""]),
-    "pastes": (
-        [(PASTED, "one two  [A |"), (LEFT * 2, "one two  [|A ")]
-        + [(PASTED, "one two  [one two  [A |A ")],
-        [],
-    ),
-    "a paste, cut by pauses": (
-        [(START + b"a\033", "|"), PAUSE, (b"b\r" + END, "a b |"), (START + b"c", "a b |")]
-        + [LONG_PAUSE, (b"\r" + END, "a b c |")],
-        [],
-    ),
-    "controls of two bytes": (
-        [(START + b"a\xc2\x9b1m" + END, "a\xa01m|"), (START + b"\xc2\x85b" + END, "a\xa01m\xa0b|")],
-        [],
-    ),
-    "history": (
-        [(b"one\rtwo\r", "|"), (UP, "two|"), (UP, "one|"), (UP, "one|"), (DOWN, "two|")]
-        + [
-            (DOWN, "|"),
-            (DOWN, "|"),
-            (UP * 2, "one|"),
-            (b"\r", "|"),
-            (UP, "one|"),
-            (UP, "two|"),
-            (b"\r", "|"),
-        ],
-        ["one", "two", "one", "two"],
-    ),
-    "what Up left": (
-        [(b"one\rtw", "tw|"), (UP, "one|"), (DOWN, "tw|"), (b"o", "two|"), (UP, "one|")]
-        + [(DOWN, "two|"), (b"\r", "|"), (UP, "two|"), (UP, "one|")],
-        ["one", "two"],
-    ),
-    "an earlier line, edited": (
-        [(b"one\r", "|"), (UP + b"x\r", "|"), (UP, "onex|"), (UP, "one|"), (b"y\r", "|")]
-        + [(UP, "oney|"), (UP, "onex|"), (UP, "one|")],
-        ["one", "onex", "oney"],
-    ),
-    "keys that do nothing": ([(b"a\033", "a|"), PAUSE, (b"b\033[15~\t\033x", "ab|")], []),
-}
-
-
-@pytest.mark.timed
-@pytest.mark.parametrize("steps, lines", TYPED.values(), ids=TYPED)
-def test_prompt(start, steps, lines):
-    prompt = start(Prompt, "|")
-    prompt.draw(steps)
-    prompt.quit(*lines)
-
-
-@pytest.mark.parametrize("by", [b"\x03", b"\x04", b"\033[99;5u", b"\033[27;5;100~"])
-def test_end_of_the_prompt(start, by):
-    """By Ctrl-C and Ctrl-D, also as other protocols report them."""
-    prompt = start(Prompt, "|")
-    prompt.draw([(b"ab", "ab|")])
-    prompt.quit(by=by)
-
-
-def test_full_line(start):
-    """Whole characters are taken while there is room, of a paste in parts too."""
-    prompt = start(Prompt, "|")
-    fits = "é" * ((ROOM - 4) // 2)
-    prompt.draw([(START + b"\xc3\xa9" * ROOM + END, f"{fits}|"), (START + b"x" + END, f"{fits}|")])
-    prompt.draw([(b"\x7f" * 2, f"{fits[:-2]}|"), (b"abcdef", f"{fits[:-2]}abcd|"), (b"\r", "|")])
-    prompt.draw([(START + b"q\r" * PASTE_LIMIT + END, "q " * (ROOM // 2 - 2) + "|")])
-    prompt.quit(f"{fits[:-2]}abcd")
-
-
-def test_long_history(start):
-    """The last ones are kept."""
-    prompt = start(Prompt, "|")
-    lines = [f"line {it}" for it in range(250)]
-    prompt.draw([(b"".join(it.encode() + b"\r" for it in lines) + b"x", "x|")])
-    prompt.draw([(UP * 300, "line 151|"), (DOWN * 300, "x|"), (UP * 2, "line 248|")])
-    prompt.quit(*lines)
-
-
-@pytest.mark.parametrize("erase, other", [(b"\x7f", b"\b"), (b"\b", b"\x7f")], ids=["127", "8"])
-def test_backspace_of_the_settings(start, erase, other):
-    prompt = start(Prompt, "|", erase=erase)
-    prompt.draw([(b"abc" + erase, "ab|"), (erase, "a|")])
-    prompt.quit()
-
-
-def test_stop(start):
-    """Twice. A paste stays open meanwhile, and none of it is a key."""
-    prompt = start(Prompt, "|")
-    prompt.draw([(b"a" + START + b"b", "a|")])
-    for drawn in ("ab |", "ab b |"):
-        count = prompt.output.count(b"\033[?2004h")
-        prompt.stop_and_continue()
-        prompt.wait_for(lambda: prompt.output.count(b"\033[?2004h") > count, "modes")
-        prompt.draw([(b"\r" + END, drawn), (START + b"b", drawn)])
-    prompt.send(END + b"\x04")
-    prompt.check_end(0)
-
-
 ROWS = ["one", "two", "three"]
+FIFTY = [str(it) for it in range(1, 51)]
 
 
 def rows_at(at, rows=ROWS):
     return [f"*{row}" if place == at else row for place, row in enumerate(rows)]
 
 
-CYRILLIC = {b"\x18": b"\033[1095::120;5u", b"\x03": b"\033[1089::99;5u"}
+@pytest.fixture
+def start(example, language, on_terminal):
+    """Starts a program, a list with these rows, and waits for the first thing that it draws."""
+
+    def run(kind, rows=ROWS, **how):
+        program = example(language, kind.__name__.lower())
+        words, drawn = ([], ["|"]) if kind is Prompt else (rows, rows_at(0, rows)[:24])
+        return on_terminal(kind([*program, *words], **how), drawn)
+
+    return run
+
+
+PASTED = START + b"one\rtwo\n\033[A\x7f" + END
+# What is typed, as bytes with what is drawn then, and pauses.
+TYPED = {
+    "text": [b"a\xc3\xa9b", ["aéb|"], b"c", ["aébc|"]],
+    "the cursor": ["aé€b".encode(), ["aé€b|"], LEFT * 2, ["aé|€b"], b"x", ["aéx|€b"]]
+    + [LEFT * 9, ["|aéx€b"], b"y", ["y|aéx€b"], RIGHT * 2, ["yaé|x€b"], b"z", ["yaéz|x€b"]]
+    + [RIGHT * 9, ["yaézx€b|"]],
+    "Backspace": ["é€b".encode(), ["é€b|"], b"\x7f\x7f", ["é|"], b"\x7f\x7f", ["|"]]
+    + [b"ab", ["ab|"], LEFT + b"\x7f", ["|b"], b"\x7f", ["|b"]],
+    "lines": [b"one\r", ["|"], b"two" + LEFT + b"\r", ["|"], b"\r", ["|"]],
+    "pastes": [PASTED, ["one two  [A |"], LEFT * 2, ["one two  [|A "]]
+    + [PASTED, ["one two  [one two  [A |A "]],
+    "a paste, cut by pauses": [START + b"a\033", ["|"], PAUSE, b"b\r" + END, ["a b |"]]
+    + [START + b"c", ["a b |"], LONG_PAUSE, b"\r" + END, ["a b c |"]],
+    "controls of two bytes": [START + b"a\xc2\x9b1m" + END, ["a\xa01m|"]]
+    + [START + b"\xc2\x85b" + END, ["a\xa01m\xa0b|"]],
+    "history": [b"one\rtwo\r", ["|"], UP, ["two|"], UP, ["one|"], UP, ["one|"], DOWN, ["two|"]]
+    + [DOWN, ["|"], DOWN, ["|"], UP * 2, ["one|"], b"\r", ["|"], UP, ["one|"], UP, ["two|"]]
+    + [b"\r", ["|"]],
+    "what Up left": [b"one\rtw", ["tw|"], UP, ["one|"], DOWN, ["tw|"], b"o", ["two|"]]
+    + [UP, ["one|"], DOWN, ["two|"], b"\r", ["|"], UP, ["two|"], UP, ["one|"]],
+    "an earlier line, edited": [b"one\r", ["|"], UP + b"x\r", ["|"], UP, ["onex|"], UP, ["one|"]]
+    + [b"y\r", ["|"], UP, ["oney|"], UP, ["onex|"], UP, ["one|"]],
+    "keys that do nothing": [b"a\033", ["a|"], PAUSE, b"b\033[15~\t\033x", ["ab|"]],
+}
+# The lines that are entered, if there are any.
+ENTERED = {
+    "lines": ["one", "two", ""],
+    "history": ["one", "two", "one", "two"],
+    "what Up left": ["one", "two"],
+    "an earlier line, edited": ["one", "onex", "oney"],
+}
+
+
+@pytest.mark.timed
+@pytest.mark.parametrize("name", TYPED)
+def test_prompt(start, name):
+    prompt = start(Prompt)
+    prompt.play(TYPED[name])
+    prompt.quit(*ENTERED.get(name, []))
+
+
+@pytest.mark.parametrize("by", [b"\x03", b"\x04", b"\033[99;5u", b"\033[27;5;100~"])
+def test_end_of_the_prompt(start, by):
+    """By Ctrl-C and Ctrl-D, also as other protocols report them."""
+    prompt = start(Prompt)
+    prompt.play([b"ab", ["ab|"]])
+    prompt.quit(by=by)
+
+
+def test_full_line(start):
+    """Whole characters are taken while there is room, of a paste in parts too."""
+    prompt = start(Prompt)
+    fits = "é" * ((ROOM - 4) // 2)
+    prompt.play([START + b"\xc3\xa9" * ROOM + END, [f"{fits}|"], START + b"x" + END, [f"{fits}|"]])
+    prompt.play([b"\x7f" * 2, [f"{fits[:-2]}|"], b"abcdef", [f"{fits[:-2]}abcd|"], b"\r", ["|"]])
+    prompt.play([START + b"q\r" * PASTE_LIMIT + END, ["q " * (ROOM // 2 - 2) + "|"]])
+    prompt.quit(f"{fits[:-2]}abcd")
+
+
+def test_long_history(start):
+    """The last ones are kept."""
+    prompt = start(Prompt)
+    lines = [f"line {it}" for it in range(250)]
+    prompt.play([b"".join(it.encode() + b"\r" for it in lines) + b"x", ["x|"]])
+    prompt.play([UP * 300, ["line 151|"], DOWN * 300, ["x|"], UP * 2, ["line 248|"]])
+    prompt.quit(*lines)
+
+
+@pytest.mark.parametrize("erase, other", [(b"\x7f", b"\b"), (b"\b", b"\x7f")], ids=["127", "8"])
+def test_backspace_of_the_settings(start, erase, other):
+    prompt = start(Prompt, erase=erase)
+    prompt.play([b"abc" + erase, ["ab|"], erase, ["a|"]])
+    prompt.quit()
+
+
+def test_stop(start):
+    """Twice. A paste stays open meanwhile, and none of it is a key."""
+    prompt = start(Prompt)
+    prompt.play([b"a" + START + b"b", ["a|"]])
+    for drawn in ("ab |", "ab b |"):
+        prompt.play([*STOP_AND_CONTINUE, Terminal.wait_for_modes])
+        prompt.play([b"\r" + END, [drawn], START + b"b", [drawn]])
+    prompt.send(END + b"\x04")
+    prompt.check_end(0)
+
+
 # Keys, and the row at which the user is then.
 MOVES = {
     "down and up": [(b"j", 1), (b"j", 2), (b"j", 2), (b"k", 1), (b"k", 0), (b"k", 0)],
@@ -267,15 +222,15 @@ MOVES = {
 @pytest.mark.timed
 @pytest.mark.parametrize("steps", MOVES.values(), ids=MOVES)
 def test_moves(start, steps):
-    it = start(List, rows_at(0), *ROWS)
-    it.draw([step if isinstance(step, float) else (step[0], rows_at(step[1])) for step in steps])
+    it = start(List)
+    for step in steps:
+        it.play([step] if isinstance(step, float) else [step[0], rows_at(step[1])])
     it.end(b"q", 1, "")
 
 
 @pytest.mark.parametrize("keys, at", [(b"\r", 0), (b"jj ", 2), (b"Ggg\033[B\r", 1)])
 def test_picks(start, keys, at):
-    it = start(List, rows_at(0), *ROWS)
-    it.end(keys, 0, f"{ROWS[at]}\r\n")
+    start(List).end(keys, 0, f"{ROWS[at]}\r\n")
 
 
 ENDS = {
@@ -283,49 +238,42 @@ ENDS = {
     "Ctrl-X Ctrl-C": b"\x18\x03",
     "after a chord that was given up": b"\x18j\x18\x18\x03",
     "modifyOtherKeys": b"\033[27;5;120~\033[27;5;99~",
-    "a Cyrillic layout": CYRILLIC[b"\x18"] + CYRILLIC[b"\x03"],
+    "a Cyrillic layout": b"\033[1095::120;5u\033[1089::99;5u",
 }
 
 
 @pytest.mark.parametrize("keys", ENDS.values(), ids=ENDS)
 def test_end_of_the_list(start, keys):
-    it = start(List, rows_at(0), *ROWS)
-    it.end(keys, 1, "")
+    start(List).end(keys, 1, "")
 
 
 def test_long_list(start):
     """What fits around the place is drawn, also by a new size."""
-    rows = [str(it) for it in range(1, 51)]
-    it = start(List, rows_at(0, rows)[:24], *rows)
-    it.draw([(b"G", rows_at(49, rows)[26:]), (b"k", rows_at(48, rows)[25:49])])
-    it.draw([(b"gg", rows_at(0, rows)[:24]), (b"j" * 24, rows_at(24, rows)[1:25])])
-    for height in (10, 30):
-        it.resize(80, height)
-        it.wait_for_drawn(rows_at(24, rows)[max(0, 25 - height) : max(25, height)])
+    it = start(List, FIFTY)
+    it.play([b"G", rows_at(49, FIFTY)[26:], b"k", rows_at(48, FIFTY)[25:49]])
+    it.play([b"gg", rows_at(0, FIFTY)[:24], b"j" * 24, rows_at(24, FIFTY)[1:25]])
+    it.play([(80, 10), rows_at(24, FIFTY)[15:25], (80, 30), rows_at(24, FIFTY)[:30]])
     it.end(b"\r", 0, "25\r\n")
 
 
 def test_list_on_a_terminal_without_a_size(start):
     """It is drawn as on one of 24 rows."""
-    rows = [str(it) for it in range(1, 51)]
-    it = start(List, rows_at(0, rows)[:24], *rows, size=(0, 0))
-    it.draw([(b"G", rows_at(49, rows)[26:]), (b"gg", rows_at(0, rows)[:24])])
+    it = start(List, FIFTY, size=(0, 0))
+    it.play([b"G", rows_at(49, FIFTY)[26:], b"gg", rows_at(0, FIFTY)[:24]])
     it.end(b"\r", 0, "1\r\n")
 
 
 @pytest.mark.parametrize("number", ENDING_SIGNALS, ids=lambda it: it.name)
 @pytest.mark.parametrize("kind", [Prompt, List])
 def test_signal(start, kind, number):
-    it = start(kind, *(("|",) if kind is Prompt else (rows_at(0), *ROWS)))
-    it.end_by(number)
+    start(kind).end_by(number)
 
 
 @pytest.mark.parametrize("kind, status", [(Prompt, 0), (List, 1)])
 def test_end_of_the_input(start, kind, status):
     """The first ^D ends a read, and the second the input. No row is picked then."""
-    it = start(kind, *(("|",) if kind is Prompt else (rows_at(0), *ROWS)))
-    it.let_end_input()
-    it.send(b"j\x04\x04")
+    it = start(kind)
+    it.play([Terminal.let_end_input, b"j\x04\x04"])
     it.check_end(status)
 
 
@@ -347,8 +295,8 @@ REFUSED = {
 @pytest.mark.parametrize("name", REFUSED)
 def test_refused(example, name):
     words, status, says = REFUSED[name]
-    done = run_without_terminal([*example("c", re.match("[a-z]+", name)[0]), *words])
-    assert (done.returncode, done.stdout, done.stderr.decode()) == (status, b"", says)
+    program = example("c", re.match("[a-z]+", name)[0])
+    check_refused([*program, *words], status, re.escape(says))
 
 
 class Serving(Terminal):
@@ -366,8 +314,7 @@ class Serving(Terminal):
     def printed(self, place):
         """The keys that were printed for one."""
         start = f"{self.names[place]}: "
-        lines = self.output.decode().split("\r\n")[:-1]
-        return [line.removeprefix(start) for line in lines if line.startswith(start)]
+        return [it.removeprefix(start) for it in self.lines() if it.startswith(start)]
 
     def check_all(self, count, keys, *names):
         """All of so many type keys, and they are printed for each."""
@@ -428,12 +375,9 @@ class Server(Serving):
 
     def connect(self):
         """Connects a terminal. Returns its place in the lists."""
-        it = socket.socket(socket.AF_UNIX)
-        self.sockets.append(it)
-        end = time.monotonic() + SECONDS
-        while it.connect_ex(self.path) != 0:
-            assert time.monotonic() < end
-        self.typing.append(it.fileno())
+        self.sockets.append(socket.socket(socket.AF_UNIX))
+        self.wait_for(lambda: self.sockets[-1].connect_ex(self.path) == 0, "connection")
+        self.typing.append(self.sockets[-1].fileno())
         return len(self.sockets) - 1
 
     def take_in(self):
@@ -448,26 +392,10 @@ class Server(Serving):
         self.names.insert(place, self.match[1].decode())
         self.checked[place] = len(self.printed(place))
 
-    def ticks(self):
-        """Of the processor, a hundred in a second."""
-        words = Path(f"/proc/{self.job}/stat").read_text().rpartition(")")[2].split()
-        return int(words[11]) + int(words[12])
-
     def close(self):
         super().close()
         for it in self.sockets:
             it.close()
-
-
-@contextlib.contextmanager
-def hidden(descriptors):
-    """Keeps them in a socket, so that a fork doesn't copy them."""
-    ours, theirs = socket.socketpair()
-    with ours, theirs:
-        socket.send_fds(ours, [b"."], descriptors)
-        for it in descriptors:
-            os.close(it)
-        yield lambda: socket.recv_fds(theirs, 1, len(descriptors))[1]
 
 
 class Many(Serving):
@@ -475,23 +403,18 @@ class Many(Serving):
 
     def __init__(self, program, count, erase=b"\x7f"):
         pairs = [os.openpty() for _ in range(count)]
-        typing, self.ends = map(list, zip(*pairs))
+        self.hidden, self.ends = map(list, zip(*pairs))
         for end in self.ends:
             change_settings(end, {termios.VERASE: erase, termios.VKILL: b"\x14"})
         self.saved = [termios.tcgetattr(it) for it in self.ends]
         names = [os.ttyname(it) for it in self.ends]
-        with hidden(typing) as take_out:
-            super().__init__([*program, *names])
-            self.names, self.typing = names, take_out()
+        super().__init__([*program, *names])
+        self.names, self.typing = names, self.hidden
         self.wait_for(lambda: all(map(self.is_served, range(count))), "raw mode")
 
     def is_served(self, place):
         """Raw mode is set."""
         return not termios.tcgetattr(self.ends[place])[LFLAG] & termios.ICANON
-
-    def hang_up(self, place):
-        with open(os.devnull, "rb") as nothing:
-            os.dup2(nothing.fileno(), self.typing[place])
 
     def check_left(self, *places):
         """Their settings and modes are as they were."""
@@ -536,9 +459,9 @@ def test_free_places_of_the_server(server):
         server.sockets[place].shutdown(socket.SHUT_WR)
         assert server.sockets[place].recv(1) == b""
         server.take_in()
-        before = server.ticks()
+        before = server.processor_ticks()
         time.sleep(LONG_PAUSE)
-        assert server.ticks() - before <= 2
+        assert server.processor_ticks() - before <= 2
 
 
 @pytest.mark.timed
@@ -610,11 +533,11 @@ def test_terminals_that_hang_up(many):
     """The others are served on, and the server ends with the last one."""
     it = many(3)
     for place, rest in [(1, [0, 2]), (0, [2])]:
-        it.hang_up(place)
+        it.hang_up(it.typing[place])
         for other in rest:
             it.type(other, b"a")
             it.wait_for_printed(other, "a")
-    it.hang_up(2)
+    it.hang_up(it.typing[2])
     it.check_end(0)
 
 

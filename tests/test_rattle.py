@@ -10,6 +10,7 @@ import subprocess
 
 import pytest
 from conftest import SECONDS, TOP
+from plain_map import LONG, letters, long, nested, plain_lookup
 
 TEST_CALLS = os.environ.get("TEST_CALLS") or str(TOP / "crates/test_calls/out/test_calls")
 
@@ -100,12 +101,8 @@ def test_paste_of_100_kilobytes_in_pieces():
 
 
 # Pieces. The bytes that come before, the pieces, whether more may come, and what they give.
-A, UP_ARROW, BRACKET, ONE = (
-    "key U+0061 NONE",
-    "key UpArrow NONE",
-    "key U+005B ALT",
-    "key U+0031 NONE",
-)
+A, UP_ARROW = "key U+0061 NONE", "key UpArrow NONE"
+BRACKET, ONE = "key U+005B ALT", "key U+0031 NONE"
 PIECES = {
     "no pieces": (b"", [], 1, "0 wait"),
     "flush by no pieces": (b"\033", [], 0, "0 key Escape NONE, 0 wait"),
@@ -197,12 +194,12 @@ def test_a_paste_of_300_kilobytes_awaits_its_end():
 END = 1_000_000
 
 
-class Program:
-    """The program in a mode, asked one command after another."""
+class Asked:
+    """A program, asked one command after another."""
 
-    def __init__(self, mode):
+    def __init__(self, *words):
         pipes = {"stdin": subprocess.PIPE, "stdout": subprocess.PIPE, "text": True}
-        self.process = subprocess.Popen([TEST_CALLS, mode], **pipes)
+        self.process = subprocess.Popen(words, **pipes)
 
     def __enter__(self):
         return self
@@ -215,6 +212,13 @@ class Program:
         self.process.stdin.write(command(*words) + "\n")
         self.process.stdin.flush()
         return self.process.stdout.readline()[:-1]
+
+
+class Program(Asked):
+    """The program in a mode."""
+
+    def __init__(self, mode):
+        super().__init__(TEST_CALLS, mode)
 
     def events(self, *words):
         """The events that a command gives, and how many bytes stay buffered."""
@@ -333,32 +337,29 @@ LONG_REPORT = b"\033[97;;" + b"65:" * 82 + b"229u"
 LONG_KEY = key_report("Char('a')", text="A" * 82 + "å")
 
 # Texts, and their events.
-TEXTS = [
-    (
-        b"a\033[I\033[200~p\033[201~\033[97;1:3u\033]0;t\a",
-        [
-            f"""Key({key_report("Char('a')")})""",
-            "FocusGained",
-            "paste 1:70",
-            f"""Key({key_report("Char('a')", kind="Release")})""",
-            f"Osc({sequence_bytes(b'0;t')})",
-        ],
-    ),
-    (PASTE_START + b"x" * 100000 + PASTE_END, [pasted(b"x" * 100000)]),
-    (LONG_STRING, [f"Osc({sequence_bytes(LONG_STRING[2:-2])})"]),
-    (
-        b"\033_Gi=1;OK\033[I",
-        [f"StringCut {{ kind: Apc, bytes: {sequence_bytes(b'Gi=1;OK')} }}", "FocusGained"],
-    ),
-    (LONG_REPORT, [f"Key({LONG_KEY})"]),
-    (b"\033[I\033]4;a\a" * 35000, ["FocusGained", f"Osc({sequence_bytes(b'4;a')})"] * 35000),
-]
+TEXTS = {
+    b"a\033[I\033[200~p\033[201~\033[97;1:3u\033]0;t\a": [
+        f"""Key({key_report("Char('a')")})""",
+        "FocusGained",
+        "paste 1:70",
+        f"""Key({key_report("Char('a')", kind="Release")})""",
+        f"Osc({sequence_bytes(b'0;t')})",
+    ],
+    PASTE_START + b"x" * 100000 + PASTE_END: [pasted(b"x" * 100000)],
+    LONG_STRING: [f"Osc({sequence_bytes(LONG_STRING[2:-2])})"],
+    b"\033_Gi=1;OK\033[I": [
+        f"StringCut {{ kind: Apc, bytes: {sequence_bytes(b'Gi=1;OK')} }}",
+        "FocusGained",
+    ],
+    LONG_REPORT: [f"Key({LONG_KEY})"],
+    b"\033[I\033]4;a\a" * 35000: ["FocusGained", f"Osc({sequence_bytes(b'4;a')})"] * 35000,
+}
 
 
 @pytest.mark.parametrize("call", EXTENDED_CALLS)
 def test_extended_texts(call):
     with Program("extended") as program:
-        for text, events in TEXTS:
+        for text, events in TEXTS.items():
             assert program.read(call, 1, text) == (events, "0 wait")
 
 
@@ -472,9 +473,6 @@ def lookups(rows):
 # Three keys of which each is a prefix of the next, and one that is apart.
 NESTED = [(b"boa", 1), (b"boo", 2), (b"boom", 3), (b"boom!!", 4)]
 
-# The first 300 bytes of a text are a key, and so are the first 100.
-LONG = bytes(it % 251 for it in range(301))
-
 # Entries whose keys are all different, and texts that are looked up among these, whether more of
 # them may follow, and the answers. termwiz's own cases come first. rust/tests/keymap.rs has them
 # all, for maps that remember nothing.
@@ -586,34 +584,22 @@ def test_removed_keys():
 
 
 # Drawn keys and texts, looked up in a map and a plain one.
-class Draws(random.Random):
-    def text(self, kind):
-        if kind == "letters":
-            return bytes(self.choices(b"abc", k=self.randrange(7)))
-        if kind == "nested":
-            start = b"a common beginning"[: self.randrange(19)]
-            return start + bytes(self.choices(b"\x00\x01\xfe\xff", k=self.randrange(4)))
-        if kind == "five":
-            return b"\x00\xff" + bytes(self.choices(b"\x00\x01\xfe\xff", k=3))
-        start = LONG[: 298 + self.randrange(4)]
-        return start + bytes(self.choices(b"\x00\xff", k=self.randrange(3)))
+def five(draws):
+    return b"\x00\xff" + bytes(draws.choices(b"\x00\x01\xfe\xff", k=3))
 
 
-def plain_lookup(entries, text, more):
+def found_among(entries, text, more):
     """What a lookup among these entries finds."""
-    lengths = [it for it in range(len(text) + 1) if text[:it] in entries]
-    is_extended = any(key != text and key.startswith(text) for key in entries)
-    if not lengths:
-        return "NeedData" if is_extended else "None"
-    kind = "Ambiguous" if is_extended and more else "Exact"
-    return found(kind, lengths[-1], entries[text[: lengths[-1]]])
+    it = plain_lookup(entries, text, more)
+    kind = type(it).__name__.replace("Nothing", "None")
+    return found(kind, it.len, it.value) if hasattr(it, "len") else kind
 
 
 def drawn_lookups(draws, kind, entries):
     """Ten texts, and what is found of each."""
     for _ in range(10):
-        text, more = draws.text(kind), draws.randrange(2)
-        yield command("lookup", more, text), plain_lookup(entries, text, more)
+        text, more = kind(draws), draws.randrange(2)
+        yield command("lookup", more, text), found_among(entries, text, more)
 
 
 def drawn_map(draws, kind, when):
@@ -624,7 +610,7 @@ def drawn_map(draws, kind, when):
         yield "remember", ""
     yield insert(b"", 60)
     for value in range(60):
-        key = draws.text(kind)
+        key = kind(draws)
         entries[key] = value
         yield insert(key, value)
         if when == "between" and value % 7 < 4:
@@ -641,8 +627,8 @@ def drawn_map(draws, kind, when):
 def test_drawn_keys(when):
     """A map that remembers its ranges then. rust/tests/keymap.rs draws such texts for maps that
     remember nothing."""
-    draws = Draws(1)
-    kinds = ["letters", "nested", "five"] * 8 + ["long"]
+    draws = random.Random(1)
+    kinds = [letters, nested, five] * 8 + [long]
     asked = [it for kind in kinds for it in drawn_map(draws, kind, when)]
     assert {wanted.split(" ")[0] for _, wanted in asked} == {"", "Exact", "Ambiguous"}
     check("map", asked)
@@ -653,7 +639,7 @@ def test_decimal_keys_in_reverse_order():
     remembered half way, and once all keys are there."""
     entries = {f"#{299 - value}~".encode(): value for value in range(300)}
     texts = [f"#{number}{end}".encode() for number in range(310) for end in ("~#", "")]
-    rows = [(it, more, plain_lookup(entries, it, more)) for it in texts for more in (1, 0)]
+    rows = [(it, more, found_among(entries, it, more)) for it in texts for more in (1, 0)]
     asked = [insert(*it) for it in entries.items()]
     asked.insert(151, ("remember", ""))
     asked += [*lookups(rows), ("remember", ""), *lookups(rows)]
@@ -687,29 +673,24 @@ def test_appends_and_drops():
     check("buffer", asked)
 
 
+# Texts, and where from an offset on something is found in each.
+SEARCHES = {
+    b"abcabc": [(0, b"abc", "0"), (1, b"abc", "3"), (3, b"abc", "3"), (4, b"abc", "None")]
+    + [(0, b"c", "2"), (6, b"c", "None"), (0, b"abcabcd", "None")],
+    b"aaab": [(0, b"aab", "1")],
+    b"\x00\xff\x00": [(1, b"\x00", "2")],
+    b"": [(0, b"a", "None"), (0, b"", "0")],
+    b"abc": [(0, b"", "0"), (2, b"", "2"), (3, b"", "3")],
+}
+
+
 @pytest.mark.parametrize(
-    "text, offset, needle, wanted",
-    [
-        (b"abcabc", 0, b"abc", "0"),
-        (b"abcabc", 1, b"abc", "3"),
-        (b"abcabc", 3, b"abc", "3"),
-        (b"abcabc", 4, b"abc", "None"),
-        (b"abcabc", 0, b"c", "2"),
-        (b"abcabc", 6, b"c", "None"),
-        (b"abcabc", 0, b"abcabcd", "None"),
-        (b"aaab", 0, b"aab", "1"),
-        (b"\x00\xff\x00", 1, b"\x00", "2"),
-        (b"", 0, b"a", "None"),
-        (b"", 0, b"", "0"),
-        (b"abc", 0, b"", "0"),
-        (b"abc", 2, b"", "2"),
-        (b"abc", 3, b"", "3"),
-    ],
+    "text, search", [(text, it) for text, searches in SEARCHES.items() for it in searches]
 )
-def test_searches(text, offset, needle, wanted):
+def test_searches(text, search):
     """Also where other bytes were dropped before these."""
-    search = find(offset, needle, wanted)
-    check("buffer", [extend(text), search, advance(len(text)), extend(text), search])
+    asked = find(*search)
+    check("buffer", [extend(text), asked, advance(len(text)), extend(text), asked])
 
 
 def test_100_kilobytes():
@@ -760,69 +741,43 @@ def test_events_and_their_clones_equal_themselves_alone():
     assert rows[::2] == rows[1::2] == wanted
 
 
-def test_events_that_no_bytes_mean():
-    assert answer_of("values", "lines") == (
-        "key U+000A CTRL, key U+10FFFF SUPER, key F0 LEADER, key Numpad0 LEFT_ALT+RIGHT_SHIFT, "
-        "key InternalPasteEnd NONE, pixelmouse 65535 0 VERT_WHEEL+WHEEL_POSITIVE ALT, "
-        "resized 80 24, wake, 0 wait"
-    )
+PASTED = b"two\nlines".hex()
+# F1, Tab and !, each with a bit that no flag names: it counts as held, and is kept where SHIFT or
+# ALT is dropped. ! at level 2 of modifyOtherKeys without and with that bit, Up in application
+# cursor mode, and the longest text.
+SENT = ["\033[1;1P", "\033\t", "!", "!", "\033[27;1;33~", "\033[1;2A", "\033[27;8;1114111~"]
+OTHERS = " ".join(map(str, range(1, 256)))
+
+# What these commands answer.
+VALUES = {
+    # Events that no bytes mean.
+    "lines": "key U+000A CTRL, key U+10FFFF SUPER, key F0 LEADER, "
+    "key Numpad0 LEFT_ALT+RIGHT_SHIFT, key InternalPasteEnd NONE, "
+    "pixelmouse 65535 0 VERT_WHEEL+WHEEL_POSITIVE ALT, resized 80 24, wake, 0 wait",
+    # A pasted text, as it is seen, and as it is taken out.
+    "pasted": f"{PASTED} {PASTED}",
+    # Of errors; and how sequences begin.
+    "messages": "input not taken: out of memory / input taken: out of memory / "
+    "out of memory after 3 pieces / unhandled fkey number 25 / out of memory / 1b5b / 1b4f",
+    "is_modifier": "Hyper Super Meta Shift LeftShift RightShift Control LeftControl RightControl "
+    "Alt LeftAlt RightAlt LeftWindows RightWindows U+0061 isn't CapsLock isn't NumLock isn't "
+    "Menu isn't LeftMenu isn't ",
+    # Shift makes capitals of small letters alone: of a, and of z with Ctrl too, and not of a
+    # without Shift, 1, é and Tab.
+    "shifted": "U+0041 U+005A U+0061 U+0031 U+00E9 Tab ",
+    # Four keys that are up, and three that have no text, are behind the sent ones.
+    "encode": " / ".join([*(it.encode().hex() for it in SENT), *[""] * 4, "F0", "F25", "F255", ""]),
+    # Of a map of keys and of an answer.
+    "clones": "Exact 1 Enter CTRL true",
+    # A clone of 256 chords keeps the one that is unbound then, and all others.
+    "bindings": f"0 255: None {OTHERS} 256: 0 {OTHERS} ",
+    "print_press": "alt+left",
+}
 
 
-def test_pasted_text():
-    """As it is seen, and as it is taken out."""
-    text = b"two\nlines".hex()
-    assert answer_of("values", "pasted") == f"{text} {text}"
-
-
-def test_messages():
-    """Of errors; and how sequences begin."""
-    assert answer_of("values", "messages").split(" / ") == [
-        "input not taken: out of memory",
-        "input taken: out of memory",
-        "out of memory after 3 pieces",
-        "unhandled fkey number 25",
-        "out of memory",
-        b"\033[".hex(),
-        b"\033O".hex(),
-    ]
-
-
-def test_modifier_keys():
-    assert answer_of("values", "is_modifier") == (
-        "Hyper Super Meta Shift LeftShift RightShift Control LeftControl RightControl Alt LeftAlt "
-        "RightAlt LeftWindows RightWindows U+0061 isn't CapsLock isn't NumLock isn't Menu isn't "
-        "LeftMenu isn't "
-    )
-
-
-def test_shift_makes_capitals_of_small_letters_alone():
-    """Of a, and of z with Ctrl too, and not of a without Shift, 1, é and Tab."""
-    wanted = ["U+0041", "U+005A", "U+0061", "U+0031", "U+00E9", "Tab"]
-    assert answer_of("values", "shifted").split() == wanted
-
-
-def test_encoder():
-    """F1, Tab and !, each with a bit that no flag names: it counts as held, and is kept where SHIFT
-    or ALT is dropped. ! at level 2 of modifyOtherKeys without and with that bit, Up in application
-    cursor mode, and the longest text. Four keys that are up, and three that have no text."""
-    texts = ["\033[1;1P", "\033\t", "!", "!", "\033[27;1;33~", "\033[1;2A", "\033[27;8;1114111~"]
-    wanted = [*(it.encode().hex() for it in texts), "", "", "", "", "F0", "F25", "F255"]
-    assert answer_of("values", "encode").split(" / ") == [*wanted, ""]
-
-
-def test_clones_of_a_map_of_keys_and_of_an_answer():
-    assert answer_of("values", "clones") == "Exact 1 Enter CTRL true"
-
-
-def test_clone_of_256_chords():
-    """A clone keeps the chord that is unbound then, and all others."""
-    others = " ".join(str(it) for it in range(1, 256))
-    wanted = f"0 255: None {others} 256: 0 {others} "
-    assert answer_of("values", "bindings") == wanted
-
-
-def test_name_of_one_press():
-    assert answer_of("values", "print_press") == "alt+left"
+@pytest.mark.parametrize("name", VALUES)
+def test_values(name):
+    assert answer_of("values", name) == VALUES[name]
 
 
 # Control characters, each with the characters of which Ctrl makes it; of others it makes none.

@@ -5,6 +5,7 @@ What the child gets has to be what a terminal sends in the child's modes, whatev
 relay sends. What the child writes is passed on, but for its modes, and relay restores its terminal
 however it ends."""
 import contextlib
+import functools
 import os
 import re
 import select
@@ -16,10 +17,10 @@ from dataclasses import replace
 from pathlib import Path
 
 import pytest
-from conftest import run_without_terminal
+from conftest import check_refused, run_without_terminal
 from relay_child import long_text
-from terminal import BEFORE_SHELL, END, ENDING_SIGNALS, LONG_PAUSE, PAUSE, SECONDS, START, Terminal
-from terminal_data import FOLDER, load
+from terminal import END, ENDING_SIGNALS, LONG_PAUSE, PAUSE, SECONDS, START, Terminal
+from terminal_data import recorded
 
 from hedrugal import KeyPress, KeyReport, KittyKeyboardFlags, Parser, encode_paste
 
@@ -33,6 +34,7 @@ HAS_KITTY, ATTRIBUTES = b"\033[?31u", b"\033[?62;22c"
 # Which flags a child may ask for.
 FLAGS = [1, 5, 15, 31]
 MEGABYTES = 3 << 20
+SH, REST = ["sh", "-c"], "[^\n]*\r\n"
 
 
 class Child:
@@ -57,33 +59,41 @@ class Child:
     def do(self, letter, data=b""):
         self.socket.send(letter + (data if isinstance(data, bytes) else b"%d" % data))
 
+    def wait_for(self, holds):
+        with self.changed:
+            assert self.changed.wait_for(holds, SECONDS), (self.read[-300:], self.signals)
+
+    def take(self, end):
+        """What it reads up to the end of these bytes."""
+        self.wait_for(lambda: end in self.read)
+        with self.changed:
+            got, _, self.read = self.read.partition(end)
+        return bytes(got)
+
     def gets(self, data):
         """The next bytes that it reads are these."""
+        self.wait_for(lambda: len(self.read) >= len(data))
         with self.changed:
-            self.changed.wait_for(lambda: len(self.read) >= len(data), SECONDS)
-            got = bytes(self.read[: len(data)])
-            del self.read[: len(data)]
+            got, self.read = self.read[: len(data)], self.read[len(data) :]
         assert got == data
 
     def is_told(self, *numbers):
         """It is sent this signal, and its terminal has this size."""
-        with self.changed:
-            told = self.changed.wait_for(lambda: [*numbers] in self.signals, SECONDS)
-            assert told, self.signals
-            self.signals.remove([*numbers])
+        self.wait_for(lambda: [*numbers] in self.signals)
+        self.signals.remove([*numbers])
 
 
 class Relay(Terminal):
     """A relay with the child."""
 
-    def __init__(self, program, folder, has_kitty=False, words=(), before=(), replies=True, **how):
+    def __init__(self, program, folder, has_kitty=False, words=(), replies=True, **how):
         path = folder / "socket"
         path.unlink(missing_ok=True)
         self.listener = socket.socket(socket.AF_UNIX, socket.SOCK_SEQPACKET)
         self.listener.bind(str(path))
         self.listener.listen()
         self.listener.settimeout(SECONDS)
-        super().__init__([*before, *program, *words, sys.executable, CHILD, path], **how)
+        super().__init__([*program, *words, sys.executable, CHILD, path], **how)
         self.child = Child(self.listener.accept()[0])
         self.expect_exact(ON + QUESTIONS)
         if replies:
@@ -91,6 +101,12 @@ class Relay(Terminal):
         if words:
             self.expect_exact(ASKS_ATTRIBUTES)
             self.send(ATTRIBUTES)
+
+    def __exit__(self, fault, *more):
+        """It ends, if it is running and no case fails."""
+        if self.is_running and not fault:
+            self.end()
+        super().__exit__(fault, *more)
 
     def close(self):
         super().close()
@@ -103,14 +119,23 @@ class Relay(Terminal):
         self.expect_exact("|")
         assert self.before == passed
 
+    def tells(self, sent, got):
+        """The terminal sends this, and the child gets that next."""
+        self.send(sent)
+        self.child.gets(got)
+
     def check_keys(self, sent, got):
-        """The terminal sends this, and the child gets that and nothing more."""
-        self.send(sent + b"\033[?64c")
-        self.child.gets(got + b"\033[?64c")
+        """The same, and it gets nothing more."""
+        self.tells(sent + b"\033[?64c", got + b"\033[?64c")
 
     def check_end(self, status):
         super().check_end(status)
         assert not re.search(rb"\033\[\?u|\033\[[<>=]", self.output.split(OFF.encode())[-1])
+
+    def check_left(self, left):
+        """It ends, and this is left for the shell."""
+        self.check_end(0)
+        assert self.left() == left
 
     def end(self):
         self.child.do(b"x")
@@ -124,16 +149,14 @@ def program(example):
 
 @pytest.fixture
 def start(program, tmp_path):
-    with contextlib.ExitStack() as stack:
-        yield lambda *has, **how: stack.enter_context(Relay(program, tmp_path, *has, **how))
+    return functools.partial(Relay, program, tmp_path)
 
 
 @pytest.fixture(params=[False])
 def relay(start, request):
-    """A relay on a terminal without Kitty's protocol, or with it. It ends after the case."""
-    it = start(request.param)
-    yield it
-    it.end()
+    """A relay on a terminal without Kitty's protocol, or with it."""
+    with start(request.param) as it:
+        yield it
 
 
 on_kitty = pytest.mark.parametrize("relay", [True], indirect=True)
@@ -141,24 +164,16 @@ on_both = pytest.mark.parametrize("relay", [True, False], indirect=True)
 
 
 # Modes that the child sets, what the terminal sends by Kitty's protocol, and what the child gets.
+# What kitty sends for its other keys without modes is in test_recorded_kitty.
 KITTY_TO_LEGACY = {
-    "a character": (b"", b"\033[97;;97u", b"a"),
-    "Shift": (b"", b"\033[97:65;2;65u", b"A"),
     "a repeat": (b"", b"\033[97;1:2;97u", b"a"),
-    "releases": (b"", b"\033[97;1:3u\033[13;1:3u\033[1;1:3A", b""),
     "modifiers alone": (b"", b"\033[57441;2u\033[57442;5u\033[57358u", b""),
-    "Enter, Tab, Backspace, Escape": (b"", b"\033[13u\033[9u\033[127u\033[27u", b"\r\t\x7f\033"),
-    "Shift-Tab, Shift-Enter": (b"", b"\033[9;2u\033[13;2u", b"\033[Z\r"),
-    "Ctrl": (b"", b"\033[99;5u\033[91;5u\033[32;5u", b"\x03\x1b\0"),
-    "Ctrl and Shift": (b"", b"\033[97:65;6u", b"\x01"),
-    "Ctrl and a sign": (b"", b"\033[49:33;6u\033[50:64;6u", b"!\0"),
     "Alt": (b"", b"\033[97;3u\033[97:65;4u\033[233;3u", "\033a\033A\033é".encode()),
     "Super, Hyper, Meta": (b"", b"\033[97;9u\033[97;17u\033[97;33u\033[1;9A", b""),
     "locks": (b"", b"\033[97;65;65u\033[99;69u\033[1;129B", b"A\x03\033[B"),
     "arrows": (b"", b"\033[A\033[1;5A\033[1;1:2D\033[H", b"\033[A\033[1;5A\033[D\033[H"),
     "function keys": (b"", b"\033[P\033[13~\033[15;2~", b"\033OP\033OR\033[15;2~"),
     "F13, F25 and a key for volume": (b"", b"\033[57376u\033[57388u\033[57438u", b"\033[25~"),
-    "F3 of kitty 0.26": (b"", b"\033[1;2R", b"\033[1;2R"),
     "a layout": (b"", "\033[1092::97;;1092u\033[1092::97;5u".encode(), "ф\1".encode()),
     "two characters": (b"", b"\033[0;;102:105u", b"fi"),
     "a character without a key": (b"", "\033[0;;229u\033[0u".encode(), "å".encode()),
@@ -208,31 +223,23 @@ def test_keys(relay, modes, sent, got):
 
 
 # What the child gets for these, where 127 erases and where 8 does. Ctrl-H sends 8 in both.
-BACKSPACE = b"\x08\x7f\033\x08\033[127u\033[127;5u\033[127;3u\033[104;5u"
+WITH_MODIFIERS = b"\033[127;5u\033[127;3u\033[104;5u"
+BACKSPACE = b"\x08\x7f\033\x08\033[127u" + WITH_MODIFIERS
 ERASED = {
     "127": (b"\x7f", b"", b"\x08\x7f\033\x08\x7f\x08\033\x7f\x08"),
     "8": (b"\x08", b"", b"\x08\x7f\033\x08\x08\x7f\033\x08\x08"),
-    "127, flag 1": (
-        b"\x7f",
-        b"\033[>1u",
-        b"\033[104;5u\x7f\033[104;7u\x7f\033[127;5u\033[127;3u\033[104;5u",
-    ),
-    "8, flag 1": (
-        b"\x08",
-        b"\033[>1u",
-        b"\x08\033[127;5u\033[127;3u\x08\033[127;5u\033[127;3u\033[104;5u",
-    ),
+    "127, flag 1": (b"\x7f", b"\033[>1u", b"\033[104;5u\x7f\033[104;7u\x7f" + WITH_MODIFIERS),
+    "8, flag 1": (b"\x08", b"\033[>1u", b"\x08\033[127;5u\033[127;3u\x08" + WITH_MODIFIERS),
 }
 
 
 @pytest.mark.parametrize("erase, modes, got", ERASED.values(), ids=ERASED)
 def test_backspace(start, erase, modes, got):
     """The child's terminal has the settings of the terminal outside, and the byte of these."""
-    relay = start(True, erase=erase)
-    relay.child.is_told(ord(erase), 80, 24)
-    relay.passes(modes)
-    relay.check_keys(BACKSPACE, got)
-    relay.end()
+    with start(True, erase=erase) as relay:
+        relay.child.is_told(ord(erase), 80, 24)
+        relay.passes(modes)
+        relay.check_keys(BACKSPACE, got)
 
 
 @on_kitty
@@ -242,13 +249,6 @@ def test_newline_mode(relay):
     relay.check_keys(b"\033[13u\033[13;3u", b"\r\n\033\r\n")
     relay.passes(b"\033[20l", b"\033[20l")
     relay.check_keys(b"\033[13u", b"\r")
-
-
-def recorded(name, mode, kind="press"):
-    """The presses of a terminal in a mode, and the bytes that it sent for each."""
-    _, lines = load(FOLDER / f"{name}.tsv")
-    told = [it for it in lines if it.kind == kind and mode in it.modes.split(",") and not it.layout]
-    return {press: it.bytes for it in told for press in it.what.split()}
 
 
 def one_key(data):
@@ -268,17 +268,8 @@ def one_key(data):
 def relayed(relay, texts):
     """What the child gets for each of these texts of the terminal. A reply parts them."""
     ends = [b"\033[?64;%dc" % number for number in range(len(texts))]
-    got, rest = [], None
     relay.send(b"".join(text + end for text, end in zip(texts, ends)))
-    with relay.child.changed:
-        relay.child.changed.wait_for(lambda: relay.child.read.endswith(ends[-1]), SECONDS)
-        rest = bytes(relay.child.read)
-        relay.child.read.clear()
-    for end in ends:
-        text, found, rest = rest.partition(end)
-        assert found == end
-        got.append(text)
-    return got
+    return [relay.child.take(end) for end in ends]
 
 
 # tmux has other codes for Home and End, and sends Tab without modifiers, and any key without Super.
@@ -289,28 +280,25 @@ OTHERS = r"home|end|(ctrl|alt)\+.*tab|super\+.*|(alt\+)?é"
 @pytest.mark.timed
 def test_recorded_kitty(start):
     """For what kitty sends by its protocol the child gets what another multiplexer, tmux, sends."""
-    relay, sent = start(True), recorded("kitty", "kitty31")
-    got = dict(zip(sent, relayed(relay, sent.values())))
-    wanted = recorded("tmux-xterm", "default")
+    sent, wanted = recorded("kitty", "kitty31"), recorded("tmux-xterm", "default")
+    with start(True) as relay:
+        got = dict(zip(sent, relayed(relay, sent.values())))
+        assert {*relayed(relay, recorded("kitty", "kitty31", "release").values())} == {b""}
     told = [press for press in sent if press in wanted and not re.fullmatch(OTHERS, press)]
     assert [it for it in told if got[it] != wanted[it]] == [] and len(told) > 600
     assert {got[press] for press in sent if press.startswith("super")} == {b""}
-    released = recorded("kitty", "kitty31", "release").values()
-    assert {*relayed(relay, released)} == {b""}
-    relay.end()
 
 
 @pytest.mark.timed
 def test_flags(start):
     """From a terminal without the protocol the child gets what `encode_kitty` writes."""
     presses = [it for it in recorded("xterm", "default").values() if one_key(it)]
-    relay = start()
-    for flags in FLAGS:
-        relay.passes(b"\033[>%du" % flags)
-        wanted = [one_key(it).encode(KittyKeyboardFlags(flags)) for it in presses]
-        assert relayed(relay, presses) == wanted
-    assert len(presses) > 500
-    relay.end()
+    with start() as relay:
+        for flags in FLAGS:
+            relay.passes(b"\033[>%du" % flags)
+            wanted = [one_key(it).encode(KittyKeyboardFlags(flags)) for it in presses]
+            assert relayed(relay, presses) == wanted
+        assert len(presses) > 500
 
 
 # Reports of mode 1006: the left button is pressed, moved with Shift and released, the wheel is
@@ -362,33 +350,23 @@ def test_two_buttons(relay):
     relay.check_keys(down + up, b'\033[M !!\033[M"!!' + 2 * b"\033[M#!!")
 
 
-# What the terminal sends; what the child gets with mode 2004, and without.
+# The text that is pasted, what of it the child gets, and what the terminal sends behind END.
 PASTES = {
-    "lines": (START + b"a\nb\r\nc\td" + END, START + b"a\rb\rc\td" + END, b"a\rb\rc\td"),
-    "the beginning of END": (
-        START + b"rm\033[20" + END + b"1~x",
-        START + "rm␛[20".encode() + END + b"1~x",
-        "rm␛[201~x".encode(),
-    ),
-    "START and control characters": (
-        START + b"a\033[200~\x03\xc2\x9b201~" + END,
-        START + "a␛[200~␃\ufffd201~".encode() + END,
-        "a␛[200~␃\ufffd201~".encode(),
-    ),
-    "a terminal that passes END on": (
-        START + b"a" + END + b"ls\r" + END + b"x",
-        START + b"a" + END + b"ls\r" + END + b"x",
-        b"als\rx",
-    ),
-    "nothing": (START + END, START + END, b""),
+    "lines": (b"a\nb\r\nc\td", "a\rb\rc\td", b""),
+    "the beginning of END": (b"rm\033[20", "rm␛[20", b"1~x"),
+    "START and control characters": (b"a\033[200~\x03\xc2\x9b201~", "a␛[200~␃\ufffd201~", b""),
+    "a terminal that passes END on": (b"a", "a", b"ls\r" + END + b"x"),
+    "nothing": (b"", "", b""),
 }
 
 
-@pytest.mark.parametrize("sent, bracketed, typed", PASTES.values(), ids=PASTES)
-def test_pastes(relay, sent, bracketed, typed):
+@pytest.mark.parametrize("text, got, behind", PASTES.values(), ids=PASTES)
+def test_pastes(relay, text, got, behind):
+    """The child gets the marks with mode 2004 alone."""
+    sent, typed = START + text + END + behind, got.encode() + behind.replace(END, b"")
     relay.check_keys(sent, typed)
     relay.passes(b"\033[?2004h")
-    relay.check_keys(sent, bracketed)
+    relay.check_keys(sent, START + got.encode() + END + behind)
     relay.passes(b"\033[?2004l")
     relay.check_keys(sent, typed)
 
@@ -404,20 +382,18 @@ def test_long_paste(relay, bracketed):
 @pytest.mark.timed
 def test_start_that_comes_too_slowly(start):
     """The child gets it as keys, and ends its paste at END."""
-    relay = start()
-    relay.passes(b"\033[?2004h")
-    for _ in range(2):
-        relay.play([START[:-1], LONG_PAUSE])
-        relay.check_keys(START[-1:] + b"ls" + END + b"x", START + b"ls" + END + b"x")
-    relay.end()
+    with start() as relay:
+        relay.passes(b"\033[?2004h")
+        for _ in range(2):
+            relay.play([START[:-1], LONG_PAUSE])
+            relay.check_keys(START[-1:] + b"ls" + END + b"x", START + b"ls" + END + b"x")
 
 
 def test_question_within_a_paste(relay):
     """The reply is no part of the pasted text."""
     text = b"a" * 200000
     relay.passes(b"\033[?2004h\033[>5u")
-    relay.send(START + text)
-    relay.child.gets(START + text[: len(text) // 2])
+    relay.tells(START + text, START + text[: len(text) // 2])
     relay.passes(b"\033[?u")
     relay.check_keys(END, text[len(text) // 2 :] + END + b"\033[?5u")
 
@@ -458,15 +434,14 @@ def test_flags_are_stacked(relay):
 @pytest.mark.parametrize("has_kitty", [True, False])
 def test_relay_in_a_relay(start, program, has_kitty):
     """The inner one is a child as any other, and gets all that its terminal tells."""
-    relay = start(has_kitty, words=program)
-    relay.passes(b"\033[?1h\033[?2004;1002;1006h", switches("1002 1006"))
-    keys = b"\033[A\r\x03" + START + b"a\033b" + END + PRESS + DRAG + RELEASE
-    relay.check_keys(keys, keys.replace(b"\033[A", b"\033OA").replace(b"\033b", "␛b".encode()))
-    relay.passes(b"\033[>31u\033[?u")
-    relay.check_keys(b"\033[97;5u", b"\033[?31u\033[97;5u")
-    if has_kitty:
-        relay.check_keys(b"\033[97;5:3u\033[1;1:2A", b"\033[97;5:3u\033[1;1:2A")
-    relay.end()
+    with start(has_kitty, words=program) as relay:
+        relay.passes(b"\033[?1h\033[?2004;1002;1006h", switches("1002 1006"))
+        keys = b"\033[A\r\x03" + START + b"a\033b" + END + PRESS + DRAG + RELEASE
+        relay.check_keys(keys, keys.replace(b"\033[A", b"\033OA").replace(b"\033b", "␛b".encode()))
+        relay.passes(b"\033[>31u\033[?u")
+        relay.check_keys(b"\033[97;5u", b"\033[?31u\033[97;5u")
+        if has_kitty:
+            relay.check_keys(b"\033[97;5:3u\033[1;1:2A", b"\033[97;5:3u\033[1;1:2A")
 
 
 @on_kitty
@@ -491,49 +466,51 @@ def test_position(relay):
 @pytest.mark.timed
 def test_attributes(start):
     """The child gets the replies to its own questions, and relay's own if that comes too late."""
-    relay, question = start(), ASKS_ATTRIBUTES.encode()
-    for _ in range(2):
-        relay.passes(question, question)
+    question = ASKS_ATTRIBUTES.encode()
+    with start() as relay:
+        for _ in range(2):
+            relay.passes(question, question)
+            relay.check_keys(ATTRIBUTES, ATTRIBUTES)
+    with start(replies=False) as relay:
+        relay.play([2.1])
         relay.check_keys(ATTRIBUTES, ATTRIBUTES)
-    relay.end()
-    relay = start(replies=False)
-    relay.play([2.1])
-    relay.check_keys(ATTRIBUTES, ATTRIBUTES)
-    relay.end()
 
 
 @pytest.mark.timed
 def test_end_before_a_reply(start):
     """It is waited for, and what was typed behind it is the shell's."""
-    relay = start(before=BEFORE_SHELL, replies=False)
-    relay.child.do(b"x")
-    relay.play([OFF, 0.1, HAS_KITTY + ATTRIBUTES + b"ls\r", "left b'ls\\r'\r\n"])
+    with start(replies=False) as relay:
+        relay.child.do(b"x")
+        relay.play([OFF, 0.1, HAS_KITTY + ATTRIBUTES + b"ls\r"])
+        relay.check_left(b"ls\r")
 
 
 @pytest.mark.timed
 def test_end_where_nothing_replies(start):
     """relay soon ends, and what came is discarded."""
-    relay = start(before=BEFORE_SHELL, replies=False)
-    relay.child.do(b"x")
-    relay.play([OFF, b"\033[?31", "left b''\r\n"])
+    with start(replies=False) as relay:
+        relay.child.do(b"x")
+        relay.play([OFF, b"\033[?31"])
+        relay.check_left(b"")
 
 
 def test_end_with_keys_that_nobody_read(start):
     """They were typed for the shell."""
-    relay = start(before=BEFORE_SHELL)
-    relay.child.do(b"f", 60000)
-    relay.child.do(b"x")
-    relay.play([PAUSE, b"ls\r"])
-    screen(relay, 60000)
-    relay.play(["left b'ls\\r'\r\n"])
+    with start() as relay:
+        relay.child.do(b"f", 60000)
+        relay.child.do(b"x")
+        relay.play([PAUSE, b"ls\r"])
+        screen(relay, 60000)
+        relay.check_left(b"ls\r")
 
 
 def test_end_with_a_mouse(start):
     """What reports it sends is read up to a last reply."""
-    relay = start(before=BEFORE_SHELL)
-    relay.passes(b"\033[?1003h", switches("1003 1006"))
-    relay.child.do(b"x")
-    relay.play([OFF + ASKS_ATTRIBUTES, MOVE + ATTRIBUTES + b"ls\r", "left b'ls\\r'\r\n"])
+    with start() as relay:
+        relay.passes(b"\033[?1003h", switches("1003 1006"))
+        relay.child.do(b"x")
+        relay.play([OFF + ASKS_ATTRIBUTES, MOVE + ATTRIBUTES + b"ls\r"])
+        relay.check_left(b"ls\r")
 
 
 def test_long_reply(relay):
@@ -545,24 +522,20 @@ def test_long_reply(relay):
 @pytest.mark.timed
 def test_escape(start):
     """It is the key once nothing followed it in time."""
-    relay = start()
-    relay.send(b"\033")
-    relay.child.gets(b"\033")
-    relay.send(b"\033[1;")
-    relay.play([PAUSE, b"5A"])
-    relay.child.gets(b"\033[1;5A")
-    relay.end()
+    with start() as relay:
+        relay.tells(b"\033", b"\033")
+        relay.play([b"\033[1;", PAUSE])
+        relay.tells(b"5A", b"\033[1;5A")
 
 
 @pytest.mark.timed
 def test_sequence_that_comes_while_it_is_stopped(start, late_poll):
     """Its limit has passed then. It is read before anything is flushed."""
-    relay = start(env=os.environ | {"LD_PRELOAD": late_poll})
-    relay.passes(b"\033[?1h")
-    for _ in range(2):
-        relay.play([b"\033", PAUSE])
-        relay.check_keys(b"[A", b"\033OA")
-    relay.end()
+    with start(env=os.environ | {"LD_PRELOAD": late_poll}) as relay:
+        relay.passes(b"\033[?1h")
+        for _ in range(2):
+            relay.play([b"\033", PAUSE])
+            relay.check_keys(b"[A", b"\033OA")
 
 
 def test_new_size(relay):
@@ -574,28 +547,27 @@ def test_new_size(relay):
 @pytest.mark.parametrize("number", ENDING_SIGNALS, ids=lambda it: it.name)
 def test_signal(start, number):
     """The child gets it too. Of both screens nothing is left, and the mouse is waited for."""
-    relay = start()
-    relay.child.do(b"w", b"\033[?1049h\033[?1003;1004h|")
-    relay.expect_exact("|")
-    relay.kill(number)
-    relay.child.is_told(number)
-    relay.check_end(-number)
-    assert relay.output.endswith(b"\033[<u\033[?1049l" + (OFF + ASKS_ATTRIBUTES).encode())
+    with start() as relay:
+        relay.child.do(b"w", b"\033[?1049h\033[?1003;1004h|")
+        relay.expect_exact("|")
+        relay.kill(number)
+        relay.child.is_told(number)
+        relay.check_end(-number)
+        assert relay.output.endswith(b"\033[<u\033[?1049l" + (OFF + ASKS_ATTRIBUTES).encode())
 
 
-@pytest.mark.parametrize("status", [0, 3, 255])
-def test_status(start, status):
-    relay = start()
-    relay.child.do(b"x", status)
-    relay.check_end(status)
+# The commands of the child, and the status of relay.
+ENDS = {f"status {status}": ([(b"x", status)], status) for status in (0, 3, 255)}
+for it in (signal.SIGHUP, signal.SIGKILL, signal.SIGTERM):
+    ENDS[it.name] = [(b"w", b"\033[?1049h\033["), (b"k", it)], 128 + it
 
 
-@pytest.mark.parametrize("number", [signal.SIGHUP, signal.SIGKILL, signal.SIGTERM])
-def test_child_that_a_signal_ends(start, number):
-    relay = start()
-    relay.child.do(b"w", b"\033[?1049h\033[")
-    relay.child.do(b"k", number)
-    relay.check_end(128 + number)
+@pytest.mark.parametrize("commands, status", ENDS.values(), ids=ENDS)
+def test_end_of_the_child(start, commands, status):
+    with start() as relay:
+        for command in commands:
+            relay.child.do(*command)
+        relay.check_end(status)
 
 
 def stop_and_continue(relay, number=signal.SIGTSTP, on=""):
@@ -614,94 +586,76 @@ def test_stop(relay, number):
     """A paste of which the child has a part stays one."""
     on = b"\033[?1049h\033[>31u" + switches("1003 1006")
     relay.passes(b"\033[?1049;1003;2004h", on)
-    relay.send(START + b"a" * 100000)
-    relay.child.gets(START + b"a" * 65536)
+    relay.tells(START + b"a" * 100000, START + b"a" * 65536)
     stop_and_continue(relay, number, on.decode())
     relay.send(b"b" + END + MOVE)
-    with relay.child.changed:
-        relay.child.changed.wait_for(lambda: relay.child.read[-1:] == b"$", SECONDS)
-    assert re.fullmatch(rb"a*b\033\[201~\033\[M..\$", relay.child.read)
-    relay.child.read.clear()
+    assert re.fullmatch(rb"a*b\033\[201~\033\[M..", relay.child.take(b"$"))
 
 
 @pytest.mark.timed
 def test_stop_within_a_paste(start):
     """It goes on, and ends where it is if nothing comes for a second. The next has no such end."""
-    relay = start()
-    relay.passes(b"\033[?2004h")
-    for _ in range(2):
-        relay.play([START + b"a\n", PAUSE])
-        stop_and_continue(relay)
-        relay.play([PAUSE])
-        relay.check_keys(b"b\n" + END + b"x", START + b"a\rb\r" + END + b"x")
-        relay.play([START + b"a\n", PAUSE])
-        stop_and_continue(relay)
-        relay.child.gets(START + b"a\r" + END)
-        relay.play([b"x" + START + b"b", LONG_PAUSE])
-        relay.check_keys(b"c" + END, b"x" + START + b"bc" + END)
-    relay.end()
+    with start() as relay:
+        relay.passes(b"\033[?2004h")
+        for _ in range(2):
+            relay.play([START + b"a\n", PAUSE, stop_and_continue, PAUSE])
+            relay.check_keys(b"b\n" + END + b"x", START + b"a\rb\r" + END + b"x")
+            relay.play([START + b"a\n", PAUSE, stop_and_continue])
+            relay.child.gets(START + b"a\r" + END)
+            relay.play([b"x" + START + b"b", LONG_PAUSE])
+            relay.check_keys(b"c" + END, b"x" + START + b"bc" + END)
 
 
 @pytest.mark.timed
 def test_stop_within_a_reply(start):
     """It goes on, and is cut off if nothing comes for a second. A sequence is forgotten."""
-    relay = start()
     reply = REPLIES["a colour"]
-    for _ in range(2):
-        relay.play([reply[:9], PAUSE])
-        stop_and_continue(relay)
-        relay.check_keys(reply[9:] + b"x", reply + b"x")
-        relay.play([reply[:9], PAUSE])
-        stop_and_continue(relay)
-        relay.play([LONG_PAUSE])
-        relay.check_keys(b"x", b"x")
-        relay.play([b"\033[1;", PAUSE])
-        stop_and_continue(relay)
-        relay.play([QUESTIONS, ATTRIBUTES])
-        relay.check_keys(b"A", b"A")
-    relay.end()
+    with start() as relay:
+        for _ in range(2):
+            relay.play([reply[:9], PAUSE, stop_and_continue])
+            relay.check_keys(reply[9:] + b"x", reply + b"x")
+            relay.play([reply[:9], PAUSE, stop_and_continue, LONG_PAUSE])
+            relay.check_keys(b"x", b"x")
+            relay.play([b"\033[1;", PAUSE, stop_and_continue, QUESTIONS, ATTRIBUTES])
+            relay.check_keys(b"A", b"A")
 
 
 @pytest.mark.timed
 def test_stop_within_a_question(start):
     """It counts no more: what looks like the position is a key, and attributes are the child's."""
-    relay = start(replies=False)
-    relay.passes(b"\033[>31u\033[6n", b"\033[6n")
-    relay.play([START + b"a", PAUSE])
-    stop_and_continue(relay)
-    relay.check_keys(END + b"\033[1;5R", b"a\033[13;5~")
-    relay.end()
+    with start(replies=False) as relay:
+        relay.passes(b"\033[>31u\033[6n", b"\033[6n")
+        relay.play([START + b"a", PAUSE, stop_and_continue])
+        relay.check_keys(END + b"\033[1;5R", b"a\033[13;5~")
 
 
 @pytest.mark.timed
 @pytest.mark.parametrize("number", [signal.SIGCONT, signal.SIGSTOP], ids=lambda it: it.name)
 def test_stop_where_nobody_has_the_terminal(start, number):
     """Nothing comes of it, within a paste or a sequence."""
-    relay = start(True)
-    relay.passes(b"\033[?2004h")
-    for _ in range(2):
-        for sent in [START, b"a\n", END, b"\033[1;", b"5A"]:
-            relay.send(sent)
-            relay.continue_with(number)
-        relay.check_keys(b"", START + b"a\r" + END + b"\033[1;5A")
-    relay.end()
+    with start(True) as relay:
+        relay.passes(b"\033[?2004h")
+        for _ in range(2):
+            for sent in [START, b"a\n", END, b"\033[1;", b"5A"]:
+                relay.send(sent)
+                relay.continue_with(number)
+            relay.check_keys(b"", START + b"a\r" + END + b"\033[1;5A")
     assert relay.output.count(ON.encode()) == 1
     assert relay.child.signals == [[127, 80, 24]]
 
 
 def test_sigtstp_where_no_shell_could_continue_it(start):
-    relay = start(is_orphaned=True)
-    relay.kill(signal.SIGTSTP)
-    relay.play([ON + QUESTIONS, ATTRIBUTES])
-    relay.check_keys(b"a", b"a")
-    relay.end()
+    with start(is_orphaned=True) as relay:
+        relay.kill(signal.SIGTSTP)
+        relay.play([ON + QUESTIONS, ATTRIBUTES])
+        relay.check_keys(b"a", b"a")
 
 
 def test_terminal_that_is_gone(start):
-    relay = start()
-    relay.hang_up()
-    relay.wait_for_end()
-    relay.child.is_told(signal.SIGHUP)
+    with start() as relay:
+        relay.hang_up()
+        relay.wait_for_end()
+        relay.child.is_told(signal.SIGHUP)
 
 
 def most_memory(relay):
@@ -718,12 +672,12 @@ def screen(relay, count):
 
 def test_long_output(start):
     """Nothing is lost while the terminal takes nothing for a time, also at the child's end."""
-    relay = start()
-    relay.child.do(b"f", MEGABYTES)
-    relay.child.do(b"x", 5)
-    assert not relay.told.poll(PAUSE)
-    assert screen(relay, MEGABYTES) == long_text(MEGABYTES)
-    relay.check_end(5)
+    with start() as relay:
+        relay.child.do(b"f", MEGABYTES)
+        relay.child.do(b"x", 5)
+        assert not relay.told.poll(PAUSE)
+        assert screen(relay, MEGABYTES) == long_text(MEGABYTES)
+        relay.check_end(5)
 
 
 def test_both_ways(relay):
@@ -748,54 +702,37 @@ def test_questions_without_end(relay):
     for _ in range(20):
         relay.passes(b"\033[?u" * 10000)
     relay.child.do(b"p")
-    with relay.child.changed:
-        assert relay.child.changed.wait_for(lambda: len(relay.child.read) > 10000, SECONDS)
+    relay.child.wait_for(lambda: len(relay.child.read) > 10000)
     assert most_memory(relay) < 64 << 20
 
 
+# The words behind the program, the status, and what is on the terminal.
 OTHER_CHILDREN = {
-    "one that closes its terminal": ("exec <&- >&- 2>&-; sleep 0.2; exit 4", 4),
-    "one that leaves a process": ("trap '' HUP; yes & exit 3", 3),
-    "one that is interrupted": ("kill -INT $$", 130),
+    "one that closes its terminal": (SH + ["exec <&- >&- 2>&-; sleep 0.2; exit 4"], 4, ".*"),
+    "one that leaves a process": (SH + ["trap '' HUP; yes & exit 3"], 3, ".*"),
+    "one that is interrupted": (SH + ["kill -INT $$"], 130, ".*"),
+    "the shell": ([], 0, f".*{Path.cwd()}\r\n.*"),
+    "the shell behind --": (["--"], 0, f".*{Path.cwd()}\r\n.*"),
+    "no such program": (["--", "/no"], 127, f"relay: /no: No such file or directory{REST}"),
+    "no program": (["--", "/"], 126, f"relay: /: Permission denied{REST}"),
 }
 
 
-@pytest.mark.parametrize("command, status", OTHER_CHILDREN.values(), ids=OTHER_CHILDREN)
-def test_other_children(program, command, status):
-    with Terminal([*program, "sh", "-c", command]) as terminal:
-        terminal.check_end(status)
-
-
-def test_shell(program):
+@pytest.mark.parametrize("words, status, shown", OTHER_CHILDREN.values(), ids=OTHER_CHILDREN)
+def test_other_children(program, words, status, shown):
     """Without a program it is the shell of the environment."""
-    for words in [], ["--"]:
-        with Terminal([*program, *words], env={"SHELL": "/bin/pwd"}) as terminal:
-            terminal.expect_exact(f"{Path.cwd()}\r\n")
-            terminal.check_end(0)
-
-
-NOT_RUN = {
-    "no such program": ("/nothing/here", 127, "No such file or directory"),
-    "no program": ("/", 126, "Permission denied"),
-}
-
-
-@pytest.mark.parametrize("path, status, says", NOT_RUN.values(), ids=NOT_RUN)
-def test_program_that_is_not_run(program, path, status, says):
-    with Terminal([*program, "--", path]) as terminal:
+    with Terminal([*program, *words], env=os.environ | {"SHELL": "/bin/pwd"}) as terminal:
         terminal.check_end(status)
-        assert re.fullmatch(rf"relay: {path}: {says}[^\n]*\r\n", terminal.output.decode())
+        assert re.fullmatch(shown, terminal.output.decode(), re.DOTALL)
 
 
 def test_without_terminal(program):
-    done = run_without_terminal([*program, "true"])
-    says = b"relay: standard input and output have to be a terminal\n"
-    assert (done.returncode, done.stderr, done.stdout) == (1, says, b"")
+    says = "relay: standard input and output have to be a terminal\n"
+    check_refused([*program, "true"], 1, says)
 
 
 def test_help(program):
     done = run_without_terminal([*program, "--help"])
     usage, _, rest = done.stdout.partition(b"\n")
     assert done.returncode == 0 and rest
-    done = run_without_terminal([*program, "--foo"])
-    assert (done.returncode, done.stderr, done.stdout) == (2, usage + b"\n", b"")
+    check_refused([*program, "--foo"], 2, re.escape(usage.decode()) + "\n")

@@ -5,7 +5,7 @@ import signal
 
 import pytest
 from conftest import TOP
-from scenarios.program import Program
+from scenarios.program import Program, stop_by
 from scenarios.questions import ATTRIBUTES, ATTRIBUTES_TOLD, POSITION, QUESTION
 from scenarios.row import key, press
 from terminal import CONTINUE, END, ENDING_SIGNALS, PAUSE, STOP_AND_CONTINUE
@@ -19,16 +19,17 @@ stopped = pytest.mark.parametrize(
 )
 
 
-def stop_and_continue(number):
-    return lambda it: it.stop_and_continue(number)
-
-
 class Guard(Terminal):
     FIRST = "q ends"
 
     def check_raw(self):
         self.wait_for_raw()
         self.wait_for(lambda: self.modes() == self.turned_on, "modes")
+
+    def play_to_end(self, steps):
+        """It ends by q behind these steps."""
+        self.play([*steps, b"q"])
+        self.check_end(0)
 
 
 @pytest.fixture
@@ -44,54 +45,36 @@ def start(example, on_terminal):
     return run
 
 
-@pytest.fixture
-def play(start):
-    """Starts that program, plays steps, and ends it by q."""
-
-    def run(steps, *words, **how):
-        guard = start(*words, **how)
-        guard.play([*steps, b"q"])
-        guard.check_end(0)
-        return guard
-
-    return run
-
-
-def test_guard(play):
-    play([b"a\x03\r", "byte 97\r\n", "byte 3\r\n", "byte 13\r\n"])
+def test_guard(start):
+    start().play_to_end([b"a\x03\r", "byte 97\r\n", "byte 3\r\n", "byte 13\r\n"])
 
 
 @pytest.mark.parametrize("number", ENDING_SIGNALS, ids=lambda it: it.name)
 def test_guard_and_a_signal(start, number):
     """The guard acts on it at once."""
-    guard = start()
-    guard.kill(number)
-    guard.check_end(-number)
+    start().end_by(number)
 
 
 @stopped
-def test_guard_and_a_stop(play, number):
-    play([stop_and_continue(number), Guard.check_raw] * 2)
+def test_guard_and_a_stop(start, number):
+    start().play_to_end([stop_by(number), CONTINUE, Guard.check_raw] * 2)
 
 
-def test_guard_continued_where_nobody_had_the_terminal(play):
-    guard = play([*[signal.SIGCONT] * 20, b"a", "byte 97\r\n"])
+def test_guard_continued_where_nobody_had_the_terminal(start):
+    guard = start()
+    guard.play_to_end([*[signal.SIGCONT] * 20, b"a", "byte 97\r\n"])
     assert guard.output.count(b"\033[?2004h") == 1
 
 
 @pytest.mark.timed
-def test_guard_stopped_while_keys_come(play):
+def test_guard_stopped_while_keys_come(start):
     """A thread reads, and no read fails, although a handler writes what must not wait."""
     once = [b"abc", signal.SIGTSTP, Terminal.wait_for_stop, CONTINUE, Terminal.wait_for_raw, 0.01]
-    play([*once * 100, Guard.check_raw], "thread")
+    start("thread").play_to_end([*once * 100, Guard.check_raw])
 
 
-def test_guard_where_no_shell_could_continue_it(play):
-    def is_back(it):
-        return it.output.count(b"\033[?2004h") == 2
-
-    wait = [signal.SIGTSTP, lambda it: it.wait_for(lambda: is_back(it), "modes"), Guard.check_raw]
-    play(wait, is_orphaned=True)
+def test_guard_where_no_shell_could_continue_it(start):
+    start(is_orphaned=True).play_to_end([signal.SIGTSTP, "\033[?2004h", Guard.check_raw])
 
 
 def test_guard_ended_while_it_is_stopped(start):
@@ -105,8 +88,7 @@ def test_guard_and_blocked_output(start):
     """What the guard can't write is left out. The settings are restored, and the program ends."""
     guard = start()
     guard.play([Terminal.stop_output, b"x" * 100, signal.SIGTERM])
-    assert guard.wait_for_end() == -signal.SIGTERM
-    assert guard.settings() == guard.settings_before
+    guard.check_end(-signal.SIGTERM, has_output=False)
 
 
 def test_guard_whose_handler_fails(example):
@@ -172,7 +154,7 @@ def test_modes_of_the_program(start_program, number):
     program, on, off = start_program("focus"), b"\033[?1004h\033[?2031h", b"\033[?2031l\033[?1004l"
     program.play([b"o", f"{key('o')}\r\nown\r\n"])
     assert b"2031" not in program.output
-    program.play([stop_and_continue(number), on.decode()] * 2)
+    program.play([stop_by(number), CONTINUE, on.decode()] * 2)
     end_by_q(program)
     assert (program.output.count(on), program.output.count(off)) == (2, 3)
     assert b"told" not in program.output and b"either" not in program.output
@@ -252,39 +234,27 @@ def test_stream_of_a_task_that_computes(start_program, begun, rest, line):
     assert program.lines().count("blocked") == 5
 
 
-@pytest.fixture
-def tui(example):
+# What is typed and seen, and the status. The settings are those from before crossterm set them.
+CROSSTERM = {
+    "keys": ([b"\033[1;5A", "Up", b"\033", "Esc", (60, 20), "Resize", b"q"], 0),
+    "a signal": ([b"x", "Char", signal.SIGTERM], -signal.SIGTERM),
+    # A shell has those settings meanwhile.
+    "a stop": (
+        [b"x", "Char", signal.SIGTSTP, Terminal.wait_for_stop, Terminal.check_settings]
+        + [CONTINUE, "(80, 24)", b"y", "Char", b"q"],
+        0,
+    ),
+    # The program heeds no signal, as one that has turned raw mode off and reads no more.
+    "blocked output": (
+        [b"x", "Char", Terminal.stop_output, b"y", PAUSE, signal.SIGTERM],
+        -signal.SIGTERM,
+    ),
+}
+
+
+@pytest.mark.parametrize("steps, status", CROSSTERM.values(), ids=CROSSTERM)
+def test_crossterm(example, steps, status):
     """A program over crossterm whose terminal is read by this package."""
-    with Terminal(example("crossterm", "tui")) as terminal:
-        terminal.expect_exact("q")
-        yield terminal
-
-
-def check_restored(tui, status=0):
-    """The settings are those from before crossterm set them."""
-    assert tui.wait_for_end() == status
-    assert tui.settings() == tui.settings_before
-
-
-def test_crossterm(tui):
-    tui.play([b"\033[1;5A", "Up", b"\033", "Esc", (60, 20), "Resize", b"q"])
-    check_restored(tui)
-
-
-def test_crossterm_ended_by_a_signal(tui):
-    tui.play([b"x", "Char", signal.SIGTERM])
-    check_restored(tui, -signal.SIGTERM)
-
-
-def test_crossterm_stopped(tui):
-    """A shell has those settings meanwhile."""
-    tui.play([b"x", "Char", signal.SIGTSTP, Terminal.wait_for_stop])
-    assert tui.settings() == tui.settings_before
-    tui.play([CONTINUE, "(80, 24)", b"y", "Char", b"q"])
-    check_restored(tui)
-
-
-def test_crossterm_and_blocked_output(tui):
-    """The program heeds no signal, as one that has turned raw mode off and reads no more."""
-    tui.play([b"x", "Char", Terminal.stop_output, b"y", PAUSE, signal.SIGTERM])
-    check_restored(tui, -signal.SIGTERM)
+    with Terminal(example("crossterm", "tui")) as tui:
+        tui.play(["q", *steps])
+        tui.check_end(status, has_output=False)

@@ -4,20 +4,11 @@ import re
 from collections import Counter
 
 import pytest
-from terminal_data import data_files, left_out, load
+from cases import set_of
+from terminal_data import left_out, lines_of, load_all, mouse_done
 
-from hedrugal import (
-    FocusGained,
-    FocusLost,
-    Modifiers,
-    MouseButton,
-    MouseEncoding,
-    MouseTracking,
-    Parser,
-    SentMouse,
-    encode_event,
-    encode_paste,
-)
+from hedrugal import FocusGained, FocusLost, Modifiers, MouseButton, MouseEncoding, MouseTracking
+from hedrugal import Parser, SentMouse, encode_event, encode_paste
 
 TRACKING = {
     "x10": MouseTracking.X10,
@@ -67,19 +58,16 @@ def less_of_paste(terminal, line):
     return UP_TO_NUL if b"\0" in text else ""
 
 
-PASTES = [(path.stem, it) for path in data_files() for it in load(path)[1] if it.kind == "paste"]
-
-
 @pytest.mark.parametrize("terminal", VTE)
 def test_pastes(terminal):
-    for of, line in PASTES:
-        if of == terminal and less_of_paste(of, line) != OTHER_TEXT:
+    for _, line in lines_of("paste", terminal):
+        if less_of_paste(terminal, line) != OTHER_TEXT:
             text = bytes.fromhex(line.details).split(b"\0")[0]
             assert encode_paste(text, line.modes == "2004") == line.bytes, line
 
 
 def test_pastes_left_out():
-    counts = Counter(less_of_paste(*it) for it in PASTES)
+    counts = Counter(less_of_paste(*it) for it in lines_of("paste"))
     assert counts.pop("") == 39
     assert counts == left_out("test_senders.py, pastes")
 
@@ -88,25 +76,23 @@ def coordinate(part, encoding):
     return part[0] - 32 if encoding is MouseEncoding.DEFAULT else int(part)
 
 
-def written(what, mode, data):
+def written(line, mode):
     """What is written for a recorded report, as a press or as what it was. A wheel that is released
     counts as turned once more in some terminals. Or why it isn't compared, in the words of
     README.md."""
     tracking, _, form = mode.partition("+")
-    *held, name = what.split()[0].replace("-corner", "").split("+")
+    held, name, done = mouse_done(line)
     if form not in ENCODING:
         return "all: the modes 1005 and 1016, which `SentMouse` doesn't have"
     if name not in BUTTONS:
         return "all: moves and side buttons, which `SentMouse` doesn't have"
     encoding, pattern = ENCODING[form]
-    found = re.fullmatch(pattern, data, re.DOTALL)
+    found = re.fullmatch(pattern, line.bytes, re.DOTALL)
     if not found:
         return "all: several reports, or none in the form of the mode"
     x, y = (coordinate(part, encoding) for part in found.groups())
-    modifiers = Modifiers(0)
-    for flag in held:
-        modifiers |= Modifiers[flag.upper()]
-    actions = {what.split()[1], "press"} if name.startswith("Wheel") else {what.split()[1]}
+    modifiers = set_of(Modifiers, "+".join(held or ["none"]).upper())
+    actions = {done, "press"} if name.startswith("Wheel") else {done}
     button = BUTTONS.index(name) + 1
     reports = (MouseButton[f"BUTTON{button}_{action.upper()}"] for action in actions)
     return {SentMouse(x, y, it, modifiers).encode(TRACKING[tracking], encoding) for it in reports}
@@ -115,21 +101,21 @@ def written(what, mode, data):
 def test_mouse_reports():
     """The reports of each terminal and mode."""
     counts = Counter()
-    for path in data_files():
+    for terminal in load_all():
         same, others = 0, []
-        for line in load(path)[1]:
-            for mode in line.modes.split(",") if line.kind == "mouse" else []:
-                sent = written(line.what, mode, line.bytes)
+        for _, line in lines_of("mouse", terminal):
+            for mode in line.modes.split(","):
+                sent = written(line, mode)
                 if isinstance(sent, str):
                     counts[sent] += 1
                 elif line.bytes in sent:
                     same += 1
                 else:
                     others.append(f"{mode.partition('+')[2]} {line.what}")
-        pattern, why = OTHERWISE.get(path.stem, ("nothing", ""))
+        pattern, why = OTHERWISE.get(terminal, ("nothing", ""))
         assert [it for it in others if not re.match(pattern, it)] == []
-        assert same >= (1 if path.stem == "dvtm" else 60) and bool(others) == bool(why)
-        counts[f"{path.stem}: {why}"] += len(others)
+        assert same >= (1 if terminal == "dvtm" else 60) and bool(others) == bool(why)
+        counts[f"{terminal}: {why}"] += len(others)
     assert +counts == left_out("test_senders.py, mouse")
 
 
@@ -138,7 +124,7 @@ FOCUS = {"gained": FocusGained(), "lost": FocusLost()}
 
 def test_focus():
     """Eleven terminals told of both changes, and foot only that it lost the focus."""
-    lines = [line for path in data_files() for line in load(path)[1] if line.kind == "focus"]
+    lines = [line for _, line in lines_of("focus")]
     assert Counter(line.what for line in lines) == {"gained": 11, "lost": 12}
     for line in lines:
         assert encode_event(FOCUS[line.what], Parser()) == line.bytes

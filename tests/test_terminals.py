@@ -11,10 +11,13 @@ import re
 import sys
 
 import pytest
-from conftest import TOP
-from terminal_data import left_out
+from conftest import TOP  # first, since it says where the package is
+from cases import set_of
+from hedrugal import CursorPosition, FocusGained, FocusLost, KeyCode, KeyPress, KeyReport
+from hedrugal import Modifiers, MouseButtons, MouseKind, Paste
+from terminal_data import left_out, lines_of, load_all, mouse_done
 from terminal_judge import is_exact, read, reader_of, told
-from terminal_tables import DOCUMENT, in_document, load_all, peers, set_up, tables
+from terminal_tables import DOCUMENT, peers, set_up, tables, with_table
 
 sys.path.append(str(TOP / "tools/terminals"))
 import collect  # noqa: E402
@@ -43,20 +46,11 @@ MOST_PAIRS = 98
 MOST_FEWER = 0
 
 
-def keys_of(terminal):
-    """The lines of a terminal's presses and releases, each with one mode."""
-    for line in FILES[terminal][1]:
-        if line.kind in ("press", "release"):
-            for mode in line.modes.split(","):
-                yield line, mode
-
-
 def presses():
     """The lines of all presses, each with its terminal and one mode."""
-    for terminal in TERMINALS:
-        for line, mode in keys_of(terminal):
-            if line.kind == "press":
-                yield terminal, line, mode
+    for terminal, line in lines_of("press"):
+        for mode in line.modes.split(","):
+            yield terminal, line, mode
 
 
 @functools.cache
@@ -122,23 +116,10 @@ def test_port():
             assert is_exact(reader_of(terminal), line), (terminal, mode, line)
 
 
-def lines_of(kind):
-    """The lines of a kind, each with its terminal."""
-    found = [(terminal, line) for terminal in TERMINALS for line in FILES[terminal][1]]
-    return [it for it in found if it[1].kind == kind]
-
-
 # A report of the modes 1006 and 1016, one of 1015, and one of the others.
 ONE_REPORT = rb"\x1b\[<[\d;]+[Mm]|\x1b\[[\d;]+M|\x1b\[M[ -\xff]{3}"
 NOT_ONE = "all: it is more or less than one report"
 WRONG = "all: dvtm tells a release, and Vim doesn't add 32 in the mode 1015"
-
-
-def mouse_done(line):
-    """The modifiers that were held, the button, and what was done with it."""
-    pressed, _, what = line.what.replace("-corner", "").rpartition(" ")
-    *held, button = pressed.split("+")
-    return held, button, what
 
 
 def less_of_mouse(terminal, line):
@@ -165,14 +146,9 @@ def less_of_mouse(terminal, line):
 def test_mouse(terminal):
     """A report tells the button and the modifiers. None is a key. The short form of a report is
     read by a parser that was told so."""
-    from hedrugal import KeyReport, Modifiers, MouseButtons, MouseKind
-
-    def flags(kind, names):
-        return functools.reduce(lambda all_, it: all_ | kind[it], names, kind.NONE)
-
-    for line in FILES[terminal][1]:
-        less = line.kind == "mouse" and less_of_mouse(terminal, line)
-        if line.kind != "mouse" or less in (NOT_ONE, WRONG):
+    for _, line in lines_of("mouse", terminal):
+        less = less_of_mouse(terminal, line)
+        if less in (NOT_ONE, WRONG):
             continue
         held, button, what = mouse_done(line)
         held = [it.upper() for it in held if it not in UNTOLD.get(terminal, ())]
@@ -185,34 +161,23 @@ def test_mouse(terminal):
         buttons = BUTTONS[button] if what == "press" and button in BUTTONS else "NONE"
         number = NUMBERS.get(button) or SIDE_BUTTONS[button]
         assert (event.kind, event.button) == (kind, number), line
-        assert event.buttons == flags(MouseButtons, buttons.split("+")), line
-        assert event.modifiers == flags(Modifiers, held), line
-
-
-def test_mouse_left_out():
-    counts = collections.Counter(less_of_mouse(*it) for it in lines_of("mouse"))
-    assert counts.pop("") > 500
-    assert counts == left_out("test_terminals.py, mouse")
+        assert event.buttons == set_of(MouseButtons, buttons), line
+        assert event.modifiers == set_of(Modifiers, "+".join(held) or "NONE"), line
 
 
 @pytest.mark.parametrize("terminal", TERMINALS)
 def test_focus(terminal):
-    from hedrugal import FocusGained, FocusLost
-
-    for line in FILES[terminal][1]:
-        if line.kind == "focus":
-            wanted = {"gained": FocusGained(), "lost": FocusLost()}[line.what]
-            assert read("extended", line.bytes) == ([wanted], 0), line
+    for _, line in lines_of("focus", terminal):
+        wanted = {"gained": FocusGained(), "lost": FocusLost()}[line.what]
+        assert read("extended", line.bytes) == ([wanted], 0), line
 
 
 @pytest.mark.parametrize("terminal", TERMINALS)
 def test_pastes(terminal):
     """A paste is one event. What follows an END in its text is typed, and then comes the other
     END, a key of its own. Without an END it stays open."""
-    from hedrugal import KeyCode, Paste
-
-    for line in FILES[terminal][1]:
-        if line.kind != "paste" or "2004" not in line.modes:
+    for _, line in lines_of("paste", terminal):
+        if "2004" not in line.modes:
             continue
         start, end = b"\x1b[200~", b"\x1b[201~"
         assert line.bytes.startswith(start), line
@@ -242,11 +207,9 @@ def less_of_reply(terminal, line):
 def test_replies(terminal):
     """Replies aren't keys. The cursor's position in the first row is F3, unless the program asked
     for it."""
-    from hedrugal import CursorPosition, KeyPress
-
-    for line in FILES[terminal][1]:
-        less = line.kind == "reply" and less_of_reply(terminal, line)
-        if line.kind != "reply" or less.startswith("all"):
+    for _, line in lines_of("reply", terminal):
+        less = less_of_reply(terminal, line)
+        if less.startswith("all"):
             continue
         for reader in ("extended", "asked"):
             events, _ = read(reader, line.bytes)
@@ -257,16 +220,21 @@ def test_replies(terminal):
                 assert any(isinstance(it, CursorPosition) for it in events), line
 
 
-def test_left_out():
-    counts = collections.Counter(less_of_reply(*it) for it in lines_of("reply"))
+@pytest.mark.parametrize(
+    "kind, name, less_of", [("mouse", "mouse", less_of_mouse), ("reply", "replies", less_of_reply)]
+)
+def test_left_out_in_part(kind, name, less_of):
+    counts = collections.Counter(less_of(*it) for it in lines_of(kind))
     assert counts.pop("") > 500
-    assert counts == left_out("test_terminals.py, replies")
+    assert counts == left_out(f"test_terminals.py, {name}")
+
+
+def test_left_out():
     plain = sum("2004" not in line.modes for _, line in lines_of("paste"))
     assert {"all: it isn't bracketed": plain} == left_out("test_terminals.py, pastes")
     rare = sum(not line.everyday or line.layout != "" for _, line in lines_of("press"))
-    assert {"all: it is no everyday press, or of another layout": rare} == left_out(
-        "test_terminals.py, pairs"
-    )
+    why = "all: it is no everyday press, or of another layout"
+    assert {why: rare} == left_out("test_terminals.py, pairs")
 
 
 def test_every_line_is_read():
@@ -291,15 +259,13 @@ def test_other_parsers():
 def test_document(name):
     """The tables of docs/TERMINALS.md are those of the data and the parsers."""
     text = DOCUMENT.read_text()
-    first, last = in_document(name, text)
-    assert text[first:last] == tables(FILES, judged())[name]
+    assert with_table(text, name, tables(FILES, judged())[name]) == text
 
 
 def write_tables():
     text = DOCUMENT.read_text()
     for name, made in tables(FILES, judged()).items():
-        first, last = in_document(name, text)
-        text = text[:first] + made + text[last:]
+        text = with_table(text, name, made)
     DOCUMENT.write_text(text)
 
 

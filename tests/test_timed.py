@@ -2,20 +2,16 @@
 parser of rust/tests/extended/plain/timed.rs says in the same words what each has to answer.
 
 A call is a name, a number and bytes. Times are in milliseconds."""
-import ast
 import functools
 import random
 import re
 import subprocess
 
-import hedrugal
 import pytest
-from cases import cases_of, events_line, text_of
-from cases import key_of as key_named
-from conftest import SECONDS, TOP
-from hedrugal import KeyEventKind, KeyReport, MouseButtons, MouseKind, MouseReport
-from hedrugal import KittyModifiers, Modifiers, Paste, PastePart, StringKind
-from test_rattle import TEST_CALLS, answers, command, pasted
+from cases import cases_of, reading_of, text_of
+from conftest import TOP
+from hedrugal import EraseByte
+from test_rattle import TEST_CALLS, Asked, answers, command, pasted
 
 LONGEST = 2**64 - 1
 START, END = b"\x1b[200~", b"\x1b[201~"
@@ -27,30 +23,16 @@ BUSY, REFUSED = "busy", "refused"
 UNTOLD = "?"
 
 
-class Asked:
-    """A program, asked one call after another."""
-
-    def __init__(self, *words):
-        self.words = words
-
-    def __enter__(self):
-        pipes = {"stdin": subprocess.PIPE, "stdout": subprocess.PIPE, "text": True}
-        self.process = subprocess.Popen(self.words, **pipes)
-        return self
-
-    def __exit__(self, *_):
-        self.process.communicate(timeout=SECONDS)
-        assert self.process.returncode == 0
-
-    def call(self, *call):
-        self.process.stdin.write(command(*call) + "\n")
-        self.process.stdin.flush()
-        return self.process.stdout.readline()[:-1]
-
-
 @pytest.fixture(scope="module")
 def model(example):
     with Asked(*example("rust", "plain_answers")) as it:
+        yield it
+
+
+@pytest.fixture(scope="module")
+def model_in_words(example):
+    """The model, which tells events in the words of tests/cases."""
+    with Asked(*example("rust", "plain_answers"), "words") as it:
         yield it
 
 
@@ -70,15 +52,14 @@ def check_runs(runs):
 
 
 # The runs of tests/cases.
-READINGS = {"backspace": ("erase", 8), "enter": ("newline", 1), "x10": ("x10_mouse", 1)}
-ANSWERED = ["timeout", "skip", "reset"]
+ANSWERED = ["timeout", "skip", "reset", "reading"]
 
 
 def reading_calls(word):
-    dialect, *others = word.split("+")
-    yield ("new", int(dialect == "termwiz"))
-    for it in others:
-        yield READINGS.get(it) or ("questions", int(it.removeprefix("asked")))
+    reading = reading_of(word)
+    yield from (("dialect", reading.dialect.value), ("x10_mouse", int(reading.x10_mouse)))
+    yield from (("questions", reading.questions), ("newline", reading.newline.value))
+    yield ("erase", 8 if reading.erase is EraseByte.BACKSPACE else 127)
 
 
 def limit_calls(words):
@@ -90,8 +71,10 @@ def step_calls(step):
     """The calls of a step. If it tells events, `next` is called for each, and once more."""
     asked, colon, told = step.partition(": ")
     name, *words = asked.split(" ")
-    if name == "policy":
-        return [*limit_calls(words)]
+    if name in ("policy", "set"):
+        return [*(limit_calls(words) if name == "policy" else reading_calls(*words))]
+    if name == "expect":
+        return [(name,)] * int(*words)
     if name == "waiting":
         return [("waiting",), ("waiting_len",)]
     calls = [(name, *map(int, words[:1]), *map(text_of, words[1:]))] if name != "next" else []
@@ -100,71 +83,32 @@ def step_calls(step):
     return calls
 
 
-KEY_REPORT = re.compile(
-    r"Key\(KeyReport \{ key: (\w+)\((.*)\), modifiers: (\d+), kind: (\w+), shifted: (.*), "
-    r"base: (.*), text: KeyText \{ inner: (\".*\") \} \}\)"
-)
-MOUSE_REPORT = re.compile(
-    r"Mouse\(MouseReport \{ x: (\d+), y: (\d+), modifiers: Modifiers\((\d+)\), "
-    r"buttons: MouseButtons\((\d+)\), kind: (\w+), button: (.*) \}\)"
-)
-SEQUENCE = r"SequenceBytes \{ inner: (\[.*\]) \}"
-
-
-def quoted_text(text):
-    """What Debug prints of a character or a text."""
-    return ast.literal_eval(re.sub(r"\\u\{(\w+)\}", lambda it: f"\\U{it[1]:0>8}", text))
-
-
-def character_of(text):
-    return None if text == "None" else quoted_text(text[5:-1])
-
-
-def key_of(kind, key):
-    if kind == "Functional":
-        return int(key)
-    if key.startswith("Char("):
-        return quoted_text(key[5:-1])
-    return key_named(re.sub(r"unction\((\d+)\)", r"\1", key))
-
-
-def event_of(line):
-    """The event that Debug prints so."""
-    if m := KEY_REPORT.fullmatch(line):
-        key, held, kind = key_of(m[1], m[2]), KittyModifiers(int(m[3])), KeyEventKind[m[4].upper()]
-        shifted, base = character_of(m[5]), character_of(m[6])
-        return KeyReport(key, held, kind, shifted, base, quoted_text(m[7]))
-    if m := re.fullmatch(r"(part of |)paste \d+:(\w*)", line):
-        return (PastePart if m[1] else Paste)(bytes.fromhex(m[2]).decode())
-    if m := re.fullmatch(rf"(\w+)\({SEQUENCE}\)", line):
-        return getattr(hedrugal, m[1])(bytes(ast.literal_eval(m[2])))
-    if m := re.fullmatch(rf"(\w+) \{{ kind: (\w+), bytes: {SEQUENCE} \}}", line):
-        return getattr(hedrugal, m[1])(StringKind[m[2].upper()], bytes(ast.literal_eval(m[3])))
-    if m := MOUSE_REPORT.fullmatch(line):
-        x, y, held, buttons = map(int, m.group(1, 2, 3, 4))
-        kind, button = MouseKind[m[5].upper()], None if m[6] == "None" else int(m[6][5:-1])
-        return MouseReport(x, y, Modifiers(held), MouseButtons(buttons), kind, button)
-    name, *numbers = re.findall(r"^\w+|\d+", line)
-    return getattr(hedrugal, name)(*map(int, numbers))
+def is_shown(reading, text):
+    """Whether this is what Debug prints of a reading."""
+    fields = (str(getattr(it, "name", it)).replace("_", "") for it in vars(reading).values())
+    return re.findall(r": (\w+)", text.lower()) == [*map(str.lower, fields)]
 
 
 def step_told(step, answers):
-    """What a step tells, as the runs write it."""
-    name = re.match(r"\w+", step)[0]
+    """What a step tells, as the runs write it, by the answers in words."""
+    name, told = re.match(r"(\w+)(?:.*: (.*))?", step).groups()
+    if name == "reading":
+        return told if is_shown(reading_of(told), *answers) else answers[0]
     if name == "waiting":
         return " ".join(answers).lower()
     if name in ANSWERED:
         return answers[0].replace("None", "forever" if name == "timeout" else "none")
-    if answers[-1] != "none":
+    if answers[-1:] != ["none"]:
         return "".join(answers)
-    return events_line(map(event_of, filter(None, answers[:-1])))
+    return ", ".join(filter(None, answers[:-1])) or "nothing"
 
 
 def steps_of(line):
     """The steps of a run with their calls. At first the reading and the limits are set."""
     given, _, steps = line.partition(" = ")
     word, *limits = given.split(" ")
-    yield "new", [*reading_calls(word), *limit_calls(limits)]
+    dialect = reading_of(word).dialect.value
+    yield "new", [("new", dialect), *reading_calls(word), *limit_calls(limits)]
     for step in steps.split(" | "):
         yield step, step_calls(step)
 
@@ -175,40 +119,25 @@ OTHER_RUNS = [
     "idle 7: key Escape NONE",
     r'extended = feed 18446744073709551615 "\e": nothing | idle 0: nothing | idle 49: nothing | '
     "idle 50: key Escape NONE",
-    r'extended = expect | expect | forget | feed 0 "\e[1;5R": key F3 CTRL',
 ]
 
 
-def test_runs(model):
+def test_runs(model, model_in_words):
     """By the program and by the model."""
     runs = OTHER_RUNS + [line for _, line in cases_of("runs.txt")]
     steps = [it for line in runs for it in steps_of(line)]
     lines = iter(answers("timed", [command(*call) for _, calls in steps for call in calls]))
     for step, calls in steps:
-        given = [next(lines) for _ in calls]
-        assert step_told(step, given) == step.partition(": ")[2], step
-        assert [model.call(*it) for it in calls] == given, step
+        assert [next(lines) for _ in calls] == [model.ask(*it) for it in calls], step
+        in_words = [model_in_words.ask(*it) for it in calls]
+        assert step_told(step, in_words) == step.partition(": ")[2], step
 
 
 # Random runs.
-KEYS = [b"a", b"q", b"\r", b"\x1b", b"\x1b\x1b", b"\x1bx", b"\x1b[A", b"\x1b\x1b[A", b"\x1bOP"]
-KEYS += [b"\x1b[1;5A", b"\x1b[15~", b"\x1bO5P", b"\x1b[27;5;9~", b"\x1b[97;5:3u", b"\x1b[97:65;2u"]
-KEYS += [b"\x08", b"\n", b"\x7f", b"\x1b\x08", "é€😀".encode(), b"\xff", b"\xe2", b"\xf0\x9f"]
-REPLIES = [b"\x1b[1;5R", b"\x1b[24;80R", b"\x1b[?62c", b"\x1b[?1u", b"\x1b[I", b"\x1b[O"]
-REPLIES += [b"\x1b[48;24;80;6;7t", b"\x1b[<0;3;4M", b"\x1b[<35;3;4m", b"\x1b[<2;3;4m"]
-REPLIES += [b"\x1b[35;3;4M", b"\x1b[<129;3;4M", b"\x1b[<99;3;4M", b"\x1b[M !!", b"\x1b[M\xa0\xc3)"]
-STRINGS = [b"\x1b]11;rgb:1/2/3\x1b\\", b"\x1b]52;c;QQ==\x07", b"\x1bP>|foot\x1b\\"]
-STRINGS += [
-    b"\x1bP1$r0m\x1b\\",
-    b"\x1b_Gi=1;OK\x1b\\",
-    b"\x1b]ltitle\x07",
-    b"\x1b]4;1;a\x1b",
-    b"\x1b]0;\r\x1b[A",
-]
-STRINGS += [b"\x1b]L" + b"x" * 255 + b"\x1b\\"]
+# What comes: texts of the cases, what may be a position of the cursor, and parts of a paste.
+TEXTS = [text_of(line.split(" ")[1]) for _, line in cases_of("events.txt")]
 QUESTIONS = [b"\x1b[1;5R", b"\x1b[1;2R", b"\x1b[1;2R\x1b[1;5R", b"\x1b[R", b"a"]
-PASTED = [b"a", b"bc", b"\r", b"\x1b", b"\x1b[20", b"[201", "é".encode(), b"\xe2\x82", START]
-PASTED += [b"\xff"]
+PASTED = [START, *b"a|bc|\r|\x1b|\x1b[20|[201|\xc3\xa9|\xe2\x82|\xff".split(b"|")]
 TIMES = [0, 0, 1, 5, 30, 49, 50, 51, 99, 100, 101, 300, 999, 1000, 1001, 5000, 9000]
 
 
@@ -228,7 +157,7 @@ class Draws(random.Random):
 
     def chunks(self):
         """What comes, cut somehow. At some reads nothing does."""
-        kinds = self.sample([KEYS, REPLIES, STRINGS, QUESTIONS, None, None], self.randrange(1, 6))
+        kinds = self.sample([TEXTS, TEXTS, TEXTS, QUESTIONS, None, None], self.randrange(1, 6))
         text = b"".join(self.piece(kinds) for _ in range(self.randrange(1, 12)))
         most = self.choice([1, 2, 5, 30, 400])
         while text:
@@ -279,7 +208,7 @@ class DrawnRun:
     def __init__(self, model, seed):
         self.draws = draws = Draws(seed)
         self.model = model
-        model.call("new")
+        model.ask("new")
         self.calls = []
         self.due = 0
         self.now = draws.choice([0, 0, 1000, LONGEST - 2000])
@@ -300,13 +229,13 @@ class DrawnRun:
 
     def call(self, name, number=0, data=b""):
         is_told = name == "idle" and self.is_told()
-        answer = self.model.call(name, number, data)
+        answer = self.model.ask(name, number, data)
         self.calls.append(((name, number, data), answer))
         self.due += is_told and not self.is_told()
         return answer
 
     def is_told(self):
-        return self.model.call("waiting") != UNTOLD
+        return self.model.ask("waiting") != UNTOLD
 
     def tell_all(self):
         while self.call("next") != "none":
@@ -362,12 +291,12 @@ def test_random_runs(model, seed):
 
 def by_model(model, calls):
     """Calls with the model's answers; and at last all is told."""
-    model.call("new")
+    model.ask("new")
     found = []
     for call in calls:
-        found.append((call, model.call(*call)))
+        found.append((call, model.ask(*call)))
     while not found or found[-1][1] != "none":
-        found.append((("next",), model.call("next")))
+        found.append((("next",), model.ask("next")))
     return found
 
 
@@ -459,47 +388,27 @@ def requests(tmp_path_factory):
     return make_calls
 
 
-# A run in which much has to be remembered.
-REFUSABLE = [
-    ("parts", 3),
-    ("feed", 5, b"q\x1b[97;;98u" + START + b"ab"),
-    *[("next",)] * 5,
-    ("timeout", 7),
-    ("feed", 10, b"cdef\x1b[20"),
-    *[("next",)] * 3,
-    ("waiting_len",),
-    ("feed", 11, b"1~\x1b]4;1\x07\x1b[?62c\x1bP>|foot"),
-    *[("next",)] * 5,
-    ("timeout", 12),
-    ("interrupted", 40),
-    ("idle", 1039),
-    *[("next",)] * 2,
-    ("idle", 1040),
-    ("feed", 1041, b"x"),
-    *[("next",)] * 3,
-    ("feed", 1050, START + b"z" * 300),
-    ("end",),
-    *[("next",)] * 4,
-    ("waiting_len",),
-    ("no-parts",),
-    ("feed", 1060, START + b"abc"),
-    *[("next",)] * 2,
-    ("end",),
-    *[("next",)] * 3,
-    ("timeout", 1070),
-]
+# A run in which much has to be remembered: what comes, and what is asked then.
+REFUSABLE = [("parts", 3), ("feed", 5, b"q\x1b[97;;98u" + START + b"ab"), *[("next",)] * 5]
+REFUSABLE += [("timeout", 7), ("feed", 10, b"cdef\x1b[20"), *[("next",)] * 3, ("waiting_len",)]
+REFUSABLE += [("feed", 11, b"1~\x1b]4;1\x07\x1b[?62c\x1bP>|foot"), *[("next",)] * 5]
+REFUSABLE += [("timeout", 12), ("interrupted", 40), ("idle", 1039), *[("next",)] * 2]
+REFUSABLE += [("idle", 1040), ("feed", 1041, b"x"), *[("next",)] * 3]
+REFUSABLE += [("feed", 1050, START + b"z" * 300), ("end",), *[("next",)] * 4, ("waiting_len",)]
+REFUSABLE += [("no-parts",), ("feed", 1060, START + b"abc"), *[("next",)] * 2]
+REFUSABLE += [("end",), *[("next",)] * 3, ("timeout", 1070)]
 
 
 def check_refused(model, calls, lines):
     """Checks what is answered where some calls are refused: these change nothing. Returns their
     places."""
-    model.call("new")
+    model.ask("new")
     places = []
     for place, (call, line) in enumerate(zip(calls, lines, strict=True)):
         if line == REFUSED and call[0] in ("next", "feed"):
             places.append(place)
         else:
-            wanted = model.call(*call)
+            wanted = model.ask(*call)
             assert wanted in (line, UNTOLD), (call, line, wanted)
     return places
 

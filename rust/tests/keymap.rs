@@ -189,10 +189,8 @@ fn has_many_keys() {
 // before.
 #[test]
 fn has_keys_that_were_inserted_far_apart() {
-    check_numbers(
-        &numbered((0..3000).flat_map(|number| [number, 5999 - number])),
-        6000,
-    );
+    let numbers = (0..3000).flat_map(|number| [number, 5999 - number]);
+    check_numbers(&numbered(numbers), 6000);
 }
 
 #[test]
@@ -215,10 +213,8 @@ fn shows_its_entries() {
     map.insert(b"\x1b[\"\xff", Some("x"));
     map.insert("", None);
     map.insert(b"\x1b[\"\xff", Some("y"));
-    assert_eq!(
-        format!("{map:?}"),
-        r#"{b"\x1b[\"\xff": Some("y"), b"": None}"#
-    );
+    let wanted = r#"{b"\x1b[\"\xff": Some("y"), b"": None}"#;
+    assert_eq!(format!("{map:?}"), wanted);
 }
 
 // A map is read by two threads at once, and moved to a third.
@@ -269,16 +265,12 @@ impl Draws {
         [long_text(298 + self.below(4)), self.bytes(2, b"\x00\xff")].concat()
     }
 
-    // A text: few different bytes, a common beginning, or a long one.
+    // A text of any of these kinds but the third.
     fn text(&mut self) -> Vec<u8> {
         match self.below(8) {
-            0..=3 => self.bytes(6, b"abc"),
-            4..=6 => [
-                &b"\x1b[common"[..self.below(9)],
-                &self.bytes(3, b"\x00\x01\xfe\xff"),
-            ]
-            .concat(),
-            _ => [vec![b'l'; 298 + self.below(4)], self.bytes(2, b"\x00\xff")].concat(),
+            0..=3 => self.letters(),
+            4..=6 => self.nested(),
+            _ => self.long(),
         }
     }
 }
@@ -364,77 +356,56 @@ fn place_of(found: &Found<u32>) -> usize {
     }
 }
 
-// Every second map has no empty key, which is a prefix of each text.
-#[test]
-fn agrees_with_a_plain_map() {
-    let mut draws = Draws::new(1);
-    let mut answers = [0; 4];
-    for round in 0..30 {
-        let mut plain = Plain::default();
-        let map = grown(&mut plain, &mut draws, round % 2 == 0);
-        check_clone(map, &mut plain, &mut draws);
-        assert_eq!(Rc::strong_count(&plain.token), 1);
-        for (sum, count) in answers.iter_mut().zip(plain.answers) {
-            *sum += count;
-        }
-    }
-    assert!(answers.iter().all(|count| *count > 500), "{answers:?}");
-}
-
-// Inserts a hundred keys, some of them several times, and looks texts up after each.
-fn grown(plain: &mut Plain, draws: &mut Draws, has_empty: bool) -> KeyMap<Counted> {
+// Inserts a hundred keys of a kind, some of them several times, and looks texts up after each.
+fn grown(plain: &mut Plain, draws: &mut Draws, kind: Kind, has_empty: bool) -> KeyMap<Counted> {
     let mut map = KeyMap::new();
     for value in 0..100 {
-        let key = draws.text();
+        let key = kind(draws);
         if has_empty || !key.is_empty() {
             plain.insert(&mut map, key, value);
         }
-        plain.check(&map, draws, Draws::text, 4);
+        plain.check(&map, draws, kind, 10);
     }
-    assert!(
-        (40..100).contains(&plain.map.len()),
-        "{} keys",
-        plain.map.len()
-    );
     map
 }
 
 // A clone has the same entries, and doesn't see what is inserted into the other map.
-fn check_clone(mut map: KeyMap<Counted>, plain: &mut Plain, draws: &mut Draws) {
+fn check_clone(mut map: KeyMap<Counted>, plain: &mut Plain, draws: &mut Draws, kind: Kind) {
     let copy = map.clone();
     assert_eq!(Rc::strong_count(&plain.token), 1 + 2 * plain.map.len());
     map.insert("", plain.counted(100));
     map.insert("a new key", plain.counted(101));
-    plain.check(&copy, draws, Draws::text, 100);
+    plain.check(&copy, draws, kind, 100);
     assert_ne!(number(copy.lookup("", false)), Exact(0, 100));
     assert_eq!(number(map.lookup("a new key", false)), Exact(9, 101));
     drop(map);
-    plain.check(&copy, draws, Draws::text, 100);
+    plain.check(&copy, draws, kind, 100);
 }
 
-// Keys and texts of one kind: the empty key and sixty others, with lookups after each of these, and
-// in a clone.
-fn check_kind(draws: &mut Draws, kind: Kind) {
-    let (mut plain, mut map) = (Plain::default(), KeyMap::new());
-    plain.insert(&mut map, Vec::new(), 60);
-    for value in 0..60 {
-        plain.insert(&mut map, kind(draws), value);
-        plain.check(&map, draws, kind, 10);
-    }
-    plain.check(&map, draws, kind, 10);
-    plain.check(&map.clone(), draws, kind, 10);
-}
-
-// tests/test_rattle.py draws such texts for a map that remembers ranges.
+// Every second map has no empty key, which is a prefix of each text. tests/test_rattle.py draws such
+// texts for a map that remembers ranges.
 #[test]
-fn agrees_with_a_plain_map_on_each_kind_of_texts() {
-    let mut draws = Draws::new(1);
-    for _ in 0..8 {
-        for kind in [Draws::letters, Draws::nested, Draws::five] {
-            check_kind(&mut draws, kind);
+fn agrees_with_a_plain_map() {
+    let (mut draws, mut answers) = (Draws::new(1), [0; 4]);
+    for (kind, rounds) in [
+        (Draws::text as Kind, 30),
+        (Draws::letters, 8),
+        (Draws::nested, 8),
+        (Draws::five, 8),
+        (Draws::long, 2),
+    ] {
+        for round in 0..rounds {
+            let mut plain = Plain::default();
+            let map = grown(&mut plain, &mut draws, kind, round % 2 == 0);
+            assert!((20..100).contains(&plain.map.len()), "{}", plain.map.len());
+            check_clone(map, &mut plain, &mut draws, kind);
+            assert_eq!(Rc::strong_count(&plain.token), 1);
+            for (sum, count) in answers.iter_mut().zip(plain.answers) {
+                *sum += count;
+            }
         }
     }
-    check_kind(&mut draws, Draws::long);
+    assert!(answers.iter().all(|count| *count > 500), "{answers:?}");
 }
 
 // Decimal numbers are inserted in reverse order. They are looked up without their last byte, and

@@ -10,9 +10,9 @@ use hedrugal::input::{
 use hedrugal::keymap::{Found, InsertError, KeyMap};
 use hedrugal::{
     try_encode_paste, AllocError, BindErrorKind, Bindings, Chord, Dialect, EncodeEventError, Event,
-    FeedError, KeyCode, KeyEventKind, KeyReport, KittyEncodeError, KittyKeyboardFlags,
-    KittyModifiers, Modifiers, MouseButton, MouseEncoding, MouseError, MouseTracking, Parser,
-    Policy, Reading, ReportedKey, SentMouse, StringKind, Waiting,
+    FeedError, KeyCode, KittyEncodeError, KittyKeyboardFlags, Modifiers, MouseButton,
+    MouseEncoding, MouseError, MouseTracking, Parser, Policy, Reading, SentMouse, StringKind,
+    Waiting,
 };
 use malloc::{in_use, refusing};
 use std::fmt::{Debug, Write};
@@ -21,6 +21,13 @@ use std::time::{Duration, Instant};
 
 const STREAM: &[u8] =
     b"q\x1b[A\x1b[<0;12;3M\xc3\xa9\x1b[200~hello w\xc3\xb6rld, and some more text that needs memory\x1b[201~\x1b[1;5Dx\x1b[200~again\xff\x1b[201~\x1b";
+
+// What a call returns that asks for no memory.
+fn without_memory<T>(call: impl FnOnce() -> T) -> T {
+    let (told, refused) = refusing(1, call);
+    assert_eq!(refused, 0);
+    told
+}
 
 // Makes a call with each request refused in turn, until it makes no such request. Returns how many
 // there were. The call returns how many were refused.
@@ -271,11 +278,11 @@ fn changes_a_reading_without_memory() {
         questions: 3,
         ..Reading::new(Dialect::Extended)
     };
-    assert_eq!(refusing(1, || parser.set_reading(reading)).1, 0);
-    assert_eq!(refusing(1, || parser.reading()), (reading, 0));
-    assert_eq!(refusing(1, || parser.expect_position()).1, 0);
+    without_memory(|| parser.set_reading(reading));
+    assert_eq!(without_memory(|| parser.reading()), reading);
+    without_memory(|| parser.expect_position());
     assert_eq!(parser.reading().questions, 4);
-    assert_eq!(refusing(1, || parser.forget_positions()).1, 0);
+    without_memory(|| parser.forget_positions());
     assert_eq!(parser.reading().questions, 0);
 }
 
@@ -303,8 +310,7 @@ fn reads_replies_after_a_refusal() {
 #[test]
 fn prints_names_after_a_refusal() {
     let name = "super+hyper+meta+ctrl+alt+shift+up U+10FFFF";
-    let (chord, refused) = refusing(1, || name.parse::<Chord>().unwrap());
-    assert_eq!(refused, 0);
+    let chord: Chord = without_memory(|| name.parse().unwrap());
     let requests = each_refused(|number| {
         let mut text = String::with_capacity(64);
         let (told, refused) = refusing(number, || write!(text, "{chord}"));
@@ -411,15 +417,15 @@ fn tells_time_without_memory() {
     let (start, mut parser) = (Instant::now(), Parser::new(Dialect::Extended));
     for _ in 0..2 {
         parser.feed(start, b"\x1b");
-        assert_eq!(refusing(1, || parser.next()), (None, 0));
-        assert_eq!(refusing(1, || parser.set_policy(Policy::usual())), ((), 0));
-        let left = refusing(1, || parser.timeout(start));
-        assert_eq!(left, (Policy::usual().escape, 0));
-        assert_eq!(refusing(1, || parser.idle(start + LATER)), ((), 0));
+        assert_eq!(without_memory(|| parser.next()), None);
+        without_memory(|| parser.set_policy(Policy::usual()));
+        let left = without_memory(|| parser.timeout(start));
+        assert_eq!(left, Policy::usual().escape);
+        without_memory(|| parser.idle(start + LATER));
         assert!(parser.next().is_some_and(|event| event.key().is_some()));
         parser.feed(start, b"\x1b[1");
         assert_eq!(parser.next(), None);
-        assert_eq!(refusing(1, || parser.interrupted(start)), (Ok(()), 0));
+        assert_eq!(without_memory(|| parser.interrupted(start)), Ok(()));
         assert_eq!(parser.waiting(), Waiting::Nothing);
     }
 }
@@ -458,25 +464,18 @@ fn encodes_after_a_refusal() {
 
 #[test]
 fn encodes_reports_after_a_refusal() {
-    let report = KeyReport {
-        key: ReportedKey::Named(KeyCode::Char('a')),
-        modifiers: KittyModifiers::SHIFT,
-        kind: KeyEventKind::Press,
-        shifted: Some('A'),
-        base: None,
-        text: "A".to_string(),
-    };
-    let long = KeyReport {
-        text: "x".repeat(300),
-        ..report.clone()
-    };
-    for (report, flags, wanted) in [
-        (&report, KittyKeyboardFlags::all(), "\x1b[97:65;2;65u"),
-        (&long, KittyKeyboardFlags::NONE, &long.text[..]),
+    let mut parser = Parser::new(Dialect::Extended);
+    let long = "x".repeat(300);
+    for (text, flags, wanted) in [
+        ("A", KittyKeyboardFlags::all(), "\x1b[97:65;2;65u"),
+        (&long, KittyKeyboardFlags::NONE, &long),
     ] {
+        parser.feed(Instant::now(), b"\x1b[97:65;2u");
+        let event = parser.next().expect("a key");
+        let mut report = event.key().expect("a key").clone();
+        report.text = text.to_string();
         let encode = || report.try_encode(flags);
-        let wanted = wanted.to_string();
-        assert!(each_told(encode, &KittyEncodeError::Memory, &wanted) > 1);
+        assert!(each_told(encode, &KittyEncodeError::Memory, &wanted.to_string()) > 1);
     }
 }
 
@@ -561,12 +560,10 @@ fn inserts_after_a_refusal() {
 #[test]
 fn replaces_and_looks_up_without_memory() {
     let mut map = numbered_keys(20);
-    assert_eq!(refusing(1, || map.try_insert("7", 8)), (Ok(()), 0));
-    assert_eq!(
-        refusing(1, || map.lookup("7", true)),
-        (Found::Exact(1, 8), 0)
-    );
-    assert_eq!(refusing(1, KeyMap::<usize>::new).1, 0);
+    assert_eq!(without_memory(|| map.try_insert("7", 8)), Ok(()));
+    let found = without_memory(|| map.lookup("7", true));
+    assert_eq!(found, Found::Exact(1, 8));
+    without_memory(KeyMap::<usize>::new);
 }
 
 #[test]
@@ -574,12 +571,13 @@ fn tells_rows_without_memory() {
     let mut parser = Parser::new(Dialect::Termwiz);
     parser.feed(Instant::now(), b"\x1b\x1b[1;5");
     assert_eq!(parser.next(), None);
-    let (completions, refused) = refusing(1, || parser.completions());
-    assert_eq!((completions.with_alt, refused), (true, 0));
+    let completions = without_memory(|| parser.completions());
+    assert!(completions.with_alt);
     let mut places = completions.entries.clone();
-    let all_told = || places.all(|place| parser.entry(place).is_some());
-    assert_eq!(refusing(1, all_told), (true, 0));
-    assert_eq!(refusing(1, || parser.entry(usize::MAX)), (None, 0));
+    assert!(without_memory(
+        || places.all(|place| parser.entry(place).is_some())
+    ));
+    assert_eq!(without_memory(|| parser.entry(usize::MAX)), None);
 }
 
 // Returns the number of the events.

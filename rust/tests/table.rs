@@ -26,20 +26,14 @@ fn refuse_the_first() {
                 Parser::try_new(Dialect::Extended).err()
             }
         });
-        assert_eq!(
-            (refusal, refused),
-            (Some(AllocError), 1),
-            "request {number}"
-        );
+        let told = (refusal, refused);
+        assert_eq!(told, (Some(AllocError), 1), "request {number}");
         if in_use() != start {
             break;
         }
     }
-    assert!(
-        (TABLE..2 * TABLE).contains(&(in_use() - start)),
-        "{} bytes",
-        in_use() - start
-    );
+    let bytes = in_use() - start;
+    assert!((TABLE..2 * TABLE).contains(&bytes), "{bytes} bytes");
 }
 
 // A key as it is read by each kind of parser.
@@ -54,15 +48,10 @@ fn up() -> InputEvent {
 // when the others are gone.
 fn share_the_table() {
     let start = in_use();
-    let mut parsers: Vec<_> = (0..PARSERS).map(|_| InputParser::new()).collect();
-    let mut extended: Vec<_> = (0..PARSERS)
-        .map(|_| Parser::new(Dialect::Extended))
-        .collect();
-    assert!(
-        in_use() - start < 2 * PARSERS * PARSER,
-        "{} bytes",
-        in_use() - start
-    );
+    let mut parsers = Vec::from_iter((0..PARSERS).map(|_| InputParser::new()));
+    let mut extended = Vec::from_iter((0..PARSERS).map(|_| Parser::new(Dialect::Extended)));
+    let bytes = in_use() - start;
+    assert!(bytes < 2 * PARSERS * PARSER, "{bytes} bytes");
     while let Some(mut parser) = parsers.pop() {
         assert_eq!(parser.parse_as_vec(b"\x1b[1;5A", true), [up()]);
     }

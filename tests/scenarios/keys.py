@@ -7,22 +7,27 @@ from terminal import END, LONG_PAUSE, START
 from scenarios.program import Program
 from scenarios.row import BUSY, CTRL_UP, LAYERS, SIZE_BACK, STOP_AND_CONTINUE, UP, Row, key, press
 
-# What Backspace sends, and the keys of the bytes 8 and 127.
 BACKSPACE = "key Backspace NONE"
-ERASES = {
-    "127": (b"\x7f", key("\b"), BACKSPACE),
-    "8": (b"\b", BACKSPACE, key("\x7f")),
-    "another byte": (b"\x15", key("\b"), BACKSPACE),
-    "nothing": (b"\0", key("\b"), BACKSPACE),
-}
+# What Backspace sends.
+ERASES = {"127": b"\x7f", "8": b"\b", "another byte": b"\x15", "nothing": b"\0"}
+ICRNL = {"ICRNL": True, "no ICRNL": False}
 ENTER = [b"\n", key("\n"), b"\r", "key Enter NONE"]
+NEW_SIZE = [(100, 40), "resized 40 100 0 0"]
 EVERY_LOOP = ["", "own", "device"]
 # Raw mode has none of them.
 CHANGES_BYTES = termios.ISTRIP | termios.INLCR | termios.IGNCR | termios.INPCK | termios.IXON
 
 
-def with_alt(line):
-    return line.replace("NONE", "ALT")
+def both_bytes(erase):
+    """The bytes 8 and 127, and with Alt."""
+    keys = [BACKSPACE, key("\x7f")] if erase == b"\b" else [key("\b"), BACKSPACE]
+    return [b"\b\x7f", *keys, b"\033\b\033\x7f", *(it.replace("NONE", "ALT") for it in keys)]
+
+
+def end_of_the_input(typed, *lines):
+    """The first ^D ends a read, and the second the input."""
+    steps = [Program.let_end_input, b"w" + typed + b"\x04\x04", key("w"), *lines, "ended"]
+    return Row(end=steps, layers=LAYERS)
 
 
 ROWS = {
@@ -38,19 +43,18 @@ ROWS = {
     "a position of the cursor": Row([b"\033[24;80R", "position 24 80"]),
     **{
         f"Backspace sends {name}": Row(
-            [b"\b\x7f", eight, last, b"\033\b\033\x7f", with_alt(eight), with_alt(last)]
-            + STOP_AND_CONTINUE,
+            [*both_bytes(erase), *STOP_AND_CONTINUE],
             words=EVERY_LOOP,
             how={"erase": erase},
             layers=LAYERS,
         )
-        for name, (erase, eight, last) in ERASES.items()
+        for name, erase in ERASES.items()
     },
     **{
         f"Enter after {name}": Row(
             [*ENTER, *STOP_AND_CONTINUE], words=EVERY_LOOP, how={"has_icrnl": has}, layers=LAYERS
         )
-        for name, has in {"ICRNL": True, "no ICRNL": False}.items()
+        for name, has in ICRNL.items()
     },
     "settings that change bytes": Row(
         [*press("é"), *ENTER, b"\x13\x11", "key U+0073 CTRL", "key U+0071 CTRL"],
@@ -66,15 +70,12 @@ ROWS = {
     **{
         f"Enter ahead of the opening with {name}": Row(
             ahead=[b"\r\n"],
-            first=[enter, key("\n")],
+            first=[key("\n") if has else "key Enter NONE", key("\n")],
             before="sleep 0.5",
-            how={"echoes": False, "has_icrnl": has_icrnl},
+            how={"echoes": False, "has_icrnl": has},
             is_timed=True,
         )
-        for name, has_icrnl, enter in [
-            ("ICRNL", True, key("\n")),
-            ("no ICRNL", False, "key Enter NONE"),
-        ]
+        for name, has in ICRNL.items()
     },
     "a look that does not wait": Row(
         [b"0\033[1;5", key("0"), "nothing", b"A", CTRL_UP], is_timed=True
@@ -86,33 +87,23 @@ ROWS = {
     ),
     # It reads them before it flushes anything.
     "bytes that come while it is busy": Row([b"k\033", key("k"), "busy", b"[A", UP], is_timed=True),
-    "a new size": Row([(100, 40), "resized 40 100 0 0", *SIZE_BACK], layers=LAYERS),
+    "a new size": Row([*NEW_SIZE, *SIZE_BACK], layers=LAYERS),
     "a size in pixels": Row(
         [(100, 40, 800, 640), "resized 40 100 640 800", *press("z"), "size 40 100 640 800"]
         + SIZE_BACK
     ),
     "a new size in a sequence": Row(
-        [b"\033[1;5", (100, 40), "resized 40 100 0 0", b"A", CTRL_UP, *SIZE_BACK], is_timed=True
+        [b"\033[1;5", *NEW_SIZE, b"A", CTRL_UP, *SIZE_BACK], is_timed=True
     ),
     "a new size in a paste": Row(
-        [START + b"ab", (100, 40), "resized 40 100 0 0", b"c" + END, 'paste "abc"', *SIZE_BACK],
-        layers=LAYERS,
+        [START + b"ab", *NEW_SIZE, b"c" + END, 'paste "abc"', *SIZE_BACK], layers=LAYERS
     ),
     "signals of the program": Row(
         [*press("w"), *[Program.wait_for_sleep, signal.SIGUSR1] * 3, *press("w")]
         + [*BUSY, signal.SIGUSR1, *press("w")],
         words=["handle"],
     ),
-    "the end of the input": Row(
-        end=[Program.let_end_input, b"w" + START + b"ab\x04\x04", key("w"), 'paste "ab"', "ended"],
-        layers=LAYERS,
-    ),
-    "the end of the input after Escape": Row(
-        end=[Program.let_end_input, b"w\033\x04\x04", key("w"), "key Escape NONE", "ended"],
-        layers=LAYERS,
-    ),
-    "the end of the input after ESC and a bracket": Row(
-        end=[Program.let_end_input, b"w\033[\x04\x04", key("w"), "key U+005B ALT", "ended"],
-        layers=LAYERS,
-    ),
+    "the end of the input": end_of_the_input(START + b"ab", 'paste "ab"'),
+    "the end of the input after Escape": end_of_the_input(b"\033", "key Escape NONE"),
+    "the end of the input after ESC and a bracket": end_of_the_input(b"\033[", "key U+005B ALT"),
 }

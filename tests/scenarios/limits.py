@@ -1,7 +1,7 @@
 """What is cut by pauses: a key that is over is told in time, and what isn't over waits."""
 from terminal import END, LONG_PAUSE, PAUSE, START
 
-from scenarios.row import CTRL_UP, LAYERS, UP, Row, key, press
+from scenarios.row import CTRL_UP, LAYERS, UP, Row, in_time, key, press
 
 MOUSE_REPORTS = ["mouse 3 4 LEFT NONE press 1", "mouse 3 4 NONE NONE release 1"]
 ALT_BRACKET = "key U+005B ALT"
@@ -18,7 +18,7 @@ ROWS = {
         [b"\033]", "key U+005D ALT", *[*press("j"), 0.03] * 20], layers=LAYERS
     ),
     **{
-        name: Row(steps, words=["mouse"], layers=LAYERS, is_timed=True)
+        name: in_time(steps, words=["mouse"])
         for name, steps in {
             "an arrow that is cut after ESC": [b"\033", 0.005, b"[A", UP],
             "a key that is cut": [b"\033[1;", PAUSE, b"5A", CTRL_UP],

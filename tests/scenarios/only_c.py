@@ -4,12 +4,22 @@ import signal
 
 from terminal import CONTINUE, END, START
 
-from scenarios.program import Program, check_blocks, expect
-from scenarios.questions import ASK, ASKED, ATTRIBUTES, ATTRIBUTES_TOLD, POSITION, POSITION_TOLD
-from scenarios.questions import QUESTION, REPLY, TOLD
+from scenarios.program import Program, check, expect
+from scenarios.questions import ASK, ASKED, ATTRIBUTES, ATTRIBUTES_TOLD, LAST, OVER, POSITION
+from scenarios.questions import POSITION_TOLD, QUESTION, REPLY, TOLD
 from scenarios.row import BACK, CTRL_F3, CTRL_UP, UP, Row, key, press
 
 NOT_WRITTEN = "the terminal can't be written"
+
+
+def owed(count):
+    return [*press("O"), f"owed {count}"]
+
+
+def refused_reply(which):
+    """The request of that key is refused. The failure is told once, and the reply is counted."""
+    return [*ASK, *press(which), ATTRIBUTES, "failed", ATTRIBUTES_TOLD, *owed(0)]
+
 
 ROWS = {
     # The failure is told, and the next call has the event.
@@ -17,20 +27,15 @@ ROWS = {
         [*press("M"), START + b"aa" + END, "failed", 'paste "aa"']
         + [*press("M"), START + b"a" * 2000 + END, "failed", "paste of 2000 bytes"]
     ),
-    # It is told once, and counted, whichever request is refused.
-    "a reply while memory is refused": Row(
-        [*ASK, *press("M"), ATTRIBUTES, "failed", ATTRIBUTES_TOLD, *press("O"), "owed 0"],
-        first=[*ASK, *press("N"), ATTRIBUTES, "failed", ATTRIBUTES_TOLD, *press("O"), "owed 0"],
-    ),
+    "a reply while memory is refused": Row(refused_reply("M"), first=refused_reply("N")),
     "questions that are owed": Row(
-        [*press("O"), "owed 0", *ASK, *ASK, *press("O"), "owed 2", POSITION, POSITION_TOLD]
-        + [ATTRIBUTES, ATTRIBUTES_TOLD, *press("O"), "owed 1", REPLY, *TOLD, *press("O"), "owed 0"]
+        [*owed(0), *ASK, *ASK, *owed(2), POSITION, POSITION_TOLD, *LAST, *owed(1)]
+        + [REPLY, *TOLD, *owed(0)]
     ),
     # It isn't open, and those from before are as they were.
     "a question that cannot be written": Row(
-        [b"6V", key("6"), ASKED, key("V"), NOT_WRITTEN, *press("O"), "owed 1", POSITION * 2]
-        + [POSITION_TOLD, CTRL_F3, ATTRIBUTES, ATTRIBUTES_TOLD, *press("V"), NOT_WRITTEN]
-        + [*press("O"), "owed 0", POSITION, CTRL_F3]
+        [b"6V", key("6"), ASKED, key("V"), NOT_WRITTEN, *owed(1), POSITION * 2, POSITION_TOLD]
+        + [CTRL_F3, *LAST, *press("V"), NOT_WRITTEN, *owed(0), *OVER]
     ),
     # It isn't forgotten with those of before, and no reply that came before answers it.
     **{
@@ -47,9 +52,7 @@ ROWS = {
         command="stty sane -echo",
     ),
     # Nobody waits for the reply any more.
-    "a question before the terminal is taken back": Row(
-        [*ASK, *press("T"), *BACK, POSITION, CTRL_F3]
-    ),
+    "a question before the terminal is taken back": Row([*ASK, *press("T"), *BACK, *OVER]),
     # It reads them before it flushes anything.
     "bytes that come before a wake without a signal": Row(
         [b"W\033", key("W"), "busy", b"[A", UP], is_timed=True
@@ -59,8 +62,8 @@ ROWS = {
     ),
     # While it is stopped, and at the end, it blocks again.
     "a descriptor that is set not to block": Row(
-        [*press("c"), "child 0", check_blocks(False), b"\033[1;5", b"A", CTRL_UP, Program.stop]
-        + [check_blocks(True), CONTINUE, *BACK],
+        [*press("c"), "child 0", check(Program.blocks, False), b"\033[1;5", b"A", CTRL_UP]
+        + [Program.stop, check(Program.blocks, True), CONTINUE, *BACK],
         command="python3 -c 'import os; os.set_blocking(0, False)'",
         is_timed=True,
     ),

@@ -2,14 +2,11 @@
 import os
 import re
 import termios
-import time
 from pathlib import Path
 
 from terminal import Terminal, stat_of
 
 MODES = {"mouse": {1003, 1006}, "focus": {1004}, "screen": {1049}}
-# What switches modes, and what asks.
-SWITCH = re.compile(r"\033\[[?<>]?[\d;]*[hlnuc]|\033\]11;\?\033\\|forked \d+\r\n")
 
 
 class Program(Terminal):
@@ -21,8 +18,8 @@ class Program(Terminal):
         self.blocked_before = self.blocks()
 
     def lines(self):
-        """The lines that the program printed, without what it asked and switched."""
-        return SWITCH.sub("", self.output.decode()).split("\r\n")[:-1]
+        """Without those that name a child."""
+        return [it for it in super().lines() if not it.startswith("forked ")]
 
     def blocks(self):
         """Whether a read blocks by the descriptor that the program has from the shell."""
@@ -36,9 +33,6 @@ class Program(Terminal):
 
     def set_as_before(self):
         termios.tcsetattr(self.child_fd, termios.TCSANOW, self.settings_before)
-
-    def check_settings(self):
-        assert self.settings() == self.settings_before
 
     def check_restored(self):
         self.wait_for(lambda: not self.modes(), "end of the modes")
@@ -61,9 +55,6 @@ class Program(Terminal):
         """It has nothing to do."""
         self.wait_for(lambda: self.state() == "S", "sleep")
 
-    def start_clock(self):
-        self.began = time.monotonic()
-
     def start_processor_clock(self):
         self.processor_began = self.processor_ticks()
 
@@ -71,21 +62,9 @@ class Program(Terminal):
         """It waited, and didn't look again and again."""
         assert self.processor_ticks() - self.processor_began < 10
 
-    def processor_ticks(self):
-        return sum(map(int, stat_of(self.job)[11:13]))
-
     def expect_forked(self):
         self.expect(rb"forked (\d+)\r\n")
         self.child = int(self.match[1])
-
-
-def took(least, most):
-    """So many seconds have passed since the clock was started."""
-
-    def check(it):
-        assert least < time.monotonic() - it.began < most
-
-    return check
 
 
 def kill_child(number):
@@ -101,18 +80,13 @@ def expect(text):
     return lambda it: it.expect_exact(text)
 
 
-def check_blocks(blocks):
-    def check(it):
-        assert it.blocks() == blocks
+def check(what, wanted):
+    """What a method returns."""
 
-    return check
+    def check_now(it):
+        assert what(it) == wanted
 
-
-def check_left(left):
-    def check(it):
-        assert it.left() == left
-
-    return check
+    return check_now
 
 
 def stop_by(number):

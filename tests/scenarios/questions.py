@@ -16,7 +16,13 @@ QUESTION, BACKGROUND_QUESTION = "\033[6n\033[c", "\033]11;?\033\\\033[c"
 # Asks for the position of the cursor, and doesn't wait.
 ASK = [*press("6"), QUESTION, ASKED]
 REPLY, TOLD = POSITION + ATTRIBUTES, [POSITION_TOLD, ATTRIBUTES_TOLD]
+# Asks for it, and waits. The last reply ends a question, and a key tells that none is open.
+WAIT, LAST, OVER = [*press("a"), QUESTION], [ATTRIBUTES, ATTRIBUTES_TOLD], [POSITION, CTRL_F3]
 SHOW_LINE = "stty -a | grep -o -e '-icanon' -e icanon; read -r line; echo \"line $line\""
+
+
+def asked(*told):
+    return f"asked: {', '.join(told)}"
 
 
 def check_count(it):
@@ -26,71 +32,34 @@ def check_count(it):
 
 # C's loop that reads by itself asks nothing.
 ASKING = [it for it in LAYERS if it != "bare"]
-ASYNCIO = ["asyncio"]
 
-ROWS = {
-    "replies that are waited for": Row(
-        [*press("a"), QUESTION, b"w" + POSITION + b"y" + ATTRIBUTES]
-        + [f"asked: {POSITION_TOLD}, {ATTRIBUTES_TOLD}", key("w"), key("y"), POSITION, CTRL_F3],
-        words=["", "own"],
-        layers=ASKING,
-    ),
-    # It counts no more once the last reply is read, also for bytes that came with that.
-    "a question that is over": Row(
-        [*press("a"), QUESTION, ATTRIBUTES + b"\033[?1;2c" + POSITION]
-        + [f"asked: {ATTRIBUTES_TOLD}", 'csi "?1;2c"', CTRL_F3],
-        layers=ASKING,
-    ),
-    "replies that are not waited for": Row(
-        [*ASK, POSITION, POSITION_TOLD, ATTRIBUTES, ATTRIBUTES_TOLD, POSITION, CTRL_F3],
-        layers=ASKING,
-    ),
-    # Each ends by its own reply to DA1, which is that of the oldest.
-    "several questions": Row(
-        [*ASK, *press("9"), "\033[6n\033[6n\033]11;?\033\\\033[c", ASKED, POSITION, POSITION_TOLD]
-        + [ATTRIBUTES, ATTRIBUTES_TOLD, POSITION * 2 + BACKGROUND, *[POSITION_TOLD] * 2]
-        + [BACKGROUND_TOLD, ATTRIBUTES, ATTRIBUTES_TOLD, POSITION, CTRL_F3]
-    ),
+LATE = {
     # A question is open until its last reply, and that to a later question is its own.
     "late replies": Row(
         [*ASK, *press("b"), BACKGROUND_QUESTION, REPLY + BACKGROUND + ATTRIBUTES]
-        + [f"asked: {BACKGROUND_TOLD}, {ATTRIBUTES_TOLD}", *TOLD, POSITION, CTRL_F3],
-        layers=ASYNCIO,
+        + [asked(BACKGROUND_TOLD, ATTRIBUTES_TOLD), *TOLD, *OVER]
     ),
     # Each call has its own reply, however late that of the first one is.
     "late replies to the same question": Row(
-        [*ASK, *press("a"), QUESTION, b"w" + REPLY + b"\033[1;7R" + ATTRIBUTES]
-        + [f"asked: position 1 7, {ATTRIBUTES_TOLD}", key("w"), *TOLD, POSITION, CTRL_F3],
-        layers=ASYNCIO,
+        [*ASK, *WAIT, b"w" + REPLY + b"\033[1;7R" + ATTRIBUTES]
+        + [asked("position 1 7", ATTRIBUTES_TOLD), key("w"), *TOLD, *OVER]
     ),
     "late replies before the next question": Row(
         [*ASK, REPLY + POSITION, *TOLD, CTRL_F3, *press("b"), BACKGROUND_QUESTION]
-        + [BACKGROUND + ATTRIBUTES, f"asked: {BACKGROUND_TOLD}, {ATTRIBUTES_TOLD}"],
-        layers=ASYNCIO,
-    ),
-    # The first stays open with its reply, and the second opens it anew.
-    "a late question for the position": Row(
-        [*ASK, *press("a"), QUESTION, ATTRIBUTES + b"\033[1;6R" + POSITION + ATTRIBUTES]
-        + [f"asked: position 1 6, {ATTRIBUTES_TOLD}", ATTRIBUTES_TOLD, CTRL_F3]
+        + [BACKGROUND + ATTRIBUTES, asked(BACKGROUND_TOLD, ATTRIBUTES_TOLD)]
     ),
     "a reply that does not come in time": Row(
-        [*press("t"), QUESTION, b"w" + POSITION, f"asked: {POSITION_TOLD}", key("w")]
-        + [ATTRIBUTES, ATTRIBUTES_TOLD, POSITION, CTRL_F3],
-        layers=ASYNCIO,
+        [*press("t"), QUESTION, b"w" + POSITION, asked(POSITION_TOLD), key("w"), *LAST, *OVER],
         is_timed=True,
     ),
     # It is given up after two seconds. A later reply to DA1 answers none.
     "a terminal that does not answer": Row(
-        [*ASK, 1.7, REPLY, *TOLD, *ASK, 2.3, POSITION, CTRL_F3, ATTRIBUTES, ATTRIBUTES_TOLD]
-        + [*ASK, REPLY, *TOLD],
-        layers=ASYNCIO,
-        is_timed=True,
+        [*ASK, 1.7, REPLY, *TOLD, *ASK, 2.3, *OVER, *LAST, *ASK, REPLY, *TOLD], is_timed=True
     ),
     **{
         f"questions before a stop{name}": Row(
             [b"66" + begun, key("6"), ASKED, key("6"), ASKED, *STOP_AND_CONTINUE]
-            + [rest + POSITION, *told, CTRL_F3, ATTRIBUTES, ATTRIBUTES_TOLD, *ASK],
-            layers=ASYNCIO,
+            + [rest + POSITION, *told, CTRL_F3, *LAST, *ASK]
         )
         for name, begun, rest, told in [
             ("", b"", b"", []),
@@ -98,31 +67,57 @@ ROWS = {
         ]
     },
     "a question that is waited for at a stop": Row(
-        [*press("a"), QUESTION, b"w" + POSITION, PAUSE, *STOP_AND_CONTINUE[:2]]
-        + [f"asked: {POSITION_TOLD}", key("w"), *BACK, POSITION, CTRL_F3, *ASK, REPLY, *TOLD],
-        layers=ASYNCIO,
+        [*WAIT, b"w" + POSITION, PAUSE, *STOP_AND_CONTINUE[:2], asked(POSITION_TOLD), key("w")]
+        + [*BACK, *OVER, *ASK, REPLY, *TOLD],
         is_timed=True,
+    ),
+}
+for row in LATE.values():
+    row.layers = ["asyncio"]
+ROWS = LATE | {
+    "replies that are waited for": Row(
+        [*WAIT, b"w" + POSITION + b"y" + ATTRIBUTES, asked(*TOLD), key("w"), key("y"), *OVER],
+        words=["", "own"],
+        layers=ASKING,
+    ),
+    # It counts no more once the last reply is read, also for bytes that came with that.
+    "a question that is over": Row(
+        [*WAIT, ATTRIBUTES + b"\033[?1;2c" + POSITION, asked(ATTRIBUTES_TOLD)]
+        + ['csi "?1;2c"', CTRL_F3],
+        layers=ASKING,
+    ),
+    "replies that are not waited for": Row(
+        [*ASK, POSITION, POSITION_TOLD, *LAST, *OVER], layers=ASKING
+    ),
+    # Each ends by its own reply to DA1, which is that of the oldest.
+    "several questions": Row(
+        [*ASK, *press("9"), "\033[6n\033[6n\033]11;?\033\\\033[c", ASKED, POSITION, POSITION_TOLD]
+        + [*LAST, POSITION * 2 + BACKGROUND, *[POSITION_TOLD] * 2, BACKGROUND_TOLD, *LAST, *OVER]
+    ),
+    # The first stays open with its reply, and the second opens it anew.
+    "a late question for the position": Row(
+        [*ASK, *WAIT, ATTRIBUTES + b"\033[1;6R" + POSITION + ATTRIBUTES]
+        + [asked("position 1 6", ATTRIBUTES_TOLD), ATTRIBUTES_TOLD, CTRL_F3]
     ),
     # What comes beside the replies is told by the loop.
     "a question and a new size": Row(
-        [*press("a"), QUESTION, b"w" + POSITION, (100, 40), PAUSE, ATTRIBUTES]
-        + [f"asked: {POSITION_TOLD}, {ATTRIBUTES_TOLD}", key("w"), "resized 40 100 0 0"]
-        + SIZE_BACK,
+        [*WAIT, b"w" + POSITION, (100, 40), PAUSE, ATTRIBUTES, asked(*TOLD), key("w")]
+        + ["resized 40 100 0 0", *SIZE_BACK],
         only=dict.fromkeys(["c", "rust"], "Python tells a new size before what was read"),
         is_timed=True,
     ),
     # Nobody waits for replies.
     "a question before SIGSTOP": Row(
-        [*ASK, stop_by(signal.SIGSTOP), CONTINUE, *BACK, Program.check_open, POSITION, CTRL_F3]
+        [*ASK, stop_by(signal.SIGSTOP), CONTINUE, *BACK, Program.check_open, *OVER]
     ),
     "a question when the terminal is back": Row(
-        [*ASK, *STOP_AND_CONTINUE, ASKED, REPLY, *TOLD, POSITION, CTRL_F3], words=["asks"]
+        [*ASK, *STOP_AND_CONTINUE, ASKED, REPLY, *TOLD, *OVER], words=["asks"]
     ),
     "a question before the terminal is lent": Row(
         [*ASK, b"l", key("l"), "\033[?2004l", REPLY + b"hello\n", "icanon", "line hello", "lent 0"]
-        + [*BACK, Program.check_open, *ASK, REPLY, *TOLD, POSITION, CTRL_F3]
+        + [*BACK, Program.check_open, *ASK, REPLY, *TOLD, *OVER]
         # The reply never comes.
-        + [*ASK, *press("l"), "icanon", b"\n", "line ", "lent 0", *BACK, POSITION, CTRL_F3],
+        + [*ASK, *press("l"), "icanon", b"\n", "line ", "lent 0", *BACK, *OVER],
         command=SHOW_LINE,
         how={"echoes": False},
         is_timed=True,

@@ -55,3 +55,13 @@ class Row:
         """All steps: each row does its thing twice, and what ends it comes in a second opening."""
         again = [*press("r"), "begun"] if self.end else []
         return [*self.first, *self.steps, *self.steps, *again, *(self.end or QUIT)]
+
+
+def ended_by(number, steps=(), then=(), **fields):
+    """A signal behind these steps ends it."""
+    return Row(end=[*steps, number, *then], status=-number, **fields)
+
+
+def in_time(steps, **fields):
+    """Time is the thing, over each loop."""
+    return Row(steps, layers=LAYERS, is_timed=True, **fields)

@@ -1,22 +1,26 @@
 """Signals, children, and programs that have the terminal meanwhile."""
 import re
-import signal
+from signal import SIGABRT, SIGCONT, SIGHUP, SIGINT, SIGQUIT, SIGSEGV, SIGSTOP, SIGTERM, SIGTSTP
+from signal import SIGWINCH
 
-from terminal import CONTINUE, END, LONG_PAUSE, PAUSE, START, STOP, Terminal, start_output
+from terminal import CONTINUE, END, LONG_PAUSE, PAUSE, START, STOP, Terminal, start_output, took
 
-from scenarios.program import Program, continue_with, kill_child, stop_by, took
+from scenarios.program import Program, continue_with, kill_child, stop_by
 from scenarios.program import wait_for_state_of_child
 from scenarios.questions import BACKGROUND, BACKGROUND_TOLD, SHOW_LINE
 from scenarios.row import BACK, BUSY, CTRL_F3, CTRL_UP, LAYERS, SIZE_BACK, STOP_AND_CONTINUE, UP
-from scenarios.row import Row, key, press, stop_and_continue
+from scenarios.row import Row, ended_by, in_time, key, press, stop_and_continue
 
-SIGNALS = [signal.SIGCONT, signal.SIGSTOP, signal.SIGTSTP]
+BACK_AND_OPEN = [*BACK, Program.check_open]
 # A shell sets the terminal as it likes while it is stopped.
-BY_A_SHELL = {"SIGTSTP": Program.stop, "SIGSTOP": stop_by(signal.SIGSTOP)}
+BY_A_SHELL = {"SIGTSTP": Program.stop, "SIGSTOP": stop_by(SIGSTOP)}
 HEARS_AT_ONCE = dict.fromkeys(["c", "rust"], "Python heeds no signal until system() returns")
 WAIT_FOR_LINE = "echo waits; read -r line"
 LEND_AND_WAIT = [*press("l"), "waits"]
-TAKE_BACK = [b"\n", "lent 0", *BACK, Program.check_open]
+TAKE_BACK = [b"\n", "lent 0", *BACK_AND_OPEN]
+NO_ECHO = {"echoes": False}
+FORK = [*press("p"), Program.expect_forked]
+OPEN_AND_READ = [Program.check_open, *press("w")]
 BEGINNINGS = {
     "ESC": b"\033",
     "ESC and a bracket": b"\033[",
@@ -31,75 +35,55 @@ def check_flags(it):
     assert not re.search(rb"\033\[[?>]?\d*[cn]|\033\[\?u", it.output)
 
 
-def lend(before=b"", told=(), line=b"hello"):
-    """The terminal is lent to a child that reads a line."""
-    text = line.decode()
-    steps = [b"l" + before, key("l"), *told, "icanon", Program.check_restored]
-    return [*steps, line + b"\n", f"line {text}", "lent 0", *BACK, Program.check_open]
+def stopped_by(name, stop):
+    """The rows of a stop within something, while a shell has the terminal."""
+
+    def stopped(begun):
+        return [b"w" + begun, key("w"), stop, CONTINUE, *BACK]
+
+    return {
+        # A second after the resumption or the last byte it ends. Later ones have no limit.
+        f"{name} in a paste without an end": in_time(
+            [*stopped(START + b"ab"), 0.7, b"c", 0.7, Program.start_clock, 'paste "abc"']
+            + [took(0.1, 0.8), START + b"ab", LONG_PAUSE, b"cd" + END, 'paste "abcd"', *press("w")]
+        ),
+        # Its rest belongs to it.
+        f"{name} in a string": in_time(
+            [*stopped(BACKGROUND[:9]), PAUSE, BACKGROUND[9:], BACKGROUND_TOLD]
+        ),
+        # It is cut off after a second.
+        f"{name} in a string without an end": in_time(
+            [*stopped(BACKGROUND[:9] + b"\033"), Program.start_clock, 'osc cut "11;rgb:"']
+            + [took(0.8, 1.6), *press("w")]
+        ),
+    } | {
+        # It is forgotten. The program is busy, so no limit ends it before.
+        f"{name} behind {what}": in_time(
+            [b"k" + begun, key("k"), "busy", stop, CONTINUE, *BACK, *press("D")]
+        )
+        for what, begun in BEGINNINGS.items()
+    }
 
 
 ROWS = {
     **{
-        f"{name} in a paste": Row(
-            [b"w" + START + b"\ra", key("w"), *stop_and_continue(number) * 2, PAUSE]
-            + [b"\rb" + END, r'paste "\ra\rb"'],
-            layers=LAYERS,
-            is_timed=True,
+        f"{it.name} in a paste": in_time(
+            [b"w" + START + b"\ra", key("w"), *stop_and_continue(it) * 2, PAUSE]
+            + [b"\rb" + END, r'paste "\ra\rb"']
         )
-        for name, number in ((it.name, it) for it in SIGNALS)
+        for it in (SIGCONT, SIGSTOP, SIGTSTP)
     },
-    # A second after the resumption or the last byte it ends. Later ones have no limit.
+    **stopped_by("SIGTSTP", BY_A_SHELL["SIGTSTP"]),
+    **stopped_by("SIGSTOP", BY_A_SHELL["SIGSTOP"]),
     **{
-        f"{name} in a paste without an end": Row(
-            [b"w" + START + b"ab", key("w"), stop, CONTINUE, *BACK, 0.7, b"c", 0.7]
-            + [Program.start_clock, 'paste "abc"', took(0.1, 0.8)]
-            + [START + b"ab", LONG_PAUSE, b"cd" + END, 'paste "abcd"', *press("w")],
-            layers=LAYERS,
-            is_timed=True,
+        f"{it.name} alone in a string": in_time(
+            [b"w" + BACKGROUND[:9], key("w"), *[continue_with(it)] * 2, PAUSE]
+            + [BACKGROUND[9:], BACKGROUND_TOLD]
         )
-        for name, stop in BY_A_SHELL.items()
-    },
-    # Its rest belongs to it.
-    **{
-        f"{name} in a string": Row(
-            [b"w" + BACKGROUND[:9], key("w"), stop, CONTINUE, *BACK, PAUSE]
-            + [BACKGROUND[9:], BACKGROUND_TOLD],
-            layers=LAYERS,
-            is_timed=True,
-        )
-        for name, stop in BY_A_SHELL.items()
-    },
-    **{
-        f"{number.name} alone in a string": Row(
-            [b"w" + BACKGROUND[:9], key("w"), *[continue_with(number)] * 2, PAUSE]
-            + [BACKGROUND[9:], BACKGROUND_TOLD],
-            layers=LAYERS,
-            is_timed=True,
-        )
-        for number in [signal.SIGCONT, signal.SIGSTOP]
-    },
-    # It is cut off after a second.
-    **{
-        f"{name} in a string without an end": Row(
-            [b"w" + BACKGROUND[:9] + b"\033", key("w"), stop, CONTINUE, *BACK, Program.start_clock]
-            + ['osc cut "11;rgb:"', took(0.8, 1.6), *press("w")],
-            layers=LAYERS,
-            is_timed=True,
-        )
-        for name, stop in BY_A_SHELL.items()
-    },
-    # It is forgotten. The program is busy, so no limit ends it before.
-    **{
-        f"{name} behind {what}": Row(
-            [b"k" + begun, key("k"), "busy", stop, CONTINUE, *BACK, b"D", key("D")],
-            layers=LAYERS,
-            is_timed=True,
-        )
-        for name, stop in BY_A_SHELL.items()
-        for what, begun in BEGINNINGS.items()
+        for it in (SIGCONT, SIGSTOP)
     },
     "SIGSTOP and what Backspace sends": Row(
-        [b"\b\x7f\n", "key Backspace NONE", key("\x7f"), key("\n"), BY_A_SHELL["SIGSTOP"], CONTINUE]
+        [b"\b\x7f\n", "key Backspace NONE", key("\x7f"), key("\n"), stop_by(SIGSTOP), CONTINUE]
         + BACK,
         how={"erase": b"\b"},
         layers=LAYERS,
@@ -107,41 +91,27 @@ ROWS = {
     # They are switched on and off, and nothing is asked. Keys are read in each form.
     "flags of Kittys protocol": Row(
         [b"\x03\033[99;5u\033[1;9A\033[1;5R\033[?1u", *["key U+0063 CTRL"] * 2, "key UpArrow SUPER"]
-        + [CTRL_F3, "flags 1", *STOP_AND_CONTINUE, BY_A_SHELL["SIGSTOP"], CONTINUE, *BACK]
+        + [CTRL_F3, "flags 1", *STOP_AND_CONTINUE, stop_by(SIGSTOP), CONTINUE, *BACK]
         + [b"\x03\033[99;5u", *["key U+0063 CTRL"] * 2, check_flags],
         words=["kitty"],
     ),
     **{
-        f"{name} in a sequence": Row(
-            [b"w\033[1;5", key("w"), *stop_and_continue(number), b"A", told],
-            layers=LAYERS,
-            is_timed=True,
+        f"{number.name} in a sequence": in_time(
+            [b"w\033[1;5", key("w"), *stop_and_continue(number), b"A", told]
         )
-        for name, number, told in [
-            ("SIGCONT", signal.SIGCONT, CTRL_UP),
-            ("SIGSTOP", signal.SIGSTOP, CTRL_UP),
-            ("SIGTSTP", signal.SIGTSTP, key("A")),
-        ]
+        for number, told in [(SIGCONT, CTRL_UP), (SIGSTOP, CTRL_UP), (SIGTSTP, key("A"))]
     },
-    "SIGTSTP in a character": Row(
-        [b"w\xc3", key("w"), *STOP_AND_CONTINUE, *press("v")], layers=LAYERS, is_timed=True
-    ),
+    "SIGTSTP in a character": in_time([b"w\xc3", key("w"), *STOP_AND_CONTINUE, *press("v")]),
     # Bytes that came meanwhile go first, since they may complete it.
-    "a key that is due after a stop": Row(
-        [b"w\033[1;5", key("w"), *STOP, b"A", LONG_PAUSE, CONTINUE, CTRL_UP],
-        layers=LAYERS,
-        is_timed=True,
+    "a key that is due after a stop": in_time(
+        [b"w\033[1;5", key("w"), *STOP, b"A", LONG_PAUSE, CONTINUE, CTRL_UP]
     ),
-    "typed while it is stopped": Row(
-        [Program.stop, b"w", CONTINUE, *BACK, key("w")], how={"echoes": False}
-    ),
+    "typed while it is stopped": Row([Program.stop, b"w", CONTINUE, *BACK, key("w")], how=NO_ECHO),
     "SIGSTOP while a shell sets the terminal": Row(
-        [stop_by(signal.SIGSTOP), CONTINUE, *BACK, Program.check_open],
-        words=["", "mouse screen"],
-        layers=LAYERS,
+        [stop_by(SIGSTOP), CONTINUE, *BACK_AND_OPEN], words=["", "mouse screen"], layers=LAYERS
     ),
     "SIGTSTP": Row(
-        [Program.stop, Program.check_restored, CONTINUE, *BACK, Program.check_open],
+        [Program.stop, Program.check_restored, CONTINUE, *BACK_AND_OPEN],
         words=["", "own", "mouse screen focus"],
         layers=LAYERS,
     ),
@@ -151,28 +121,26 @@ ROWS = {
         layers=LAYERS,
     ),
     "SIGSTOP and a new size": Row(
-        [*STOP, (90, 30), signal.SIGWINCH, CONTINUE, "resized 30 90 0 0", *SIZE_BACK],
-        layers=["asyncio"],
+        [*STOP, (90, 30), SIGWINCH, CONTINUE, "resized 30 90 0 0", *SIZE_BACK], layers=["asyncio"]
     ),
     # Raw mode comes back at once.
     "SIGTSTP where no shell could continue it": Row(
-        [signal.SIGTSTP, *BACK, Program.check_open], how={"is_orphaned": True}, layers=LAYERS
+        [SIGTSTP, *BACK_AND_OPEN], how={"is_orphaned": True}, layers=LAYERS
     ),
     # A program in the background that sets the terminal is stopped.
     "SIGCONT in the background": Row(
-        [Program.stop, signal.SIGCONT, Terminal.wait_for_stop, Program.check_restored]
-        + [CONTINUE, *BACK, Program.check_open],
+        [Program.stop, SIGCONT, Terminal.wait_for_stop, Program.check_restored]
+        + [CONTINUE, *BACK_AND_OPEN],
         layers=LAYERS,
     ),
-    "a signal that is ignored": Row(
-        [signal.SIGTERM, signal.SIGHUP, *press("w")], before='trap "" TERM HUP'
-    ),
+    "a signal that is ignored": Row([SIGTERM, SIGHUP, *press("w")], before='trap "" TERM HUP'),
     "a lent terminal": Row(
-        [*lend(), *press("l"), "icanon", (75, 20), b"\n", "line ", "lent 0"]
+        [*press("l"), "icanon", Program.check_restored, b"hello\n", "line hello", "lent 0"]
+        + [*BACK_AND_OPEN, *press("l"), "icanon", (75, 20), b"\n", "line ", "lent 0"]
         + ["resumed", "resized 20 75 0 0", Program.check_open, *SIZE_BACK],
         words=["", "own", "device", "mouse screen"],
         command=SHOW_LINE,
-        how={"echoes": False},
+        how=NO_ECHO,
         layers=["bare"],
     ),
     # What came before is told, once the program knows that the terminal is back.
@@ -181,7 +149,7 @@ ROWS = {
             [b"l" + before, key("l"), "icanon", b"hello\n", "line hello", "lent 0", *BACK]
             + [*told, Program.check_open, after, last],
             command=SHOW_LINE,
-            how={"echoes": False},
+            how=NO_ECHO,
         )
         for name, before, told, after, last in [
             ("a beginning", b"\033[", [], b"A", key("A")),
@@ -194,57 +162,48 @@ ROWS = {
     },
     # They are for the child, and other signals do at once what they ask for.
     "SIGINT and SIGQUIT while it is lent": Row(
-        [*LEND_AND_WAIT, signal.SIGINT, signal.SIGQUIT, *TAKE_BACK],
-        command=WAIT_FOR_LINE,
-        how={"echoes": False},
+        [*LEND_AND_WAIT, SIGINT, SIGQUIT, *TAKE_BACK], command=WAIT_FOR_LINE, how=NO_ECHO
     ),
     "SIGTSTP while it is lent": Row(
-        [*LEND_AND_WAIT, signal.SIGTSTP, Terminal.wait_for_stop, CONTINUE, *TAKE_BACK],
+        [*LEND_AND_WAIT, SIGTSTP, Terminal.wait_for_stop, CONTINUE, *TAKE_BACK],
         command=WAIT_FOR_LINE,
-        how={"echoes": False},
+        how=NO_ECHO,
         only=HEARS_AT_ONCE,
     ),
-    "SIGTERM while it is lent": Row(
-        end=[*LEND_AND_WAIT, signal.SIGTERM],
-        status=-signal.SIGTERM,
-        command=WAIT_FOR_LINE,
-        only=HEARS_AT_ONCE,
+    "SIGTERM while it is lent": ended_by(
+        SIGTERM, LEND_AND_WAIT, command=WAIT_FOR_LINE, only=HEARS_AT_ONCE
     ),
     "a lent terminal whose settings are changed": Row(
-        [*press("l"), "erase = ^H", Program.check_restored, b"text\n", "got text", "lent 0", *BACK]
-        + [Program.check_open, b"\b", "key Backspace NONE"],
+        [*press("l"), "erase = ^H", Program.check_restored, b"text\n", "got text", "lent 0"]
+        + [*BACK_AND_OPEN, b"\b", "key Backspace NONE"],
         command="stty -a | grep -o 'erase = ^H'; read -r line; stty erase y; echo got $line",
         how={"erase": b"\b", "echoes": False},
     ),
     "a child that changes the settings": Row(
-        end=[*press("c"), "child 0", b"q\n", key("q")],
-        command="stty sane -echo erase x kill y",
+        end=[*press("c"), "child 0", b"q\n", key("q")], command="stty sane -echo erase x kill y"
     ),
     "descriptors of a child": Row(
         [*press("c"), "4", "child 0"], command="ls /proc/self/fd | wc -l"
     ),
-    "a second terminal": Row([*press("2"), "refused", Program.check_open, *press("w")]),
-    "a forked child": Row([*press("f"), "child 5", Program.check_open, *press("w")]),
+    "a second terminal": Row([*press("2"), "refused", *OPEN_AND_READ]),
+    "a forked child": Row([*press("f"), "child 5", *OPEN_AND_READ]),
     # They do to it what they do to any program, and its end leaves the terminal alone.
     **{
         f"a forked child and {number.name}": Row(
-            [*press("p"), Program.expect_forked, kill_child(signal.SIGTSTP)]
-            + [wait_for_state_of_child("T"), kill_child(signal.SIGCONT)]
+            [*FORK, kill_child(SIGTSTP), wait_for_state_of_child("T"), kill_child(SIGCONT)]
             + [wait_for_state_of_child("S"), kill_child(number), f"child -{number.value}"]
-            + [Program.check_open, *press("w")]
+            + OPEN_AND_READ
         )
-        for number in [signal.SIGTERM, signal.SIGHUP, signal.SIGABRT]
+        for number in (SIGTERM, SIGHUP, SIGABRT)
     },
     # Another program has set the terminal. The child doesn't set it again, and its parent does.
     "SIGCONT to a forked child": Row(
-        [*press("p"), Program.expect_forked, Program.set_as_before, kill_child(signal.SIGCONT)]
-        + [PAUSE, kill_child(signal.SIGTERM), "child -15", Program.check_settings]
-        + [signal.SIGCONT, *BACK, Program.check_open],
+        [*FORK, Program.set_as_before, kill_child(SIGCONT), PAUSE, kill_child(SIGTERM)]
+        + ["child -15", Program.check_settings, SIGCONT, *BACK_AND_OPEN],
         is_timed=True,
     ),
     "a forked child and SIGSEGV": Row(
-        [*press("p"), Program.expect_forked, kill_child(signal.SIGSEGV), "child -11"]
-        + [Program.check_open, *press("w")],
+        [*FORK, kill_child(SIGSEGV), "child -11", *OPEN_AND_READ],
         only=dict.fromkeys(
             ["c", "python"], "in Rust a handler of std's takes the first for its own"
         ),
@@ -256,8 +215,8 @@ ROWS = {
     "an opening that fails": Row([*press("w"), Program.check_open], words=["retry"]),
     # What switches modes is written whole.
     "SIGTSTP while the output is stopped": Row(
-        [*press("w"), Terminal.stop_output, signal.SIGTSTP, PAUSE, start_output]
-        + [Terminal.wait_for_stop, Program.check_restored, CONTINUE, *BACK, Program.check_open],
+        [*press("w"), Terminal.stop_output, SIGTSTP, PAUSE, start_output]
+        + [Terminal.wait_for_stop, Program.check_restored, CONTINUE, *BACK_AND_OPEN],
         how={"blocks": False},
     ),
     "bytes and a signal while it is busy": Row(

@@ -110,7 +110,6 @@ FACTS = r"<!-- facts: (?P<name>\w+)(?: in (?P<file>\S+))? -->$"
 CRATES = {
     "tokio": {"version": "1.24", "parts": '"macros", "rt"'},
     "mio": {"version": "0.8", "parts": '"os-poll"'},
-    "crossterm": {"version": "0.25", "parts": ""},
 }
 WITH = f"""hedrugal = {{{{ path = "{TOP}/rust/with", features = ["{{feature}}"] }}}}
 {{feature}} = {{{{ version = "{{version}}", features = [{{parts}}] }}}}"""

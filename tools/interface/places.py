@@ -16,9 +16,6 @@ from header import Interface, Part, camel, files_of, named, read
 from python import CONSTANTS
 from rust import CARRIED, OF_RUST
 
-# The types of flags in Rust's tests.
-FLAG_TYPES = {"termwiz_mod": "Modifiers", "button": "MouseButtons"}
-
 # A number in each form.
 FORMS = {
     "table": '{{ {it.name}, "{name}", {prefix} }},',
@@ -27,8 +24,8 @@ FORMS = {
     "raw": "/// {it.comment}\n{camel} = raw::{group}_{name},",
     "number": "KeyCode::{camel}{any_carried} => {it.value},",
     "of": "{it.value} => KeyCode::{camel}{made},",
-    "named": '("{name}", {flag_type}::{name}),',
-    "plain": "KeyCode::{camel},",
+    "named": "{name}",
+    "plain": "{camel}",
     "member": '{name} = numbered({it.value}, "{it.comment}")',
     "last": "LAST_{group} = {it.name},",
 }
@@ -45,7 +42,6 @@ def lines_of(form: str, group: str, name: str, it: Part) -> str:
         camel=camel(name),
         group=group.upper(),
         prefix="NULL" if group == "button" else f'"{camel(name)}-"',
-        flag_type=FLAG_TYPES.get(group),
         carried=carried,
         any_carried=carried and "(_)",
         made=made,
@@ -107,7 +103,7 @@ def places_of(groups: Iterable[str]) -> Iterator[str]:
     yield from (*WHOLE, "key variant", "key number", "key of", "key plain", "mouse raw")
     yield from ("button table", "kitty_mod table", "key mouse button last")
     yield from (f"{group} flag" for group in OF_RUST if group != "key")
-    yield from (f"{group} named" for group in FLAG_TYPES)
+    yield from ("termwiz_mod named", "button named")
     yield from (f"{it} member" for it in groups if it == "key" or it not in CONSTANTS)
 
 
@@ -120,8 +116,10 @@ def pages(interface: Interface) -> Dict[str, str]:
             yield from WHOLE[f"{groups} {form}"](interface)
             return
         for group in groups.split():
-            texts = [lines_of(form, group, *it) for it in named(enums[group])]
-            yield from texts[-1:] if form == "last" else filter(None, texts)
+            texts = [*filter(None, (lines_of(form, group, *it) for it in named(enums[group])))]
+            if form in ("plain", "named"):
+                texts = textwrap.wrap(" ".join(texts), 96)
+            yield from texts[-1:] if form == "last" else texts
 
     def written(place: re.Match[str]) -> str:
         text = "\n".join(lines(place["groups"], place["form"])) + "\n"

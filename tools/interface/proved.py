@@ -101,6 +101,7 @@ SAME = [
     ("HED_VERSION", "rust/Cargo.toml", rf'^version = "{VERSION}"$'),
     ("HED_VERSION", "rust/Cargo.lock", rf'^name = "hedrugal"\nversion = "{VERSION}"$'),
     ("HED_VERSION", "rust/with/Cargo.toml", rf'^version = "{VERSION}"$'),
+    ("HED_VERSION", "rust/crossterm/Cargo.toml", rf'^version = "{VERSION}"$'),
     ("HED_VERSION", "python/hedrugal/*.py", rf'^__version__ = "{VERSION}"$'),
     ("HED_VERSION", "README.md", rf"^Version {VERSION};"),
     ("HED_VERSION_MAJOR", "crates/hedrugal/src/lib.rt", r"VERSION_MAJOR: u32 = (?P<it>\d+);$"),

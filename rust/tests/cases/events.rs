@@ -103,10 +103,8 @@ pub fn check() -> impl FnMut(&str) {
                 let told = told(&mut parser, &events);
                 assert_eq!(told, wanted, "to {place} in pieces of {size}");
                 let questions = parser.reading().questions;
-                assert_eq!(
-                    parser.reading(),
-                    left.unwrap_or(Reading { questions, ..by })
-                );
+                let left = left.unwrap_or(Reading { questions, ..by });
+                assert_eq!(parser.reading(), left);
             }
         }
         models.check(by, &[(bytes.clone(), true), (Vec::new(), false)]);

@@ -88,10 +88,8 @@ pub fn check_name(line: &str) {
         }
         (Err(error), _) => {
             assert_eq!(format!("NAME_{} {}", status(error.kind), error.at), wanted);
-            assert_eq!(
-                text.parse::<KeyPress>().expect_err("a refusal").at,
-                error.at
-            );
+            let refusal = text.parse::<KeyPress>().expect_err("a refusal");
+            assert_eq!(refusal.at, error.at);
         }
         _ => unreachable!(),
     }

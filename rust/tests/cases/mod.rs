@@ -3,6 +3,7 @@ mod events;
 mod keys;
 mod runs;
 mod sent;
+mod timers;
 
 use crate::bindings::check_commands;
 use crate::lines::unquoted;
@@ -122,6 +123,7 @@ macro_rules! files {
 files! {
     events: events::check(),
     runs: runs::check(),
+    timers: timers::check,
     presses: keys::check_press(),
     names: keys::check_name,
     bindings: check_commands,

@@ -117,6 +117,16 @@ fn made(parser: &mut Parser, from: u64, way: Way, Step(words, told): &Step) -> S
         }
         (["reset"], Some(_)) => return parser.reset().to_string(),
         (["policy", limits @ ..], None) => limits.iter().for_each(|it| set_limit(parser, it)),
+        (["expect", count], None) => {
+            let count: usize = count.parse().expect("a count");
+            (0..count).for_each(|_| parser.expect_position());
+        }
+        (["forget"], None) => parser.forget_positions(),
+        (["set", by], None) => parser.set_reading(reading(by)),
+        (["reading"], Some(by)) => {
+            assert_eq!(parser.reading(), reading(by));
+            return by.to_string();
+        }
         _ => panic!("{words:?} is no step"),
     }
     if busy {

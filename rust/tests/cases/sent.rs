@@ -2,13 +2,13 @@
 use super::{reading, reading_and_text, sides, status};
 use crate::calls::{parser_by, read_one, Calls};
 use crate::lines::{lines, quoted, unquoted};
-use crate::plain::replies::{reply, words};
+use crate::plain::replies::{reply, snake, words};
 use crate::plain::sending;
 use crate::port::lines::modifiers_named;
 use crate::port::names::MODIFIERS;
 use crate::written::{is_written, refuses};
 use hedrugal::input::{InputEvent, InputParser};
-use hedrugal::{encode_paste, Dialect, Event, Parser, SentMouse};
+use hedrugal::{encode_paste, Event, SentMouse};
 
 // `READING "BYTES" = "WRITTEN"` or `.. = STATUS`. What is written is read as the event.
 pub fn check_written(line: &str) {
@@ -38,13 +38,12 @@ pub fn is_one_paste(text: &[u8], safe: &[u8]) {
     let sent = encode_paste(text, true);
     assert_eq!(sent, format!("\x1b[200~{safe}\x1b[201~"));
     assert_eq!(encode_paste(text, false), safe);
-    let (mut port, mut parser) = (InputParser::new(), Parser::new(Dialect::Extended));
+    let mut port = InputParser::new();
     let events = port.parse_as_vec(sent.as_bytes(), true);
     assert_eq!(events, [InputEvent::Paste(safe.to_string())]);
-    let events = parser.read(sent.as_bytes(), true);
-    assert_eq!(events, [Event::Paste(safe.to_string())]);
-    let waiting = (port.parser().waiting_len(), parser.waiting_len());
-    assert_eq!(waiting, (0, 0));
+    assert_eq!(port.parser().waiting_len(), 0);
+    let event = read_one(sent.as_bytes(), reading("extended"), true);
+    assert_eq!(event, Event::Paste(safe.to_string()));
 }
 
 // `TRACKING ENCODING BUTTON X Y MODIFIERS = "BYTES" = EVENTS` or `.. = STATUS`.
@@ -75,15 +74,15 @@ pub fn check_mouse(line: &str) {
         Err(error) => status(error),
     };
     assert_eq!(told, wanted);
-    assert_eq!(
-        report.try_encode(tracking, encoding),
-        sending::mouse(report, tracking, encoding)
-    );
+    let plain = sending::mouse(report, tracking, encoding);
+    assert_eq!(report.try_encode(tracking, encoding), plain);
 }
 
-// What has this name.
+// What has this name, in the capitals of the C header.
 fn named<T: Copy>(table: &[(&str, T)], name: &str) -> T {
-    let row = table.iter().find(|(it, _)| *it == name);
+    let row = table
+        .iter()
+        .find(|(it, _)| snake(it).to_uppercase() == name);
     row.unwrap_or_else(|| panic!("{name} is no name")).1
 }
 

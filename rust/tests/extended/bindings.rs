@@ -86,11 +86,9 @@ fn values_are_of_any_type() {
 #[test]
 fn a_chord_without_keys_is_refused() {
     let mut bindings = numbered("a, b");
-    let kind = BindErrorKind::Empty;
-    assert_eq!(
-        bindings.try_bind(&Chord::new(), 3),
-        Err(BindError { kind, value: 3 })
-    );
+    let (kind, value) = (BindErrorKind::Empty, 3);
+    let bound = bindings.try_bind(&Chord::new(), value);
+    assert_eq!(bound, Err(BindError { kind, value }));
     assert_eq!(format!("{bindings:?}"), r#"{"a": 1, "b": 2}"#);
     assert_eq!(bindings.lookup(&Chord::new()), None);
     assert_eq!(bindings.unbind(&Chord::new()), None);
@@ -163,9 +161,8 @@ fn drawn_chords_are_as_the_slow_matcher_says() {
         assert!(bindings.iter().eq(entries()), "{bindings:?} {map:?}");
         assert!(bindings.iter().rev().eq(entries().rev()));
         assert_eq!(bindings.len(), map.len());
-        let chords: Chords = entries()
-            .map(|(it, value)| (it.iter().collect(), *value))
-            .collect();
+        let chords = entries().map(|(it, value)| (it.iter().collect(), *value));
+        let chords: Chords = chords.collect();
         compare(&mut draws, &bindings, &chords);
     }
 }
@@ -182,24 +179,16 @@ fn compare(draws: &mut Draws, bindings: &Bindings<usize>, chords: &Chords) {
             assert!(matcher.press(first));
         }
         pending.push(press);
-        let told: Vec<_> = chords
-            .iter()
-            .filter(|(it, _)| it.starts_with(&pending))
-            .collect();
+        let begins = |it: &[KeyPress]| it.starts_with(&pending) && *it != pending;
         let longer = bindings.continuations(&chord(&pending)).count();
         assert_eq!(longer > 0, is_continued(chords, &pending));
-        assert_eq!(longer, told.iter().filter(|(it, _)| *it != pending).count());
+        assert_eq!(longer, chords.iter().filter(|(it, _)| begins(it)).count());
         assert_eq!(matcher.is_dead_end(bindings), is_dead_end(chords, &pending));
         let more = draws.below(5) > 0;
+        let (first, _) = read(chords, &pending, false);
+        assert_eq!(matcher.on_pause(bindings), first.first().map(lent));
         let (wanted, left) = read(chords, &pending, more);
-        assert_eq!(
-            matcher.on_pause(bindings),
-            first_of(chords, &pending).as_ref().map(lent)
-        );
-        let mut outcomes = Vec::new();
-        while let Some(outcome) = matcher.next(bindings, more) {
-            outcomes.push(outcome);
-        }
+        let outcomes: Vec<_> = iter::from_fn(|| matcher.next(bindings, more)).collect();
         assert_eq!(outcomes, wanted.iter().map(lent).collect::<Vec<_>>());
         assert_eq!(matcher.pending(), chord(&left));
         pending = left;
@@ -208,11 +197,6 @@ fn compare(draws: &mut Draws, bindings: &Bindings<usize>, chords: &Chords) {
     let given: Vec<_> = matcher.give_up(bindings).collect();
     let (wanted, _) = read(chords, &pending, false);
     assert_eq!(given, wanted.iter().map(lent).collect::<Vec<_>>());
-}
-
-// The first outcome of giving up.
-fn first_of(chords: &Chords, pending: &[KeyPress]) -> Option<Outcome<usize>> {
-    read(chords, pending, false).0.first().copied()
 }
 
 fn lent(outcome: &Outcome<usize>) -> Outcome<&usize> {

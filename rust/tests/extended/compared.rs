@@ -3,11 +3,9 @@ use crate::calls::{Calls, BOTH, LAST, MORE};
 use crate::draws::Draws;
 use crate::generated::any_text;
 use crate::plain::PlainReader;
+use crate::port::plain::END;
 use crate::presses::check_presses;
 use hedrugal::{Dialect, EraseByte, Event, NewlineByte, Parser, Reading};
-
-// The end of a paste.
-const END: &[u8] = b"\x1b[201~";
 
 // The parser, the plain reader, how both read first, and what the reader has buffered.
 pub struct Comparison {
@@ -73,9 +71,8 @@ impl Comparison {
         self.begin();
         let mut has_extra = false;
         for (bytes, more) in calls {
-            has_extra |= self
-                .reader
-                .has_extra(&[&self.waiting, &bytes[..]].concat(), *more);
+            let text = [&self.waiting, &bytes[..]].concat();
+            has_extra |= self.reader.has_extra(&text, *more);
             self.check_call(bytes, *more);
         }
         has_extra
@@ -91,14 +88,10 @@ impl Comparison {
         let text = [&self.waiting, bytes].concat();
         let (events, rest) = self.reader.read(&text, more);
         let parsed = self.parser.read(bytes, more);
-        assert_eq!(parsed, events, "{}, {more}", text.escape_ascii());
+        let shown = text.escape_ascii();
+        assert_eq!(parsed, events, "{shown}, {more}");
         parsed.iter().filter_map(Event::key).for_each(check_presses);
-        assert_eq!(
-            self.parser.waiting_len(),
-            rest.len(),
-            "{}, {more}",
-            text.escape_ascii()
-        );
+        assert_eq!(self.parser.waiting_len(), rest.len(), "{shown}, {more}");
         assert_eq!(self.parser.reading(), self.reader.reading());
         self.waiting = rest;
     }
@@ -214,22 +207,10 @@ fn reads_keys_as_the_plain_reader() {
             }
         }
         for letter in '@'..='~' {
-            for start in [
-                "\x1b[",
-                "\x1b[1;2",
-                "\x1b[1;1:3",
-                "\x1b[[",
-                "\x1bO",
-                "\x1bO2",
-                "\x1bO0;8",
-                "\x1b\x1bO",
-                "\x1b\x1bO5",
-                "\x1bO1;8",
-                "\x1b[2",
-                "\x1b\x1b[8",
-                "\x1b[;6",
-            ] {
-                comparison.check_text(format!("{start}{letter}").as_bytes(), start.len());
+            let starts = "[ [1;2 [1;1:3 [[ O O2 O0;8 \x1bO \x1bO5 O1;8 [2 \x1b[8 [;6";
+            for start in starts.split(' ') {
+                let text = format!("\x1b{start}{letter}");
+                comparison.check_text(text.as_bytes(), text.len() - 1);
             }
         }
     }

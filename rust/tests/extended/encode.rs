@@ -1,8 +1,10 @@
 // Key reports to bytes, and back.
 use crate::calls::Calls;
 use crate::plain::keys::functional_key;
-use crate::plain::pressed;
 use crate::plain::presses::main_key;
+use crate::plain::{pressed, ALT, CTRL, NONE, SHIFT};
+use crate::port::names::keys;
+use crate::presses::functional;
 use hedrugal::input::{KeyCode, KittyKeyboardFlags as Flags};
 use hedrugal::{
     Dialect, Event, KeyEventKind, KeyReport, KittyEncodeError, KittyModifiers, Parser, ReportedKey,
@@ -14,21 +16,11 @@ const KINDS: [KeyEventKind; 3] = [
     KeyEventKind::Release,
 ];
 
-const NONE: KittyModifiers = KittyModifiers::NONE;
-
-const SHIFT: KittyModifiers = KittyModifiers::SHIFT;
-
-const ALT: KittyModifiers = KittyModifiers::ALT;
-
-const CTRL: KittyModifiers = KittyModifiers::CTRL;
-
 const SUPER: KittyModifiers = KittyModifiers::SUPER;
 
 const CAPS_LOCK: KittyModifiers = KittyModifiers::CAPS_LOCK;
 
 const NUM_LOCK: KittyModifiers = KittyModifiers::NUM_LOCK;
-
-const CTRL_AND_NUM_LOCK: KittyModifiers = CTRL.union(NUM_LOCK);
 
 const DISAMBIGUATE: Flags = Flags::DISAMBIGUATE_ESCAPE_CODES;
 
@@ -58,35 +50,17 @@ fn shift_a(text: &str) -> KeyReport {
     }
 }
 
-// The same, where nothing is known of the standard layout.
-fn shift_a_alone(text: &str) -> KeyReport {
-    KeyReport {
-        base: None,
-        ..shift_a(text)
-    }
-}
-
 fn check(report: &KeyReport, flags: Flags, wanted: &str) {
     for sent in [report.encode(flags), report.try_encode(flags)] {
         assert_eq!(sent.as_deref(), Ok(wanted), "{report:?} {flags}");
     }
 }
 
-fn functional(number: u32, modifiers: KittyModifiers) -> KeyReport {
-    pressed(ReportedKey::Functional(number), modifiers)
-}
-
 // Locks, repeats and the flag for releases change nothing of what the keys of C0 controls send.
 #[test]
 fn legacy_keys() {
-    let keys = [
-        KeyCode::Enter,
-        KeyCode::Escape,
-        KeyCode::Backspace,
-        KeyCode::Tab,
-        KeyCode::Char(' '),
-    ];
-    for key in keys {
+    let named = keys![Enter Escape Backspace Tab];
+    for key in named.into_iter().chain([KeyCode::Char(' ')]) {
         for bits in 0..7 {
             let modifiers = KittyModifiers::from_bits_retain(bits);
             let text = press(key, modifiers).encode(Flags::NONE).unwrap();
@@ -99,11 +73,8 @@ fn legacy_keys() {
         }
     }
     // These are no keys that are read.
-    check(
-        &press(KeyCode::Char('\u{1b}'), NONE),
-        Flags::NONE,
-        "\x1b[27u",
-    );
+    let escape = press(KeyCode::Char('\u{1b}'), NONE);
+    check(&escape, Flags::NONE, "\x1b[27u");
     check(&functional(57363, NONE), Flags::NONE, "\x1b[29~");
 }
 
@@ -113,17 +84,14 @@ fn legacy_keys() {
 fn keypad() {
     for number in 57399..=57427 {
         let numbered = ReportedKey::Functional(number);
-        for modifiers in [NONE, CTRL, SHIFT | ALT, SUPER, NUM_LOCK, CTRL_AND_NUM_LOCK] {
+        for modifiers in [NONE, CTRL, SHIFT | ALT, SUPER, NUM_LOCK, CTRL | NUM_LOCK] {
             for kind in KINDS {
                 let of = |key| KeyReport {
                     kind,
                     ..pressed(key, modifiers)
                 };
-                for flags in [
-                    Flags::NONE,
-                    EVENT_TYPES,
-                    EVENT_TYPES | Flags::REPORT_ALTERNATE_KEYS,
-                ] {
+                let more = EVENT_TYPES | Flags::REPORT_ALTERNATE_KEYS;
+                for flags in [Flags::NONE, EVENT_TYPES, more] {
                     let wanted = of(main_key(numbered)).encode(flags).unwrap();
                     check(&of(functional_key(number)), flags, &wanted);
                     check(&of(numbered), flags, &wanted);
@@ -146,11 +114,8 @@ fn unnamed_flags() {
     for place in 5..16 {
         for flags in [Flags::NONE, DISAMBIGUATE, Flags::all()] {
             let sent = escape.encode(flags | Flags::from_bits_retain(1 << place));
-            assert_eq!(
-                sent,
-                Err(KittyEncodeError::UnnamedBits),
-                "{flags} and bit {place}"
-            );
+            let refusal = Err(KittyEncodeError::UnnamedBits);
+            assert_eq!(sent, refusal, "{flags} and bit {place}");
         }
     }
 }
@@ -173,11 +138,8 @@ fn keys_without_bytes() {
     ] {
         for flags in flags {
             for sent in [report.encode(*flags), report.try_encode(*flags)] {
-                assert_eq!(
-                    sent,
-                    Err(KittyEncodeError::UnknownKey),
-                    "{report:?} {flags}"
-                );
+                let refusal = Err(KittyEncodeError::UnknownKey);
+                assert_eq!(sent, refusal, "{report:?} {flags}");
             }
         }
     }
@@ -189,58 +151,41 @@ fn long_texts() {
         let text = "x".repeat(len);
         check(&shift_a(&text), Flags::NONE, &text);
         let sent = shift_a(&text).encode(Flags::all());
-        if len == 50 {
-            assert_eq!(
-                sent.unwrap().len(),
-                "\x1b[97:65:98;2;u".len() + "120:".len() * 50 - 1
-            );
-        } else {
-            assert_eq!(sent, Err(KittyEncodeError::TooLong));
-        }
+        let wanted = match len {
+            50 => Ok("\x1b[97:65:98;2;u".len() + "120:".len() * 50 - 1),
+            _ => Err(KittyEncodeError::TooLong),
+        };
+        assert_eq!(sent.map(|it| it.len()), wanted);
     }
-}
-
-#[test]
-fn texts_of_a_key_alone() {
-    let sent = |len| shift_a_alone(&"A".repeat(len)).encode(Flags::all());
-    assert_eq!(sent(60).map(|text| text.len()), Ok(190));
-    assert_eq!(sent(200), Err(KittyEncodeError::TooLong));
+    // Nothing is known of the standard layout.
+    for (len, wanted) in [(60, Ok(190)), (200, Err(KittyEncodeError::TooLong))] {
+        let mut alone = shift_a(&"A".repeat(len));
+        alone.base = None;
+        assert_eq!(alone.encode(Flags::all()).map(|it| it.len()), wanted);
+    }
 }
 
 #[test]
 fn read_back() {
     let mut parser = Parser::new(Dialect::Extended);
-    let keys = [
-        KeyCode::Char('a'),
-        KeyCode::Char('\u{10ffff}'),
-        KeyCode::Escape,
-        KeyCode::Tab,
-        KeyCode::UpArrow,
-        KeyCode::Delete,
-        KeyCode::Function(1),
-        KeyCode::Function(3),
-        KeyCode::Function(35),
-        KeyCode::Numpad0,
-        KeyCode::RightAlt,
-        KeyCode::KeyPadBegin,
-    ];
+    let named = keys![Escape Tab UpArrow Delete Numpad0 RightAlt KeyPadBegin];
+    let others = [1, 3, 35].map(KeyCode::Function).into_iter();
+    let others = others.chain(['a', '\u{10ffff}'].map(KeyCode::Char));
+    let keys: Vec<KeyCode> = named.into_iter().chain(others).collect();
     let mut read = |report: KeyReport| {
         let sent = report.encode(Flags::all()).unwrap();
-        assert_eq!(
-            parser.read(sent.as_bytes(), true),
-            [Event::Key(report)],
-            "{}",
-            sent.escape_debug()
-        );
+        let events = parser.read(sent.as_bytes(), true);
+        assert_eq!(events, [Event::Key(report)], "{sent:?}");
     };
     for bits in 0..=255 {
         for kind in KINDS {
-            for key in keys {
-                read(report(key, KittyModifiers::from_bits_retain(bits), kind));
+            let modifiers = KittyModifiers::from_bits_retain(bits);
+            for &key in &keys {
+                read(report(key, modifiers, kind));
             }
             read(KeyReport {
-                key: ReportedKey::Functional(57428),
-                ..report(KeyCode::Enter, KittyModifiers::from_bits_retain(bits), kind)
+                kind,
+                ..functional(57428, modifiers)
             });
         }
     }
@@ -263,30 +208,15 @@ fn legacy_read_back() {
     };
     for bits in 0..64 {
         let modifiers = KittyModifiers::from_bits_retain(bits);
-        for key in [
-            KeyCode::UpArrow,
-            KeyCode::Home,
-            KeyCode::Delete,
-            KeyCode::PageUp,
-            KeyCode::PrintScreen,
-            KeyCode::KeyPadBegin,
-        ] {
+        for key in keys![UpArrow Home Delete PageUp PrintScreen KeyPadBegin] {
             read(&press(key, modifiers), key, modifiers);
         }
-        for number in 1..=35 {
-            read(
-                &press(KeyCode::Function(number), modifiers | NUM_LOCK),
-                KeyCode::Function(number),
-                modifiers,
-            );
+        for key in (1..=35).map(KeyCode::Function) {
+            read(&press(key, modifiers | NUM_LOCK), key, modifiers);
         }
         if bits & 0x3f > 7 {
-            for key in [
-                KeyCode::Char('q'),
-                KeyCode::Enter,
-                KeyCode::Escape,
-                KeyCode::Tab,
-            ] {
+            let named = keys![Enter Escape Tab];
+            for key in named.into_iter().chain([KeyCode::Char('q')]) {
                 read(&press(key, modifiers), key, modifiers);
             }
         }
@@ -294,23 +224,16 @@ fn legacy_read_back() {
     }
     for c in (' '..='@').chain('['..='~') {
         read(&press(KeyCode::Char(c), ALT), KeyCode::Char(c), ALT);
-        let shifted = KeyReport {
-            shifted: Some('Ω'),
-            ..press(KeyCode::Char(c), ALT | SHIFT)
-        };
-        read(
-            &shifted,
-            KeyCode::Char(if c == ' ' { ' ' } else { 'Ω' }),
-            ALT,
-        );
+        let mut shifted = press(KeyCode::Char(c), ALT | SHIFT);
+        shifted.shifted = Some('Ω');
+        let told = if c == ' ' { ' ' } else { 'Ω' };
+        read(&shifted, KeyCode::Char(told), ALT);
     }
     for c in ('a'..='z').filter(|c| !"hijm".contains(*c)) {
-        read(&press(KeyCode::Char(c), CTRL), KeyCode::Char(c), CTRL);
-        read(
-            &press(KeyCode::Char(c), CTRL | ALT),
-            KeyCode::Char(c),
-            CTRL | ALT,
-        );
+        for modifiers in [CTRL, CTRL | ALT] {
+            let key = KeyCode::Char(c);
+            read(&press(key, modifiers), key, modifiers);
+        }
     }
     for (key, modifiers) in [
         (KeyCode::Escape, NONE),
@@ -323,30 +246,22 @@ fn legacy_read_back() {
     ] {
         read(&press(key, modifiers), key, modifiers);
     }
-    read(
-        &press(KeyCode::Applications, SHIFT),
-        KeyCode::Function(16),
-        SHIFT,
-    );
+    let menu = press(KeyCode::Applications, SHIFT);
+    read(&menu, KeyCode::Function(16), SHIFT);
     read(&press(KeyCode::Char('i'), CTRL), KeyCode::Tab, NONE);
 }
 
 #[test]
 fn errors_as_texts() {
-    let texts = [
-        KittyEncodeError::UnknownKey,
-        KittyEncodeError::TooLong,
-        KittyEncodeError::UnnamedBits,
-        KittyEncodeError::Memory,
-    ]
-    .map(|error| error.to_string());
-    assert_eq!(
-        texts,
-        [
+    for (error, text) in [
+        (
+            KittyEncodeError::UnknownKey,
             "the protocol has no number for the key",
-            "the text of the key is too long",
-            "a bit has no name",
-            "out of memory"
-        ]
-    );
+        ),
+        (KittyEncodeError::TooLong, "the text of the key is too long"),
+        (KittyEncodeError::UnnamedBits, "a bit has no name"),
+        (KittyEncodeError::Memory, "out of memory"),
+    ] {
+        assert_eq!(error.to_string(), text);
+    }
 }

@@ -60,13 +60,9 @@ fn reads_2000_texts_however_cut() {
 // A parser whose buffer is empty reads the text as the port does.
 fn check_port(parser: &mut Parser, text: &[u8], more: bool) {
     let mut port = InputParser::new();
-    let wanted: Vec<_> = port
-        .parse_as_vec(text, more)
-        .into_iter()
-        .map(Some)
-        .collect();
-    let events: Vec<_> = parser.read(text, more).iter().map(port_of).collect();
-    assert_eq!(events, wanted, "{}", text.escape_ascii());
+    let wanted = port.parse_as_vec(text, more);
+    let events: Option<Vec<_>> = parser.read(text, more).iter().map(port_of).collect();
+    assert_eq!(events, Some(wanted), "{}", text.escape_ascii());
     let port = port.parser();
     let waiting = (port.waiting_len(), port.waiting());
     assert_eq!((parser.waiting_len(), parser.waiting()), waiting);

@@ -2,6 +2,7 @@
 // is what kitty sent for it with all flags. So it shows which key that was, what it types with
 // Shift, and its text.
 use crate::calls::Calls;
+use crate::port::names::keys;
 use hedrugal::input::{KeyCode, KittyKeyboardFlags as Flags};
 use hedrugal::{Dialect, Event, KeyEventKind, KeyReport, KittyModifiers, Parser, ReportedKey};
 
@@ -55,7 +56,7 @@ const DIFFERENCES: &[Difference] = &[
         "kitty 0.26.5 sends releases of Enter, Tab and Backspace: by the page that wants REPORT_ALL_KEYS_AS_ESCAPE_CODES",
         30,
         |sent| {
-            let named = [KeyCode::Enter, KeyCode::Tab, KeyCode::Backspace].map(ReportedKey::Named);
+            let named = keys![Enter Tab Backspace].map(ReportedKey::Named);
             sent.report.kind == KeyEventKind::Release && sent.flags == EVENT_TYPES && named.contains(&sent.report.key)
         },
     ),
@@ -76,12 +77,7 @@ fn is_legacy(sent: &Sent) -> bool {
 
 // Enter, Tab, Backspace, Escape, and Enter of the keypad.
 fn sends_control(report: &KeyReport) -> bool {
-    let named = [
-        KeyCode::Enter,
-        KeyCode::Tab,
-        KeyCode::Backspace,
-        KeyCode::Escape,
-    ];
+    let named = keys![Enter Tab Backspace Escape];
     report.key == ReportedKey::Functional(57414)
         || named.map(ReportedKey::Named).contains(&report.key)
 }
@@ -97,10 +93,7 @@ fn shows_other(report: &KeyReport) -> bool {
 }
 
 fn is_other_digit(report: &KeyReport) -> bool {
-    use KeyCode::{Numpad1, Numpad2, Numpad3, Numpad4, Numpad5, Numpad6, Numpad7, Numpad8};
-    let digits = [
-        Numpad1, Numpad2, Numpad3, Numpad4, Numpad5, Numpad6, Numpad7, Numpad8,
-    ];
+    let digits = keys![Numpad1 Numpad2 Numpad3 Numpad4 Numpad5 Numpad6 Numpad7 Numpad8];
     digits.map(ReportedKey::Named).contains(&report.key)
 }
 
@@ -110,11 +103,8 @@ fn unescaped(column: &str) -> String {
     let mut rest = column;
     while let Some((before, escaped)) = rest.split_once('\\') {
         text.push_str(before);
-        let len = if escaped.starts_with(['e', '\\']) {
-            1
-        } else {
-            3
-        };
+        let is_letter = escaped.starts_with(['e', '\\']);
+        let len = if is_letter { 1 } else { 3 };
         text.push(match &escaped[..len] {
             "e" => '\x1b',
             "\\" => '\\',
@@ -145,50 +135,27 @@ fn sent_of(line: &'static str) -> Vec<Sent> {
     for flags in [Flags::NONE, DISAMBIGUATE] {
         assert_eq!(release.encode(flags).as_deref(), Ok(""), "{line}");
     }
-    let reports = COLUMNS.map(|(flags, is_press)| {
-        (
-            flags,
-            if is_press {
-                press.clone()
-            } else {
-                release.clone()
-            },
-        )
+    let columns = COLUMNS.into_iter().zip(texts);
+    let sent = columns.map(|((flags, is_press), text)| Sent {
+        name,
+        report: if is_press { &press } else { &release }.clone(),
+        flags,
+        text,
     });
-    reports
-        .into_iter()
-        .zip(texts)
-        .map(|((flags, report), text)| Sent {
-            name,
-            report,
-            flags,
-            text,
-        })
-        .collect()
+    sent.collect()
 }
 
 #[test]
 fn as_kitty_but_for_these() {
     let mut count = 0;
     let mut found = [0; DIFFERENCES.len()];
-    for sent in RECORDED
-        .lines()
-        .filter(|line| !line.starts_with('#'))
-        .flat_map(sent_of)
-    {
+    let lines = RECORDED.lines().filter(|line| !line.starts_with('#'));
+    for sent in lines.flat_map(sent_of) {
         count += 1;
         let is_same = sent.report.encode(sent.flags).as_deref() == Ok(&sent.text);
-        let listed = DIFFERENCES
-            .iter()
-            .position(|difference| difference.2(&sent));
-        assert_eq!(
-            is_same,
-            listed.is_none(),
-            "{} {:?} {}",
-            sent.name,
-            sent.report,
-            sent.flags
-        );
+        let listed = DIFFERENCES.iter().position(|it| it.2(&sent));
+        let case = format!("{} {:?} {}", sent.name, sent.report, sent.flags);
+        assert_eq!(is_same, listed.is_none(), "{case}");
         if let Some(number) = listed {
             found[number] += 1;
         }

@@ -8,10 +8,8 @@ use hedrugal::{encode_paste, Dialect, Event, Parser, Waiting};
 fn check(text: &[u8], wanted: &Event) {
     let mut parser = Parser::new(Dialect::Extended);
     for call in 0..CALLS {
-        assert!(
-            parsed(call, &mut parser, text, true) == [wanted.clone()],
-            "call {call}"
-        );
+        let events = parsed(call, &mut parser, text, true);
+        assert!(events == [wanted.clone()], "call {call}");
         let mut events = Vec::new();
         for bytes in text.chunks(4096) {
             events.extend(parsed(call, &mut parser, bytes, true));
@@ -40,10 +38,8 @@ fn a_paste_of_2_mb_at_once() {
 fn a_command_of_60000_bytes() {
     let text = b"52;c;".repeat(12000);
     for end in [&b"\x1b\\"[..], b"\x07"] {
-        check(
-            &[b"\x1b]", &text[..], end].concat(),
-            &Event::Osc(text.clone()),
-        );
+        let sent = [b"\x1b]", &text[..], end].concat();
+        check(&sent, &Event::Osc(text.clone()));
     }
 }
 

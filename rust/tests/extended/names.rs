@@ -20,10 +20,8 @@ fn chords_have_32_keys_at_most() {
     assert!(!full.push("x".parse().unwrap()));
     assert_eq!(full, chord);
     // A press is one key.
-    assert_eq!(
-        " g \tx y".parse::<KeyPress>(),
-        Err(KeyNameError { kind, at: 4 })
-    );
+    let two = " g \tx y".parse::<KeyPress>();
+    assert_eq!(two, Err(KeyNameError { kind, at: 4 }));
     assert_eq!("\té ".parse::<KeyPress>().unwrap().text(), Some('é'));
 }
 
@@ -40,46 +38,31 @@ fn chords_are_lists() {
     assert_eq!(chord, "ctrl+x 5 kitty57428".parse().unwrap());
     assert_eq!(chord.get(1), Some(presses[1]));
     assert_eq!((chord.len(), chord.get(3)), (3, None));
-    assert!(
-        chord.into_iter().eq(presses) && (&chord).into_iter().rev().eq(presses.into_iter().rev())
-    );
+    assert!(chord.into_iter().eq(presses));
+    assert!((&chord).into_iter().rev().eq(presses.into_iter().rev()));
     assert_eq!(chord.iter().len(), 3);
     assert_eq!(format!("{chord:?}"), format!("{presses:?}"));
-    assert_eq!(
-        format!("{chord:>22}|{:4}|", presses[1]),
-        "   ctrl+x 5 kitty57428|5   |"
-    );
+    let aligned = format!("{chord:>22}|{:4}|", presses[1]);
+    assert_eq!(aligned, "   ctrl+x 5 kitty57428|5   |");
     assert_eq!(Chord::from(presses[0]), "C-x".parse().unwrap());
     // In order, a chord is before those that begin with it.
-    let sorted = [
-        "kitty57428",
-        "5",
-        "5 5",
-        "5 x",
-        "x",
-        "ctrl+x",
-        "ctrl+x 5",
-        "enter",
-    ];
-    let sorted = sorted.map(|text| text.parse::<Chord>().unwrap());
-    let set: BTreeSet<Chord> = sorted.into_iter().rev().collect();
-    assert!(set.into_iter().eq(sorted));
+    let sorted = "kitty57428,5,5 5,5 x,x,ctrl+x,ctrl+x 5,enter";
+    let sorted: Vec<Chord> = sorted.split(',').map(|it| it.parse().unwrap()).collect();
+    let set: BTreeSet<Chord> = sorted.iter().rev().copied().collect();
+    assert!(set.iter().eq(&sorted));
     let set: HashSet<Chord> = sorted.into_iter().collect();
     assert!(set.len() == 8 && set.contains(&"<C-x> 5".parse().unwrap()));
 }
 
 #[test]
 fn keys_and_modifiers_make_presses() {
-    let of =
-        |key, held| KeyPress::new(ReportedKey::Named(key), held).map(|press| press.to_string());
+    let press = |key, held| KeyPress::new(ReportedKey::Named(key), held);
+    let name = |key, held| press(key, held).map_or("none".to_string(), |it| it.to_string());
     let shift = KittyModifiers::SHIFT;
-    assert_eq!(of(KeyCode::Char('a'), shift).as_deref(), Some("A"));
-    assert_eq!(
-        of(KeyCode::KeyPadHome, shift).as_deref(),
-        Some("shift+home")
-    );
-    assert_eq!(of(KeyCode::Enter, KittyModifiers::all()).unwrap().len(), 37);
-    assert_eq!(of(KeyCode::Control, shift), None);
+    assert_eq!(name(KeyCode::Char('a'), shift), "A");
+    assert_eq!(name(KeyCode::KeyPadHome, shift), "shift+home");
+    assert_eq!(name(KeyCode::Enter, KittyModifiers::all()).len(), 37);
+    assert_eq!(press(KeyCode::Control, shift), None);
     assert_eq!(KeyPress::new(ReportedKey::Functional(63744), shift), None);
     let event = |modifiers| KeyEvent {
         key: KeyCode::UpArrow,
@@ -98,29 +81,22 @@ fn keys_and_events_have_names() {
     let (none, ctrl) = (Modifiers::NONE, Modifiers::CTRL);
     let all = [Modifiers::SHIFT, Modifiers::ALT, Modifiers::SUPER];
     let all = all.into_iter().fold(ctrl, Modifiers::union);
-    let rows = [
-        (event(KeyCode::Char('x'), ctrl), "ctrl+x"),
-        (event(KeyCode::Char('\t'), none), "tab"),
-        (
-            event(KeyCode::ApplicationUpArrow, all),
-            "super+ctrl+alt+shift+up",
-        ),
-        (event(KeyCode::Char('a'), Modifiers::SHIFT), "A"),
-        (
-            event(KeyCode::Char('a'), ctrl.union(Modifiers::LEFT_CTRL)),
-            "ctrl+a",
-        ),
-        (event(KeyCode::Function(5), none), "f5"),
-    ];
-    for (event, name) in rows {
-        assert_eq!(event.to_string(), name);
-        let read: KeyEvent = name.parse().unwrap();
+    let left_ctrl = ctrl.union(Modifiers::LEFT_CTRL);
+    for (key, modifiers, name) in [
+        (KeyCode::Char('x'), ctrl, "ctrl+x"),
+        (KeyCode::Char('\t'), none, "tab"),
+        (KeyCode::ApplicationUpArrow, all, "super+ctrl+alt+shift+up"),
+        (KeyCode::Char('a'), Modifiers::SHIFT, "A"),
+        (KeyCode::Char('a'), left_ctrl, "ctrl+a"),
+        (KeyCode::Function(5), none, "f5"),
+    ] {
+        let (event, read) = (event(key, modifiers), name.parse::<KeyEvent>().unwrap());
         assert_eq!(
-            KeyPress::of_event(&read),
-            KeyPress::of_event(&event),
-            "{name}"
+            (event.to_string(), read.to_string()),
+            (name.into(), name.into())
         );
-        assert_eq!(read.to_string(), name);
+        let presses = [event, read].map(|it| KeyPress::of_event(&it));
+        assert_eq!(presses[0], presses[1], "{name}");
     }
     assert_eq!(event(KeyCode::LeftShift, ctrl).to_string(), "leftshift");
     assert_eq!(" C-Up".parse(), Ok(event(KeyCode::UpArrow, ctrl)));
@@ -135,12 +111,10 @@ fn keys_and_events_have_names() {
         assert_eq!(text.parse::<KeyEvent>(), Err(no_key), "{text}");
         assert_eq!(text.parse::<KeyCode>(), Err(no_key), "{text}");
     }
-    for (text, kind, at) in [
-        ("ctrl+x", KeyNameErrorKind::NotAKey, 0),
-        ("a b", KeyNameErrorKind::TooLong, 2),
-    ] {
-        assert_eq!(text.parse::<KeyCode>(), Err(wrong(kind, at)));
-    }
+    let held = wrong(KeyNameErrorKind::NotAKey, 0);
+    assert_eq!("ctrl+x".parse::<KeyCode>(), Err(held));
+    let two = wrong(KeyNameErrorKind::TooLong, 2);
+    assert_eq!("a b".parse::<KeyCode>(), Err(two));
     let shifted = wrong(KeyNameErrorKind::ShiftedCharacter, 6);
     assert_eq!("shift+!".parse::<KeyEvent>(), Err(shifted));
 }

@@ -13,7 +13,7 @@ mod strings;
 pub mod timed;
 pub mod twins;
 
-use crate::port::plain::{begins_character, report_of, PlainReader as PortReader};
+use crate::port::plain::{begins_character, report_of, PlainReader as PortReader, ESC, START};
 use forms::{is_form, is_keypad_key};
 use hedrugal::input::{InputEvent, KeyCode, KeyEvent, Modifiers};
 use hedrugal::{
@@ -26,11 +26,13 @@ use strings::{begins_opening, opening_of, string_at};
 
 pub use meanings::pressed;
 
-const ESC: &[u8] = b"\x1b";
+pub const NONE: KittyModifiers = KittyModifiers::NONE;
 
-const START: &[u8] = b"\x1b[200~";
+pub const SHIFT: KittyModifiers = KittyModifiers::SHIFT;
 
-const END: &[u8] = b"\x1b[201~";
+pub const ALT: KittyModifiers = KittyModifiers::ALT;
+
+pub const CTRL: KittyModifiers = KittyModifiers::CTRL;
 
 // 8: ends of forms. With one of these each text that properly begins a form is a whole one, and it
 // is no sequence of the port, since no row ends with `x`.
@@ -42,7 +44,7 @@ const ENDS_OF_FORMS: &[&[u8]] = &[
 // 11: the key Escape.
 fn escape_key() -> Event {
     let key = ReportedKey::Named(KeyCode::Escape);
-    Event::Key(pressed(key, KittyModifiers::NONE))
+    Event::Key(pressed(key, NONE))
 }
 
 // 3: whether the event of a row isn't left to the port.
@@ -56,14 +58,10 @@ fn overrides(reading: Reading, event: &Event) -> bool {
 
 // A key of the port as a report: SHIFT, ALT and CTRL, and nothing else is told.
 fn key_of_port(event: &KeyEvent) -> KeyReport {
-    let mut modifiers = KittyModifiers::NONE;
-    for (held, flag) in [
-        (Modifiers::SHIFT, KittyModifiers::SHIFT),
-        (Modifiers::ALT, KittyModifiers::ALT),
-        (Modifiers::CTRL, KittyModifiers::CTRL),
-    ] {
-        modifiers.set(flag, event.modifiers.contains(held));
-    }
+    let mut modifiers = NONE;
+    modifiers.set(SHIFT, event.modifiers.contains(Modifiers::SHIFT));
+    modifiers.set(ALT, event.modifiers.contains(Modifiers::ALT));
+    modifiers.set(CTRL, event.modifiers.contains(Modifiers::CTRL));
     pressed(ReportedKey::Named(event.key), modifiers)
 }
 

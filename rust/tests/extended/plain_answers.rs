@@ -1,6 +1,8 @@
 // What the slow parser with a clock answers. tests/test_timed.py asks it. It reads the commands of the program in
-// crates/test_calls, a name, a number and bytes on a line, and answers in that program's words. While something isn't
-// told, the answer of `waiting` is a question mark.
+// crates/test_calls, a name, a number and bytes on a line, and answers in that program's words. If it is called with an
+// argument, it tells events in those of tests/cases. While something isn't told, the answer of `waiting` is a question mark.
+#[allow(dead_code, unused_imports)]
+mod lines;
 #[allow(dead_code)]
 mod plain;
 
@@ -132,13 +134,13 @@ fn call(parser: &mut PlainTimed, name: &str, number: u64) {
     }
 }
 
-fn answer(parser: &mut PlainTimed, line: &str) -> String {
+fn answer(parser: &mut PlainTimed, line: &str, told: fn(&Event) -> String) -> String {
     let words: Vec<&str> = line.split(' ').collect();
     let (name, number) = (words[0], words[1].parse().expect(line));
     match name {
         "feed" => unless_busy(parser.feed(number, &bytes(words[2]))),
         "interrupted" => unless_busy(parser.interrupted(number)),
-        "next" => parser.next().as_ref().map_or("none".to_string(), event),
+        "next" => parser.next().as_ref().map_or("none".to_string(), told),
         "timeout" => number_or_none(parser.timeout(number)),
         "skip" => number_or_none(parser.skip_paste()),
         "reset" => parser.reset().to_string(),
@@ -155,9 +157,11 @@ fn answer(parser: &mut PlainTimed, line: &str) -> String {
 
 fn main() {
     let mut parser = PlainTimed::new(Dialect::Extended);
+    let in_words = std::env::args().len() > 1;
+    let told = if in_words { lines::line } else { event };
     for line in io::stdin().lock().lines() {
         let line = line.expect("a line of text");
-        println!("{}", answer(&mut parser, &line));
+        println!("{}", answer(&mut parser, &line, told));
         io::stdout().flush().expect("an open output");
     }
 }

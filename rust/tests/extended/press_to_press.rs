@@ -2,6 +2,7 @@
 // and replied, in this order. Flags and modes change between any two things.
 use crate::calls::{parser_by, read_one, MORE};
 use crate::draws::Draws;
+use crate::plain::pressed;
 use crate::plain::presses::Press;
 use crate::plain::sending::{safe, BUTTONS, TRACKINGS};
 use crate::plain::twins::{kitty_twin, Modes};
@@ -46,29 +47,20 @@ fn flags(draws: &mut Draws) -> Flags {
 }
 
 fn kitty(draws: &mut Draws) -> Sent {
-    let (key, kind) = (
-        *draws.one_of(&kitty_keys()),
-        [Pressed, Repeat, Release][draws.below(3)],
-    );
+    let key = *draws.one_of(&kitty_keys());
+    let kind = [Pressed, Repeat, Release][draws.below(3)];
     let (reports, flags) = (kitty_reports(key, kind), flags(draws));
     let report = draws.one_of(&reports);
     let press = kitty_twin(report, flags).filter(|_| kind != Release);
     let sent = report.encode(flags).unwrap();
-    (
-        sent.into_bytes(),
-        press.map(Told::Press).into_iter().collect(),
-    )
+    (sent.into_bytes(), Vec::from_iter(press.map(Told::Press)))
 }
 
 // Several characters at once.
 fn text(draws: &mut Draws) -> Sent {
     let report = KeyReport {
-        key: ReportedKey::Functional(0),
-        modifiers: KittyModifiers::NONE,
-        kind: Pressed,
-        shifted: None,
-        base: None,
         text: ["fi", "да", "日本語"][draws.below(3)].to_string(),
+        ..pressed(ReportedKey::Functional(0), KittyModifiers::NONE)
     };
     let texts = Flags::REPORT_ALL_KEYS_AS_ESCAPE_CODES | Flags::REPORT_ASSOCIATED_TEXT;
     let sent = report.encode(flags(draws) | texts).unwrap();
@@ -79,20 +71,16 @@ fn port(draws: &mut Draws) -> Sent {
     let (is_csi_u, level) = (draws.below(2) == 0, *draws.one_of(&LEVELS));
     let (key, held) = (*draws.one_of(&keys()), draws.below(16) as u8);
     let (sent, [twins, _]) = port_texts(key, held, Modes { is_csi_u, level }, draws.below(2) == 0);
-    (
-        sent.into_bytes(),
-        twins.into_iter().flatten().map(Told::Press).collect(),
-    )
+    let told = twins.into_iter().flatten().map(Told::Press);
+    (sent.into_bytes(), told.collect())
 }
 
 fn paste(draws: &mut Draws) -> Sent {
     let count = draws.below(12);
     let text = draws.text(count, "any");
     let pasted = Event::Paste(safe(&String::from_utf8_lossy(&text)));
-    (
-        encode_paste(&text, true).into_bytes(),
-        vec![Told::Other(pasted)],
-    )
+    let sent = encode_paste(&text, true);
+    (sent.into_bytes(), vec![Told::Other(pasted)])
 }
 
 // A mouse report is told as it is alone.
@@ -103,9 +91,8 @@ fn mouse(draws: &mut Draws) -> Sent {
         button: draws.one_of(BUTTONS).1,
         modifiers: sets().nth(draws.below(8)).unwrap(),
     };
-    let sent = report
-        .encode(draws.one_of(TRACKINGS).1, MouseEncoding::Sgr)
-        .unwrap();
+    let tracking = draws.one_of(TRACKINGS).1;
+    let sent = report.encode(tracking, MouseEncoding::Sgr).unwrap();
     let told = (!sent.is_empty()).then(|| Told::Other(read_one(&sent, USUAL, MORE)));
     (sent, told.into_iter().collect())
 }
@@ -113,32 +100,24 @@ fn mouse(draws: &mut Draws) -> Sent {
 fn position(draws: &mut Draws, is_asked: bool) -> Sent {
     let private = !is_asked || draws.below(2) == 0;
     let (row, column) = (1 + draws.below(2) as u16, 1 + draws.below(300) as u16);
-    let sent = encode_cursor_position(row, column, private);
-    (
-        sent,
-        vec![Told::Other(Event::CursorPosition { row, column })],
-    )
+    let told = Told::Other(Event::CursorPosition { row, column });
+    (encode_cursor_position(row, column, private), vec![told])
 }
 
 fn colours(draws: &mut Draws) -> Sent {
     let scheme = [Dark, Light][draws.below(2)];
-    (
-        encode_colour_scheme(scheme),
-        vec![Told::Reply(Reply::ColourScheme(scheme))],
-    )
+    let told = Told::Reply(Reply::ColourScheme(scheme));
+    (encode_colour_scheme(scheme), vec![told])
 }
 
 fn attributes(draws: &mut Draws) -> Sent {
     let count = 1 + draws.below(8);
     let numbers: Vec<u16> = (0..count).map(|_| draws.below(65536) as u16).collect();
-    let told = Reply::DeviceAttributes {
-        report: DeviceAttributes::Primary,
-        numbers: numbers.iter().copied().map(u32::from).collect(),
-    };
-    (
-        encode_device_attributes(&numbers).unwrap(),
-        vec![Told::Reply(told)],
-    )
+    let sent = encode_device_attributes(&numbers).unwrap();
+    let report = DeviceAttributes::Primary;
+    let numbers = numbers.into_iter().map(u32::from).collect();
+    let told = Reply::DeviceAttributes { report, numbers };
+    (sent, vec![Told::Reply(told)])
 }
 
 // F3 with modifiers is sent only while no question for the cursor's position is open, and a position without a question
@@ -154,13 +133,11 @@ fn any(draws: &mut Draws, is_asked: bool) -> Sent {
         6..=10 => kitty(draws),
         _ => port(draws),
     };
-    let is_f3 =
-        matches!(sent.1[..], [Told::Press(_)]) && sent.0.ends_with(b"R") && sent.0.len() > 3;
-    if is_asked && is_f3 {
-        any(draws, is_asked)
-    } else {
-        sent
+    let is_press = matches!(sent.1[..], [Told::Press(_)]);
+    if is_asked && is_press && sent.0.ends_with(b"R") && sent.0.len() > 3 {
+        return any(draws, is_asked);
     }
+    sent
 }
 
 // A text that waits for more may go on with this one: ESC and ESC ESC with a key alone, and the others with printable ASCII.

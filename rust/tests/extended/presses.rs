@@ -1,27 +1,19 @@
 // Presses of events and of key reports.
 use crate::draws::Draws;
-use crate::plain::pressed;
 use crate::plain::presses::{said_of, second_of, Said};
+use crate::plain::{pressed, ALT, CTRL, NONE, SHIFT};
 use crate::port::names::PLAIN_KEYS;
 use hedrugal::input::{KeyCode, KeyEvent, Modifiers};
 use hedrugal::{typed_text, KeyEventKind, KeyPress, KeyReport, KittyModifiers, ReportedKey};
 use std::collections::{BTreeSet, HashMap};
 use KeyEventKind::{Press, Release, Repeat};
 
-const NONE: KittyModifiers = KittyModifiers::NONE;
-
-const SHIFT: KittyModifiers = KittyModifiers::SHIFT;
-
-const ALT: KittyModifiers = KittyModifiers::ALT;
-
-const CTRL: KittyModifiers = KittyModifiers::CTRL;
-
 // A press of a key, of which the terminal reports no more.
 fn report(key: KeyCode, modifiers: KittyModifiers) -> KeyReport {
     pressed(ReportedKey::Named(key), modifiers)
 }
 
-fn functional(number: u32, modifiers: KittyModifiers) -> KeyReport {
+pub fn functional(number: u32, modifiers: KittyModifiers) -> KeyReport {
     pressed(ReportedKey::Functional(number), modifiers)
 }
 
@@ -89,8 +81,9 @@ fn presses_type_their_characters() {
 #[test]
 fn presses_are_ordered_and_hashed() {
     let press = |key, modifiers| KeyPress::of_report(&report(key, modifiers)).unwrap();
+    let functional_press = |number| KeyPress::of_report(&functional(number, NONE)).unwrap();
     let sorted = [
-        KeyPress::of_report(&functional(57428, NONE)).unwrap(),
+        functional_press(57428),
         press(KeyCode::Char('a'), ALT),
         press(KeyCode::Char('a'), CTRL),
         press(KeyCode::Char('b'), NONE),
@@ -100,7 +93,6 @@ fn presses_are_ordered_and_hashed() {
     ];
     let set: BTreeSet<KeyPress> = sorted.iter().rev().copied().collect();
     assert!(set.into_iter().eq(sorted));
-    let functional_press = |number| KeyPress::of_report(&functional(number, NONE)).unwrap();
     let map: HashMap<KeyPress, usize> = sorted.iter().copied().zip(0..).collect();
     assert_eq!(map.get(&functional_press(57414)), Some(&4));
 }
@@ -129,11 +121,11 @@ fn drawn_report(draws: &mut Draws) -> KeyReport {
         "", "", "A", "!", "b", ",", " ", "Б", "é", "É", "1", "\x1b", "\u{80}",
     ];
     const KINDS: [KeyEventKind; 4] = [Press, Press, Repeat, Release];
+    let key = drawn_key(draws);
+    let held = draws.below(256) & draws.below(256);
     KeyReport {
-        key: drawn_key(draws),
-        modifiers: KittyModifiers::from_bits_retain(
-            draws.below(256) as u8 & draws.below(256) as u8,
-        ),
+        key,
+        modifiers: KittyModifiers::from_bits_retain(held as u8),
         kind: *draws.one_of(&KINDS),
         shifted: draws.one_of(OTHERS).chars().next(),
         base: draws.one_of(OTHERS).chars().next(),
@@ -151,11 +143,8 @@ pub fn check_presses(report: &KeyReport) {
     };
     assert_eq!(said, said_of(report), "{report:?}");
     let second = KeyPress::second(report);
-    assert_eq!(
-        second.map(|p| (p.key(), p.held())),
-        second_of(report),
-        "{report:?}"
-    );
+    let parts = second.map(|press| (press.key(), press.held()));
+    assert_eq!(parts, second_of(report), "{report:?}");
     for press in press.into_iter().chain(second) {
         let again = pressed(press.key(), press.held());
         assert_eq!(KeyPress::of_report(&again), Some(press), "{report:?}");
@@ -188,10 +177,7 @@ fn events_and_reports_agree() {
         let held = names.iter().filter(|row| modifiers.contains(row.0));
         let held = held.fold(NONE, |held, row| held.union(row.1));
         let event = KeyEvent { key, modifiers };
-        assert_eq!(
-            KeyPress::of_event(&event),
-            KeyPress::of_report(&report(key, held)),
-            "{event:?}"
-        );
+        let press = KeyPress::of_report(&report(key, held));
+        assert_eq!(KeyPress::of_event(&event), press, "{event:?}");
     }
 }

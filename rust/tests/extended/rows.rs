@@ -42,10 +42,7 @@ fn reads_each_entry() {
         assert_eq!(events, wanted, "{bytes:?}");
         let events = parser.read(&bytes, false);
         assert_eq!(events, reader.read(&bytes, false).0, "{bytes:?}");
-        assert!(
-            events.iter().all(|event| event.key().is_some()),
-            "{bytes:?}"
-        );
+        assert!(events.iter().all(|it| it.key().is_some()), "{bytes:?}");
         positions += usize::from(check_asked(&mut asked, &bytes, &events));
         let left = port.parser().waiting_len();
         for parser in [&mut termwiz, &mut parser, &mut asked] {

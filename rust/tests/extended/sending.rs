@@ -36,15 +36,13 @@ const PLACES: [u16; 9] = [0, 1, 94, 95, 223, 224, 2015, 2016, 65535];
 
 // Sends a report in each mode and encoding.
 fn check_mouse(report: SentMouse) {
-    for (_, tracking) in TRACKINGS {
-        for (_, encoding) in ENCODINGS {
-            let wanted = mouse(report, *tracking, *encoding);
-            for sent in [
-                report.encode(*tracking, *encoding),
-                report.try_encode(*tracking, *encoding),
-            ] {
-                assert_eq!(sent, wanted, "{report:?} {tracking:?} {encoding:?}");
-            }
+    for &(_, tracking) in TRACKINGS {
+        for &(_, encoding) in ENCODINGS {
+            let wanted = mouse(report, tracking, encoding);
+            let [sent, tried] = [SentMouse::encode, SentMouse::try_encode]
+                .map(|encode| encode(&report, tracking, encoding));
+            assert_eq!(sent, wanted, "{report:?} {tracking:?} {encoding:?}");
+            assert_eq!(tried, wanted, "{report:?} {tracking:?} {encoding:?}");
         }
     }
 }
@@ -53,15 +51,13 @@ fn check_mouse(report: SentMouse) {
 fn each_mouse_report() {
     let buttons = BUTTONS.iter().map(|(_, button)| *button);
     for (button, modifiers) in buttons.flat_map(|button| sets().map(move |set| (button, set))) {
-        for x in PLACES {
-            for y in PLACES {
-                check_mouse(SentMouse {
-                    x,
-                    y,
-                    button,
-                    modifiers,
-                });
-            }
+        for (x, y) in PLACES.into_iter().flat_map(|x| PLACES.map(|y| (x, y))) {
+            check_mouse(SentMouse {
+                x,
+                y,
+                button,
+                modifiers,
+            });
         }
     }
 }

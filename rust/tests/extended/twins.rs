@@ -1,10 +1,12 @@
 // Which press is read of what is sent for a key: of what `KeyCode::encode` writes, for every key and every set of
 // four modifiers, and of what `KeyReport::encode` writes under any flags. Most keys are read as themselves, and the
 // others as their twins.
-use crate::calls::Calls;
+use crate::calls::{parser_by, Calls};
 use crate::plain::keys::key_of;
+use crate::plain::pressed;
 use crate::plain::presses::{said_of, Press, Said};
 use crate::plain::twins::{kitty_twin, port_twin, press_of_key, twin, Modes};
+use crate::port::names::keys;
 use hedrugal::input::KeyCode::{self, Char, Function};
 use hedrugal::input::{KeyCodeEncodeModes, KeyboardEncoding, KittyKeyboardFlags, Modifiers};
 use hedrugal::{
@@ -15,48 +17,19 @@ const SHIFT_AND_CTRL: KittyModifiers = KittyModifiers::SHIFT.union(KittyModifier
 
 const BEYOND_ASCII: &str = "\u{80}\u{9f}\u{a0}éÉсСß\u{e000}\u{fffd}\u{1f600}\u{10ffff}";
 
-const NAMED: [KeyCode; 15] = [
-    KeyCode::Backspace,
-    KeyCode::Tab,
-    KeyCode::Enter,
-    KeyCode::Escape,
-    KeyCode::PageUp,
-    KeyCode::PageDown,
-    KeyCode::End,
-    KeyCode::Home,
-    KeyCode::Insert,
-    KeyCode::Delete,
-    KeyCode::KeyPadBegin,
-    KeyCode::LeftArrow,
-    KeyCode::RightArrow,
-    KeyCode::UpArrow,
-    KeyCode::DownArrow,
+const NAMED: [KeyCode; 15] = keys![
+    Backspace Tab Enter Escape PageUp PageDown End Home Insert Delete KeyPadBegin
+    LeftArrow RightArrow UpArrow DownArrow
 ];
 
-const FURTHER_NAMED: [KeyCode; 8] = [
-    KeyCode::KeyPadHome,
-    KeyCode::KeyPadEnd,
-    KeyCode::KeyPadPageUp,
-    KeyCode::KeyPadPageDown,
-    KeyCode::ApplicationLeftArrow,
-    KeyCode::ApplicationRightArrow,
-    KeyCode::ApplicationUpArrow,
-    KeyCode::ApplicationDownArrow,
+const FURTHER_NAMED: [KeyCode; 8] = keys![
+    KeyPadHome KeyPadEnd KeyPadPageUp KeyPadPageDown
+    ApplicationLeftArrow ApplicationRightArrow ApplicationUpArrow ApplicationDownArrow
 ];
 
 // Those that only the law of the extended dialect speaks of.
-const EDIT_KEYS: [KeyCode; 11] = [
-    KeyCode::Numpad0,
-    KeyCode::Numpad1,
-    KeyCode::Numpad2,
-    KeyCode::Numpad3,
-    KeyCode::Numpad4,
-    KeyCode::Numpad5,
-    KeyCode::Numpad6,
-    KeyCode::Numpad7,
-    KeyCode::Numpad8,
-    KeyCode::Numpad9,
-    KeyCode::Decimal,
+const EDIT_KEYS: [KeyCode; 11] = keys![
+    Numpad0 Numpad1 Numpad2 Numpad3 Numpad4 Numpad5 Numpad6 Numpad7 Numpad8 Numpad9 Decimal
 ];
 
 pub fn keys() -> Vec<KeyCode> {
@@ -85,13 +58,6 @@ fn presses(events: &[Event]) -> Vec<Option<Press>> {
     events.iter().map(|event| report(event).map(pair)).collect()
 }
 
-// A parser by this reading.
-fn parser(reading: Reading) -> Parser {
-    let mut parser = Parser::new(reading.dialect);
-    parser.set_reading(reading);
-    parser
-}
-
 pub const USUAL: Reading = Reading::new(Dialect::Extended);
 
 const X10: Reading = Reading {
@@ -107,12 +73,9 @@ pub fn port_texts(
     modes: Modes,
     is_other: bool,
 ) -> (String, [Vec<Option<Press>>; 2]) {
+    let encodings = [KeyboardEncoding::Xterm, KeyboardEncoding::CsiU];
     let sent = KeyCodeEncodeModes {
-        encoding: if modes.is_csi_u {
-            KeyboardEncoding::CsiU
-        } else {
-            KeyboardEncoding::Xterm
-        },
+        encoding: encodings[usize::from(modes.is_csi_u)],
         application_cursor_keys: is_other,
         newline_mode: is_other,
         modify_other_keys: modes.level,
@@ -144,10 +107,8 @@ fn check_key(parsers: &mut [Parser; 3], key: KeyCode, held: u8, modes: Modes, is
         let wanted = [&extended, &extended, &port][place];
         if place < 2 || !is_left_out_of_port(key, held, modes) {
             let found = presses(&parser.read(text.as_bytes(), false));
-            assert_eq!(
-                &found, wanted,
-                "{key:?} {held} {modes:?} {is_other}: {text:?}"
-            );
+            let case = format!("{key:?} {held} {modes:?} {is_other}: {text:?}");
+            assert_eq!(&found, wanted, "{case}");
         }
     }
 }
@@ -156,7 +117,7 @@ fn check_key(parsers: &mut [Parser; 3], key: KeyCode, held: u8, modes: Modes, is
 pub const LEVELS: [Option<i64>; 6] = [None, Some(-1), Some(0), Some(1), Some(2), Some(3)];
 
 fn check_encoding(is_csi_u: bool) {
-    let mut parsers = [USUAL, X10, Reading::new(Dialect::Termwiz)].map(parser);
+    let mut parsers = [USUAL, X10, Reading::new(Dialect::Termwiz)].map(parser_by);
     for level in LEVELS {
         let modes = Modes { is_csi_u, level };
         for key in keys() {
@@ -181,13 +142,11 @@ fn keys_of_csi_u_are_read_as_their_twins() {
 // Every character, with all modifiers that the page names, at no level and at one.
 #[test]
 fn characters_beyond_ascii_are_read_as_their_twins() {
-    let mut parsers = [USUAL, X10, Reading::new(Dialect::Termwiz)].map(parser);
+    let mut parsers = [USUAL, X10, Reading::new(Dialect::Termwiz)].map(parser_by);
+    let is_csi_u = false;
     for c in '\u{80}'..=char::MAX {
         for level in [None, Some(1)] {
-            let modes = Modes {
-                is_csi_u: false,
-                level,
-            };
+            let modes = Modes { is_csi_u, level };
             check_key(&mut parsers, Char(c), 7, modes, false);
         }
     }
@@ -207,32 +166,22 @@ pub fn kitty_reports(key: ReportedKey, kind: KeyEventKind) -> Vec<KeyReport> {
     let is_character = matches!(key, ReportedKey::Named(Char(_)));
     let mut reports = Vec::new();
     for held in 0..64 {
+        // The locks too.
+        let modifiers = KittyModifiers::from_bits_retain(held | held << 6);
         let report = KeyReport {
-            key,
-            // The locks too.
-            modifiers: KittyModifiers::from_bits_retain(held | held << 6),
             kind,
-            shifted: None,
-            base: None,
-            text: String::new(),
+            ..pressed(key, modifiers)
         };
         if is_character {
-            let text = "я".to_string();
-            reports.push(KeyReport {
-                text,
+            let mut typing = report.clone();
+            typing.text = "я".to_string();
+            reports.push(typing);
+        }
+        if is_character && modifiers.contains(KittyModifiers::SHIFT) {
+            reports.extend(['!', 'Я', '\u{9f}'].map(Some).map(|shifted| KeyReport {
+                shifted,
                 ..report.clone()
-            });
-            let is_shifted = report.modifiers.contains(KittyModifiers::SHIFT);
-            for shifted in ['!', 'Я', '\u{9f}']
-                .map(Some)
-                .into_iter()
-                .filter(|_| is_shifted)
-            {
-                reports.push(KeyReport {
-                    shifted,
-                    ..report.clone()
-                });
-            }
+            }));
         }
         reports.push(report);
     }
@@ -261,12 +210,7 @@ fn check_report(parsers: &mut [Parser; 2], report: &KeyReport, flags: KittyKeybo
     let press = kitty_twin(report, flags);
     for parser in parsers {
         let events = parser.read(sent.as_bytes(), !waits(press));
-        assert_eq!(
-            presses(&events),
-            [press],
-            "{report:?} {flags}: {}",
-            sent.escape_debug()
-        );
+        assert_eq!(presses(&events), [press], "{report:?} {flags}: {sent:?}");
         assert_eq!(parser.waiting_len(), 0);
     }
 }
@@ -277,7 +221,7 @@ fn keys_of_kitty_are_read_as_their_twins() {
         questions: 255,
         ..X10
     };
-    let mut parsers = [USUAL, asked].map(parser);
+    let mut parsers = [USUAL, asked].map(parser_by);
     for flags in (0..32).map(KittyKeyboardFlags::from_bits_retain) {
         for key in kitty_keys() {
             for kind in [KeyEventKind::Press, KeyEventKind::Repeat] {
@@ -293,26 +237,16 @@ fn keys_of_kitty_are_read_as_their_twins() {
 // The text of F3 with a modifier is the position that was asked for, and the next one is the key.
 #[test]
 fn f3_while_a_question_is_open() {
-    let modes = KeyCodeEncodeModes {
-        encoding: KeyboardEncoding::Xterm,
-        application_cursor_keys: false,
-        newline_mode: false,
-        modify_other_keys: None,
-    };
+    let (is_csi_u, level) = (false, None);
     for held in 1..8 {
-        let mut parser = parser(USUAL);
+        let mut parser = parser_by(USUAL);
         parser.expect_position();
-        let modifiers = Modifiers::from_bits_retain(held << 1);
-        let text = Function(3).encode(modifiers, modes, true).unwrap();
-        let position = Event::CursorPosition {
-            row: 1,
-            column: held + 1,
-        };
+        let (text, _) = port_texts(Function(3), held, Modes { is_csi_u, level }, false);
+        let (row, column) = (1, u16::from(held) + 1);
+        let position = Event::CursorPosition { row, column };
         assert_eq!(parser.read(text.as_bytes(), true), [position]);
-        let f3 = (
-            ReportedKey::Named(Function(3)),
-            KittyModifiers::from_bits_retain(held as u8),
-        );
+        let modifiers = KittyModifiers::from_bits_retain(held);
+        let f3 = (ReportedKey::Named(Function(3)), modifiers);
         assert_eq!(presses(&parser.read(text.as_bytes(), true)), [Some(f3)]);
     }
 }

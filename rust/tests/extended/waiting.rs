@@ -8,18 +8,9 @@ use hedrugal::{Dialect, Parser, Policy, Waiting};
 use std::time::Duration;
 
 fn check_rest(parser: &Parser, rest: &[u8], kind: Waiting) {
-    assert_eq!(
-        (parser.waiting_len(), parser.waiting()),
-        (rest.len(), kind),
-        "{}",
-        rest.escape_ascii()
-    );
-    assert_eq!(
-        parser.is_paste_open(),
-        kind == Waiting::Paste,
-        "{}",
-        rest.escape_ascii()
-    );
+    let waiting = (parser.waiting_len(), parser.waiting());
+    assert_eq!(waiting, (rest.len(), kind), "{}", rest.escape_ascii());
+    assert_eq!(parser.is_paste_open(), kind == Waiting::Paste);
 }
 
 // Calls with a parser, and each text that stays buffered in it and its kind.
@@ -74,7 +65,7 @@ pub fn different_limits() -> Policy {
 }
 
 // How long a rest of this kind may wait.
-pub fn limit_of(mut policy: Policy, rest: &[u8], kind: Waiting) -> Option<Duration> {
+fn limit_of(mut policy: Policy, rest: &[u8], kind: Waiting) -> Option<Duration> {
     let name = timed::limit_of(kind, rest.len())?;
     let more = if name == "string" { rest.len() } else { 0 };
     let limit = *limit_named(name)(&mut policy);

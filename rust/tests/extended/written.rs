@@ -16,20 +16,14 @@ const ASKED: Reading = Reading {
 };
 
 // The texts of keys that may begin a sequence.
-const WAITING: [&[u8]; 7] = [
-    b"\x1b",
-    b"\x1b\x1b",
-    b"\x1b[",
-    b"\x1bO",
-    b"\x1bP",
-    b"\x1b]",
-    b"\x1b_",
+const WAITING: [&str; 7] = [
+    "\x1b", "\x1b\x1b", "\x1b[", "\x1bO", "\x1bP", "\x1b]", "\x1b_",
 ];
 
 // The event is written as the bytes, and they are read as it, also with more to come, unless they
 // wait.
 pub fn is_written(event: &Event, reading: Reading, bytes: &[u8]) {
-    let more = !WAITING.contains(&bytes);
+    let more = !WAITING.iter().any(|it| it.as_bytes() == bytes);
     let by = parser_by(reading);
     assert_eq!(event.encode(&by).as_deref(), Ok(bytes), "{event:?}");
     assert_eq!(event.try_encode(&by).as_deref(), Ok(bytes));
@@ -59,10 +53,8 @@ fn long_texts_are_written() {
     assert_eq!(long.len(), 2_100_000);
     let wanted = format!("\x1b[200~{long}\x1b[201~");
     let event = paste(&long);
-    assert_eq!(
-        event.encode(&parser_by(USUAL)).as_deref(),
-        Ok(wanted.as_bytes())
-    );
+    let written = event.encode(&parser_by(USUAL));
+    assert_eq!(written.as_deref(), Ok(wanted.as_bytes()));
     assert_eq!(read_one(wanted.as_bytes(), USUAL, true), event);
     for (introducer, opening, event) in [
         ("\x1b]", "52;c;", Event::Osc as fn(Vec<u8>) -> _),
@@ -176,13 +168,10 @@ fn what_no_bytes_are_read_as() {
 
 #[test]
 fn what_is_too_long() {
-    let parameters = |len: usize| Event::Csi([&b"?"[..], &vec![b'1'; len], b"c"].concat());
-    is_written(
-        &parameters(252),
-        USUAL,
-        &[&b"\x1b[?"[..], &[b'1'; 252], b"c"].concat(),
-    );
-    refuses(&parameters(253), USUAL, EncodeEventError::TooLong);
+    let sequence = |len: usize| format!("\x1b[?{}c", "1".repeat(len)).into_bytes();
+    let event = |len| Event::Csi(sequence(len)[2..].to_vec());
+    is_written(&event(252), USUAL, &sequence(252));
+    refuses(&event(253), USUAL, EncodeEventError::TooLong);
     let key = ReportedKey::Named(KeyCode::Char('a'));
     let typed = report(key, KeyEventKind::Press, &"a".repeat(100));
     refuses(&typed, USUAL, EncodeEventError::TooLong);
@@ -195,11 +184,8 @@ fn backspace_has_a_shorter_number() {
         let text = format!("{first}{}", "a".repeat(82));
         let numbers: Vec<_> = text.chars().map(|it| u32::from(it).to_string()).collect();
         let sent = format!("\x1b[{number};;{}u", numbers.join(":"));
-        is_written(
-            &report(key, KeyEventKind::Press, &text),
-            USUAL,
-            sent.as_bytes(),
-        );
+        let report = report(key, KeyEventKind::Press, &text);
+        is_written(&report, USUAL, sent.as_bytes());
     }
 }
 
@@ -222,10 +208,8 @@ fn what_is_buffered_stays() {
         let character = key(KeyCode::Char('a'), KittyModifiers::NONE);
         assert_eq!(character.encode(&buffered).as_deref(), Ok(&b"a"[..]));
     }
-    assert_eq!(
-        buffered.read(b"5A", true),
-        [key(KeyCode::UpArrow, KittyModifiers::CTRL)]
-    );
+    let up = key(KeyCode::UpArrow, KittyModifiers::CTRL);
+    assert_eq!(buffered.read(b"5A", true), [up]);
 }
 
 #[test]
@@ -238,15 +222,8 @@ fn a_position_that_is_expected_is_no_key() {
 #[test]
 fn replies_are_read_back() {
     let at = |row, column| Event::CursorPosition { row, column };
-    for (row, column) in [
-        (1, 1),
-        (1, 16),
-        (1, 17),
-        (1, 256),
-        (1, 257),
-        (24, 80),
-        (2, 65535),
-    ] {
+    let in_first = [1, 16, 17, 256, 257].map(|column| (1, column));
+    for (row, column) in in_first.into_iter().chain([(24, 80), (2, 65535)]) {
         let private = encode_cursor_position(row, column, true);
         let plain = encode_cursor_position(row, column, false);
         assert_eq!(private, format!("\x1b[?{row};{column}R").as_bytes());
@@ -277,12 +254,8 @@ fn replies_are_read_back() {
         let event = read_one(&bytes, USUAL, true);
         assert_eq!(event, Event::Csi(text.to_vec()));
     }
-    assert_eq!(
-        encode_device_attributes(&[65535; 42]).map(|it| it.len()),
-        Ok(255)
-    );
-    assert_eq!(
-        encode_device_attributes(&[65535; 43]),
-        Err(EncodeEventError::TooLong)
-    );
+    let longest = encode_device_attributes(&[65535; 42]);
+    assert_eq!(longest.map(|it| it.len()), Ok(255));
+    let longer = encode_device_attributes(&[65535; 43]);
+    assert_eq!(longer, Err(EncodeEventError::TooLong));
 }

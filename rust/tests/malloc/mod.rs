@@ -63,22 +63,16 @@ unsafe extern "C" fn free(block: *mut c_void) {
 // Counts a new block. SAFETY for callers: it is one, or null.
 unsafe fn counted(block: *mut c_void) -> *mut c_void {
     // SAFETY: of null the size is 0.
-    IN_USE.set(
-        IN_USE
-            .get()
-            .wrapping_add(unsafe { malloc_usable_size(block) }),
-    );
+    let size = unsafe { malloc_usable_size(block) };
+    IN_USE.set(IN_USE.get().wrapping_add(size));
     block
 }
 
 // Takes a block out of the count. SAFETY for callers: it is one, or null.
 unsafe fn uncount(block: *mut c_void) {
     // SAFETY: of null the size is 0.
-    IN_USE.set(
-        IN_USE
-            .get()
-            .wrapping_sub(unsafe { malloc_usable_size(block) }),
-    );
+    let size = unsafe { malloc_usable_size(block) };
+    IN_USE.set(IN_USE.get().wrapping_sub(size));
 }
 
 // What a call returns if one request in it is refused, and how many were.

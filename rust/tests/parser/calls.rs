@@ -53,23 +53,18 @@ impl Call {
     // a paste is open.
     pub fn events(self, parser: &mut InputParser, bytes: &[u8], more: bool) -> Vec<InputEvent> {
         let mut events = Vec::new();
+        let granted = "memory is granted";
         match self {
             Call::List => events = parser.parse_as_vec(bytes, more),
-            Call::TryList => {
-                events = parser
-                    .try_parse_as_vec(bytes, more)
-                    .expect("memory is granted")
-            }
+            Call::TryList => events = parser.try_parse_as_vec(bytes, more).expect(granted),
             Call::Callback => parser.parse(bytes, |event| events.push(event), more),
-            Call::TryCallback => parser
-                .try_parse(bytes, |event| events.push(event), more)
-                .expect("memory is granted"),
+            Call::TryCallback => {
+                let parsed = parser.try_parse(bytes, |event| events.push(event), more);
+                parsed.expect(granted);
+            }
         }
-        assert!(
-            parser.waiting_len() <= MOST || parser.is_paste_open(),
-            "{} wait",
-            parser.waiting_len()
-        );
+        let waiting = parser.waiting_len();
+        assert!(waiting <= MOST || parser.is_paste_open(), "{waiting} wait");
         events
     }
 }
@@ -97,10 +92,8 @@ pub fn check_sizes(parser: &mut InputParser, name: &str, text: &[u8]) {
     let whole = (events, parser.waiting_len());
     for piece in [1, 2, 3, 7, 64] {
         parser.reset();
-        assert!(
-            read_in_pieces(Call::List, parser, text, piece) == whole,
-            "{name}, pieces of {piece}"
-        );
+        let cut = read_in_pieces(Call::List, parser, text, piece);
+        assert!(cut == whole, "{name}, pieces of {piece}");
     }
     parser.reset();
 }

@@ -32,17 +32,15 @@ pub const APPLICATION: KeyCodeEncodeModes = KeyCodeEncodeModes {
 #[test]
 fn refuses_unknown_function_keys() {
     for number in [0, 25, 255] {
-        let key = KeyCode::Function(number);
+        let encode = |is_down| KeyCode::Function(number).encode(NONE, XTERM, is_down);
+        let refusal = EncodeError::UnhandledFunctionKey(number);
         assert_eq!(
-            key.encode(NONE, XTERM, true),
-            Err(EncodeError::UnhandledFunctionKey(number))
+            (encode(true), encode(false)),
+            (Err(refusal), Ok(String::new()))
         );
-        assert_eq!(key.encode(NONE, XTERM, false), Ok(String::new()));
     }
-    assert_eq!(
-        KeyCode::Char('a').encode(NONE, XTERM, false),
-        Ok(String::new())
-    );
+    let released = KeyCode::Char('a').encode(NONE, XTERM, false);
+    assert_eq!(released, Ok(String::new()));
 }
 
 // A key that is up has the empty text, and every key but a function key has a text.
@@ -51,22 +49,24 @@ fn encodes_every_key() {
     let keys = PLAIN_KEYS.iter().copied().chain([KeyCode::Char('a')]);
     for key in keys.chain((1..=24).map(KeyCode::Function)) {
         assert!(key.encode(SHIFT, XTERM, true).is_ok(), "{key:?}");
-        assert_eq!(
-            key.encode(SHIFT, XTERM, false),
-            Ok(String::new()),
-            "{key:?}"
-        );
+        let released = key.encode(SHIFT, XTERM, false);
+        assert_eq!(released, Ok(String::new()), "{key:?}");
     }
 }
 
 #[test]
 fn tells_errors() {
-    assert_eq!(
-        EncodeError::UnhandledFunctionKey(25).to_string(),
-        "unhandled fkey number 25"
-    );
-    assert_eq!(EncodeError::UnnamedBits.to_string(), "a bit has no name");
-    assert_eq!(EncodeError::Memory.to_string(), "out of memory");
+    let errors = [
+        EncodeError::UnhandledFunctionKey(25),
+        EncodeError::UnnamedBits,
+        EncodeError::Memory,
+    ];
+    let texts = [
+        "unhandled fkey number 25",
+        "a bit has no name",
+        "out of memory",
+    ];
+    assert_eq!(errors.map(|it| it.to_string()), texts);
 }
 
 #[test]
@@ -94,10 +94,7 @@ fn shifts_letters() {
         (KeyCode::Char('é'), SHIFT, KeyCode::Char('é')),
         (KeyCode::Tab, SHIFT, KeyCode::Tab),
     ] {
-        assert_eq!(
-            key.normalize_shift_to_upper_case(modifiers),
-            wanted,
-            "{key:?}"
-        );
+        let capital = key.normalize_shift_to_upper_case(modifiers);
+        assert_eq!(capital, wanted, "{key:?}");
     }
 }

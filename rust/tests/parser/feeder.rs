@@ -17,8 +17,10 @@ pub trait Reader {
     fn waiting_len(&self) -> usize;
 
     // After the calls since the last reset the parser may give this answer in place of the recorded
-    // one.
-    fn check_other(&mut self, came: &str, waiting: &[u8], wanted: &str);
+    // one. Most may not.
+    fn check_other(&mut self, came: &str, _waiting: &[u8], wanted: &str) {
+        panic!("{came}, and not {wanted}");
+    }
 }
 
 // The time of so many milliseconds.
@@ -37,20 +39,15 @@ pub struct Counts {
 }
 
 pub fn data(file: &str) -> String {
-    let path = Path::new(env!("CARGO_MANIFEST_DIR"))
-        .join("tests/recorded")
-        .join(file);
-    fs::read_to_string(&path).unwrap_or_else(|error| panic!("{}: {error}", path.display()))
+    let folder = Path::new(env!("CARGO_MANIFEST_DIR")).join("tests/recorded");
+    fs::read_to_string(folder.join(file)).unwrap_or_else(|error| panic!("{file}: {error}"))
 }
 
 // The counts of a file, as the table of tests/recorded/README.md tells them.
 pub fn told(file: &str) -> Counts {
-    let table = data("README.md");
-    let begin = format!("| `{file}` |");
-    let line = table
-        .lines()
-        .find(|line| line.starts_with(&begin))
-        .expect(file);
+    let (table, begin) = (data("README.md"), format!("| `{file}` |"));
+    let mut lines = table.lines();
+    let line = lines.find(|line| line.starts_with(&begin)).expect(file);
     let cells: Vec<&str> = line.split('|').map(str::trim).collect();
     let number = |column: usize| cells[column].parse().expect(line);
     Counts {
@@ -153,11 +150,8 @@ impl<R: Reader> Feeder<'_, R> {
         for row in rows.split(',').map(bytes) {
             let escaped = [b"\x1b", &row[..]].concat();
             let followed = [&row[..], &bytes(next)].concat();
-            for (text, wanted) in [
-                (&row, alone),
-                (&escaped, after_escape),
-                (&followed, before_next),
-            ] {
+            let texts = [&row, &escaped, &followed].into_iter();
+            for (text, wanted) in texts.zip([alone, after_escape, before_next]) {
                 if wanted != "-" {
                     self.check_whole(text, wanted);
                 }
@@ -200,4 +194,11 @@ pub fn feed_file(reader: &mut impl Reader, file: &str) -> Counts {
         counts.others += usize::from(feeder.is_other);
     }
     counts
+}
+
+// Each line of the file is answered as it was recorded.
+pub fn check_file(reader: &mut impl Reader, file: &str) {
+    let mut wanted = told(file);
+    wanted.others = 0;
+    assert_eq!(feed_file(reader, file), wanted, "{file}");
 }

@@ -54,9 +54,9 @@ macro_rules! tries_pairs {
                         ("insert", changed(a, &|set| set.insert(y)), either),
                         ("remove", changed(a, &|set| set.remove(y)), first_alone),
                         ("toggle", changed(a, &|set| set.toggle(y)), one_alone),
-                        ("set to true", changed(a, &|set| set.set(y, true)), either),
+                        ("set(true)", changed(a, &|set| set.set(y, true)), either),
                         (
-                            "set to false",
+                            "set(false)",
                             changed(a, &|set| set.set(y, false)),
                             first_alone,
                         ),
@@ -88,15 +88,8 @@ const CTRL: Modifiers = Modifiers::CTRL;
 #[test]
 fn computes_with_sets() {
     let both = SHIFT | CTRL;
-    assert_eq!(both.bits(), 10);
-    assert_eq!(both & CTRL, CTRL);
-    assert_eq!(both - CTRL, SHIFT);
-    assert_eq!(both ^ CTRL ^ Modifiers::ALT, SHIFT | Modifiers::ALT);
-    assert_eq!(!!both, both);
-    assert_eq!(!Modifiers::NONE, Modifiers::all());
-    assert!(both.contains(SHIFT) && !SHIFT.contains(both));
-    assert!(both.intersects(CTRL) && !SHIFT.intersects(CTRL));
-    assert!(Modifiers::empty().is_empty() && Modifiers::all().is_all() && !both.is_all());
+    assert_eq!((both.bits(), !!both), (10, both));
+    assert!(Modifiers::empty().is_empty() && Modifiers::all().is_all());
 }
 
 #[test]
@@ -122,18 +115,15 @@ fn drops_or_keeps_bits_without_a_name() {
     assert_eq!(Modifiers::from_bits_truncate(0xf003), SHIFT);
     assert_eq!(Modifiers::from_bits_retain(0xf003).bits(), 0xf003);
     assert_eq!((!Modifiers::from_bits_retain(0xf000)).bits(), 0x0ffe);
-    assert!(
-        !Modifiers::from_bits_retain(1).is_empty() && Modifiers::from_bits_retain(0xffff).is_all()
-    );
+    assert!(!Modifiers::from_bits_retain(1).is_empty());
+    assert!(Modifiers::from_bits_retain(0xffff).is_all());
     assert_eq!(Modifiers::all().bits(), 0x0ffe);
     let named: u8 = BUTTONS.iter().map(|(_, flag)| flag.bits()).sum();
     assert_eq!(MouseButtons::all().bits(), named);
     assert_eq!(MouseButtons::from_bits(1), None);
     assert_eq!(KittyKeyboardFlags::all().bits(), 0x1f);
-    assert_eq!(
-        !KittyKeyboardFlags::REPORT_EVENT_TYPES,
-        KittyKeyboardFlags::from_bits_truncate(0xfffd)
-    );
+    let others = KittyKeyboardFlags::from_bits_truncate(0xfffd);
+    assert_eq!(!KittyKeyboardFlags::REPORT_EVENT_TYPES, others);
 }
 
 #[test]
@@ -145,10 +135,8 @@ fn finds_flags_by_name() {
         assert_eq!(MouseButtons::from_name(name), Some(*flag), "{name}");
     }
     assert_eq!(Modifiers::from_name("NONE"), Some(Modifiers::NONE));
-    assert_eq!(
-        KittyKeyboardFlags::from_name("REPORT_EVENT_TYPES"),
-        Some(KittyKeyboardFlags::REPORT_EVENT_TYPES)
-    );
+    let types = KittyKeyboardFlags::from_name("REPORT_EVENT_TYPES");
+    assert_eq!(types, Some(KittyKeyboardFlags::REPORT_EVENT_TYPES));
     for name in ["", "shift", "SHIFT ", "SHIFT|CTRL", "CMD", "LEFT"] {
         assert_eq!(Modifiers::from_name(name), None, "{name}");
     }
@@ -160,22 +148,13 @@ fn iterates() {
     let set = CTRL | unnamed | SHIFT;
     assert_eq!(set.iter().collect::<Vec<_>>(), [SHIFT, CTRL, unnamed]);
     assert_eq!(set.into_iter().collect::<Vec<_>>(), [SHIFT, CTRL, unnamed]);
-    assert_eq!(
-        set.iter_names().collect::<Vec<_>>(),
-        [("SHIFT", SHIFT), ("CTRL", CTRL)]
-    );
+    let names: Vec<_> = set.iter_names().collect();
+    assert_eq!(names, [("SHIFT", SHIFT), ("CTRL", CTRL)]);
     assert_eq!(Modifiers::all().iter_names().collect::<Vec<_>>(), MODIFIERS);
-    assert_eq!(
-        MouseButtons::all().iter_names().collect::<Vec<_>>(),
-        BUTTONS
-    );
-    assert_eq!(
-        (
-            Modifiers::NONE.iter().next(),
-            Modifiers::NONE.iter_names().next()
-        ),
-        (None, None)
-    );
+    let buttons: Vec<_> = MouseButtons::all().iter_names().collect();
+    assert_eq!(buttons, BUTTONS);
+    assert_eq!(Modifiers::NONE.iter().next(), None);
+    assert_eq!(Modifiers::NONE.iter_names().next(), None);
     let mut names = set.iter_names();
     assert_eq!(names.by_ref().count(), 2);
     assert_eq!(names.remaining(), &unnamed);
@@ -185,10 +164,7 @@ fn iterates() {
 
 #[test]
 fn collects() {
-    assert_eq!(
-        [SHIFT, CTRL, SHIFT].into_iter().collect::<Modifiers>(),
-        SHIFT | CTRL
-    );
+    assert_eq!(Modifiers::from_iter([SHIFT, CTRL, SHIFT]), SHIFT | CTRL);
     assert_eq!(Modifiers::from_iter([]), Modifiers::NONE);
     let mut set = SHIFT;
     set.extend([CTRL, Modifiers::ALT]);
@@ -202,45 +178,35 @@ fn collects() {
 #[test]
 fn shows_names() {
     let wheel = MouseButtons::VERT_WHEEL | MouseButtons::WHEEL_POSITIVE;
-    let shown = [
-        format!("{:?}", SHIFT | CTRL),
-        format!("{:?}", Modifiers::NONE),
-        format!("{:?}", Modifiers::from_bits_retain(0x8003)),
-        format!("{:?}", Modifiers::from_bits_retain(1)),
-        format!("{wheel:?}"),
-        format!("{:#?}", SHIFT | CTRL),
-        format!("{} {} {wheel}", SHIFT | CTRL, Modifiers::NONE),
-        Modifiers::from_bits_retain(0x8003).to_string(),
-        String::from(&CTRL),
-    ];
-    assert_eq!(
-        shown,
-        [
-            "Modifiers(SHIFT | CTRL)",
-            "Modifiers(0x0)",
-            "Modifiers(SHIFT | 0x8001)",
-            "Modifiers(0x1)",
+    let (both, none) = (SHIFT | CTRL, Modifiers::NONE);
+    let [unnamed, alone] = [0x8003, 1].map(Modifiers::from_bits_retain);
+    for (shown, wanted) in [
+        (format!("{both:?}"), "Modifiers(SHIFT | CTRL)"),
+        (format!("{none:?}"), "Modifiers(0x0)"),
+        (format!("{unnamed:?}"), "Modifiers(SHIFT | 0x8001)"),
+        (format!("{alone:?}"), "Modifiers(0x1)"),
+        (
+            format!("{wheel:?}"),
             "MouseButtons(VERT_WHEEL | WHEEL_POSITIVE)",
-            "Modifiers(\n    SHIFT | CTRL,\n)",
-            "SHIFT|CTRL NONE VERT_WHEEL|WHEEL_POSITIVE",
-            "SHIFT|0x8001",
-            "CTRL",
-        ]
-    );
+        ),
+        (format!("{both:#?}"), "Modifiers(\n    SHIFT | CTRL,\n)"),
+        (format!("{both} {none}"), "SHIFT|CTRL NONE"),
+        (format!("{wheel}"), "VERT_WHEEL|WHEEL_POSITIVE"),
+        (unnamed.to_string(), "SHIFT|0x8001"),
+        (String::from(&CTRL), "CTRL"),
+    ] {
+        assert_eq!(shown, wanted);
+    }
 }
 
 #[test]
 fn shows_numbers() {
     let set = SHIFT | CTRL;
     assert_eq!(format!("{set:x} {set:X} {set:o} {set:b}"), "a A 12 1010");
-    assert_eq!(
-        format!("{set:#06x} {set:#X} {set:#o} {set:#b}"),
-        "0x000a 0xA 0o12 0b1010"
-    );
-    assert_eq!(
-        format!("{:x} {:b}", MouseButtons::RIGHT, KittyKeyboardFlags::all()),
-        "4 11111"
-    );
+    let shown = format!("{set:#06x} {set:#X} {set:#o} {set:#b}");
+    assert_eq!(shown, "0x000a 0xA 0o12 0b1010");
+    let (right, all) = (MouseButtons::RIGHT, KittyKeyboardFlags::all());
+    assert_eq!(format!("{right:x} {all:b}"), "4 11111");
 }
 
 #[test]
@@ -272,20 +238,16 @@ fn reads_names() {
     ] {
         let error = text.parse::<Modifiers>().expect_err(text);
         assert_eq!(error.to_string(), format!("no flag is named {name}"));
-        assert_eq!(
-            Modifiers::try_from(text.to_string()),
-            Err(error.to_string())
-        );
+        let tried = Modifiers::try_from(text.to_string());
+        assert_eq!(tried, Err(error.to_string()));
     }
     assert!("CMD".parse::<MouseButtons>().is_err());
 }
 
 #[test]
 fn removes_positional_modifiers() {
-    assert_eq!(
-        Modifiers::all().remove_positional_mods(),
-        SHIFT | Modifiers::ALT | CTRL | Modifiers::SUPER | Modifiers::LEADER
-    );
+    let others = SHIFT | Modifiers::ALT | CTRL | Modifiers::SUPER | Modifiers::LEADER;
+    assert_eq!(Modifiers::all().remove_positional_mods(), others);
 }
 
 #[test]

@@ -20,14 +20,9 @@ impl<'a> Reading<'a> {
     fn new(reader: &PlainReader, waiting: &[u8], bytes: &'a [u8], more: bool) -> Reading<'a> {
         let text = [waiting, bytes].concat();
         let (events, rest) = reader.read(&text, more);
-        let kind = reader.kind_of(rest, more);
-        let kind = kind.unwrap_or_else(|| panic!("{} waits of {}", hex(rest), hex(&text)));
-        assert!(
-            rest.len() <= MOST || kind == Waiting::Paste,
-            "{} waits of {}",
-            hex(rest),
-            hex(&text)
-        );
+        let shown = format!("{} waits of {}", hex(rest), hex(&text));
+        let kind = reader.kind_of(rest, more).expect(&shown);
+        assert!(rest.len() <= MOST || kind == Waiting::Paste, "{shown}");
         Reading {
             bytes,
             more,
@@ -64,18 +59,18 @@ fn check_readings(parser: &mut InputParser, call: Call, readings: &[Reading]) {
 }
 
 // The parser, what it is compared with, and what draws the texts.
-struct Comparison {
+pub struct Comparison {
     parser: InputParser,
     reader: PlainReader,
     draws: Draws,
 }
 
 impl Comparison {
-    fn new(seed: u64) -> Comparison {
-        let reader = PlainReader::new();
+    pub fn new(seed: u64) -> Comparison {
+        let (parser, reader) = (InputParser::new(), PlainReader::new());
         let draws = Draws::new(seed, &reader);
         Comparison {
-            parser: InputParser::new(),
+            parser,
             reader,
             draws,
         }
@@ -104,9 +99,9 @@ impl Comparison {
     }
 
     // The same of the text as a whole. It has the same events cut in two at each place.
-    fn check_whole(&mut self, text: &[u8]) {
+    pub fn check_whole(&mut self, text: &[u8]) {
         let reading = Reading::new(&self.reader, b"", text, false);
-        for place in 1..text.len() {
+        for place in 0..=text.len() {
             let (first, second) = text.split_at(place);
             let mut events = Call::List.events(&mut self.parser, first, true);
             events.extend(Call::List.events(&mut self.parser, second, false));
@@ -186,11 +181,8 @@ fn pauses_between_items() {
     let mut draws = Draws::new(6, &reader);
     for _ in 0..3000 {
         let text = draws.text();
-        let events = read_with_pauses(
-            &mut parser,
-            &draws.pieces(&text),
-            &reader.ends_of(&text, false),
-        );
+        let (pieces, ends) = (draws.pieces(&text), reader.ends_of(&text, false));
+        let events = read_with_pauses(&mut parser, &pieces, &ends);
         let (wanted, rest) = reader.read(&text, false);
         assert_eq!(events, wanted, "{}", hex(&text));
         assert_eq!(parser.reset(), rest.len(), "{}", hex(&text));

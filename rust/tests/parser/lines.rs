@@ -3,31 +3,22 @@ use super::names::{BUTTONS, MODIFIERS, PLAIN_KEYS};
 use hedrugal::input::{InputEvent, KeyCode, KeyEvent, Modifiers, MouseButtons};
 use std::sync::OnceLock;
 
-// The names that are in a set, joined by +.
-fn joined(names: impl Iterator<Item = &'static str>) -> String {
-    let names: Vec<&str> = names.collect();
-    if names.is_empty() {
-        return "NONE".to_string();
+// The names of a table whose flags are in a set, joined by +.
+fn joined<Flag: Copy>(table: &[(&str, Flag)], has: impl Fn(Flag) -> bool) -> String {
+    let names = table.iter().filter(|(_, flag)| has(*flag));
+    let names: Vec<&str> = names.map(|(name, _)| *name).collect();
+    match names[..] {
+        [] => "NONE".to_string(),
+        _ => names.join("+"),
     }
-    names.join("+")
 }
 
 fn modifiers(held: Modifiers) -> String {
-    joined(
-        MODIFIERS
-            .iter()
-            .filter(|(_, flag)| held.contains(*flag))
-            .map(|(name, _)| *name),
-    )
+    joined(MODIFIERS, |flag| held.contains(flag))
 }
 
 fn buttons(down: MouseButtons) -> String {
-    joined(
-        BUTTONS
-            .iter()
-            .filter(|(_, flag)| down.contains(*flag))
-            .map(|(name, _)| *name),
-    )
+    joined(BUTTONS, |flag| down.contains(flag))
 }
 
 // The name of a key.
@@ -146,9 +137,7 @@ pub const ESCAPED: &[(u8, u8)] = &[
 // The bytes of a word in quotes.
 pub fn unquoted(word: &str) -> Vec<u8> {
     let inner = word.strip_prefix('"').and_then(|it| it.strip_suffix('"'));
-    let mut rest = inner
-        .unwrap_or_else(|| panic!("{word} has no quotes"))
-        .as_bytes();
+    let mut rest = inner.expect(word).as_bytes();
     let mut bytes = Vec::new();
     while let [byte, after @ ..] = rest {
         rest = after;
@@ -161,9 +150,7 @@ pub fn unquoted(word: &str) -> Vec<u8> {
             (b'\\', [letter, after @ ..]) => {
                 rest = after;
                 let escaped = ESCAPED.iter().find(|(_, it)| it == letter);
-                escaped
-                    .unwrap_or_else(|| panic!("{word} escapes a letter"))
-                    .0
+                escaped.expect(word).0
             }
             (b'!'..=b'~', _) if *byte != b'"' => *byte,
             _ => panic!("{word} has a byte that is to be escaped"),

@@ -21,10 +21,8 @@ fn gives_70000_keys_at_once() {
     let mut parser = InputParser::new();
     for call in CALLS {
         for more in [true, false] {
-            assert!(
-                call.events(&mut parser, &text, more) == wanted,
-                "{call:?}, {more}"
-            );
+            let events = call.events(&mut parser, &text, more);
+            assert!(events == wanted, "{call:?}, {more}");
             assert_eq!(parser.waiting_len(), 0);
         }
     }
@@ -37,10 +35,8 @@ fn reads_70000_bytes_one_at_a_time() {
     let wanted = (keys(35000), 0);
     let mut parser = InputParser::new();
     for call in CALLS {
-        assert!(
-            read_in_pieces(call, &mut parser, &text, 1) == wanted,
-            "{call:?}"
-        );
+        let read = read_in_pieces(call, &mut parser, &text, 1);
+        assert!(read == wanted, "{call:?}");
     }
 }
 
@@ -51,10 +47,8 @@ fn check_paste(text: &str) {
     let wanted = [InputEvent::Paste(text.to_string())];
     let mut parser = InputParser::new();
     for call in CALLS {
-        assert!(
-            call.events(&mut parser, paste.as_bytes(), true) == wanted,
-            "{call:?}"
-        );
+        let events = call.events(&mut parser, paste.as_bytes(), true);
+        assert!(events == wanted, "{call:?}");
         assert_eq!(parser.waiting_len(), 0);
         for piece in [999, 4096] {
             let (events, waiting_len) = read_in_pieces(call, &mut parser, paste.as_bytes(), piece);
@@ -80,10 +74,8 @@ fn gives_a_long_paste_at_its_last_bytes() {
             assert_eq!(call.events(&mut parser, bytes, true), []);
         }
         assert!(parser.is_paste_open());
-        assert!(
-            call.events(&mut parser, b"\x1b[201~", true) == [InputEvent::Paste(text.clone())],
-            "{call:?}"
-        );
+        let events = call.events(&mut parser, b"\x1b[201~", true);
+        assert!(events == [InputEvent::Paste(text.clone())], "{call:?}");
         assert_eq!(parser.waiting_len(), 0);
     }
 }

@@ -1,123 +1,43 @@
 // The flags and the keys by their names.
 use hedrugal::input::{KeyCode, Modifiers, MouseButtons};
 
-pub const MODIFIERS: &[(&str, Modifiers)] = &[
-    // hedrugal.h: termwiz_mod named
-    ("SHIFT", Modifiers::SHIFT),
-    ("ALT", Modifiers::ALT),
-    ("CTRL", Modifiers::CTRL),
-    ("SUPER", Modifiers::SUPER),
-    ("LEFT_ALT", Modifiers::LEFT_ALT),
-    ("RIGHT_ALT", Modifiers::RIGHT_ALT),
-    ("LEADER", Modifiers::LEADER),
-    ("LEFT_CTRL", Modifiers::LEFT_CTRL),
-    ("RIGHT_CTRL", Modifiers::RIGHT_CTRL),
-    ("LEFT_SHIFT", Modifiers::LEFT_SHIFT),
-    ("RIGHT_SHIFT", Modifiers::RIGHT_SHIFT),
-    // hedrugal.h: end
-];
+// Values of a type, each with its name there.
+macro_rules! named {
+    ($type:ident: $($name:ident)*) => { &[$((stringify!($name), $type::$name)),*] };
+}
 
-pub const BUTTONS: &[(&str, MouseButtons)] = &[
-    // hedrugal.h: button named
-    ("LEFT", MouseButtons::LEFT),
-    ("RIGHT", MouseButtons::RIGHT),
-    ("MIDDLE", MouseButtons::MIDDLE),
-    ("VERT_WHEEL", MouseButtons::VERT_WHEEL),
-    ("HORZ_WHEEL", MouseButtons::HORZ_WHEEL),
-    ("WHEEL_POSITIVE", MouseButtons::WHEEL_POSITIVE),
+// Keys by the names of their codes.
+macro_rules! keys {
+    ($($name:ident)*) => { [$(hedrugal::input::KeyCode::$name),*] };
+}
+
+#[allow(unused_imports)] // not each program with this module uses both
+pub(crate) use {keys, named};
+
+pub const MODIFIERS: &[(&str, Modifiers)] = named! { Modifiers:
+    // hedrugal.h: termwiz_mod named
+    SHIFT ALT CTRL SUPER LEFT_ALT RIGHT_ALT LEADER LEFT_CTRL RIGHT_CTRL LEFT_SHIFT RIGHT_SHIFT
     // hedrugal.h: end
-];
+};
+
+pub const BUTTONS: &[(&str, MouseButtons)] = named! { MouseButtons:
+    // hedrugal.h: button named
+    LEFT RIGHT MIDDLE VERT_WHEEL HORZ_WHEEL WHEEL_POSITIVE
+    // hedrugal.h: end
+};
 
 // The keys that carry nothing.
-pub const PLAIN_KEYS: &[KeyCode] = &[
+pub const PLAIN_KEYS: &[KeyCode] = &keys! {
     // hedrugal.h: key plain
-    KeyCode::Hyper,
-    KeyCode::Super,
-    KeyCode::Meta,
-    KeyCode::Cancel,
-    KeyCode::Backspace,
-    KeyCode::Tab,
-    KeyCode::Clear,
-    KeyCode::Enter,
-    KeyCode::Shift,
-    KeyCode::Escape,
-    KeyCode::LeftShift,
-    KeyCode::RightShift,
-    KeyCode::Control,
-    KeyCode::LeftControl,
-    KeyCode::RightControl,
-    KeyCode::Alt,
-    KeyCode::LeftAlt,
-    KeyCode::RightAlt,
-    KeyCode::Menu,
-    KeyCode::LeftMenu,
-    KeyCode::RightMenu,
-    KeyCode::Pause,
-    KeyCode::CapsLock,
-    KeyCode::PageUp,
-    KeyCode::PageDown,
-    KeyCode::End,
-    KeyCode::Home,
-    KeyCode::LeftArrow,
-    KeyCode::RightArrow,
-    KeyCode::UpArrow,
-    KeyCode::DownArrow,
-    KeyCode::Select,
-    KeyCode::Print,
-    KeyCode::Execute,
-    KeyCode::PrintScreen,
-    KeyCode::Insert,
-    KeyCode::Delete,
-    KeyCode::Help,
-    KeyCode::LeftWindows,
-    KeyCode::RightWindows,
-    KeyCode::Applications,
-    KeyCode::Sleep,
-    KeyCode::Numpad0,
-    KeyCode::Numpad1,
-    KeyCode::Numpad2,
-    KeyCode::Numpad3,
-    KeyCode::Numpad4,
-    KeyCode::Numpad5,
-    KeyCode::Numpad6,
-    KeyCode::Numpad7,
-    KeyCode::Numpad8,
-    KeyCode::Numpad9,
-    KeyCode::Multiply,
-    KeyCode::Add,
-    KeyCode::Separator,
-    KeyCode::Subtract,
-    KeyCode::Decimal,
-    KeyCode::Divide,
-    KeyCode::NumLock,
-    KeyCode::ScrollLock,
-    KeyCode::Copy,
-    KeyCode::Cut,
-    KeyCode::Paste,
-    KeyCode::BrowserBack,
-    KeyCode::BrowserForward,
-    KeyCode::BrowserRefresh,
-    KeyCode::BrowserStop,
-    KeyCode::BrowserSearch,
-    KeyCode::BrowserFavorites,
-    KeyCode::BrowserHome,
-    KeyCode::VolumeMute,
-    KeyCode::VolumeDown,
-    KeyCode::VolumeUp,
-    KeyCode::MediaNextTrack,
-    KeyCode::MediaPrevTrack,
-    KeyCode::MediaStop,
-    KeyCode::MediaPlayPause,
-    KeyCode::ApplicationLeftArrow,
-    KeyCode::ApplicationRightArrow,
-    KeyCode::ApplicationUpArrow,
-    KeyCode::ApplicationDownArrow,
-    KeyCode::KeyPadHome,
-    KeyCode::KeyPadEnd,
-    KeyCode::KeyPadPageUp,
-    KeyCode::KeyPadPageDown,
-    KeyCode::KeyPadBegin,
-    KeyCode::InternalPasteStart,
-    KeyCode::InternalPasteEnd,
+    Hyper Super Meta Cancel Backspace Tab Clear Enter Shift Escape LeftShift RightShift Control
+    LeftControl RightControl Alt LeftAlt RightAlt Menu LeftMenu RightMenu Pause CapsLock PageUp
+    PageDown End Home LeftArrow RightArrow UpArrow DownArrow Select Print Execute PrintScreen Insert
+    Delete Help LeftWindows RightWindows Applications Sleep Numpad0 Numpad1 Numpad2 Numpad3 Numpad4
+    Numpad5 Numpad6 Numpad7 Numpad8 Numpad9 Multiply Add Separator Subtract Decimal Divide NumLock
+    ScrollLock Copy Cut Paste BrowserBack BrowserForward BrowserRefresh BrowserStop BrowserSearch
+    BrowserFavorites BrowserHome VolumeMute VolumeDown VolumeUp MediaNextTrack MediaPrevTrack
+    MediaStop MediaPlayPause ApplicationLeftArrow ApplicationRightArrow ApplicationUpArrow
+    ApplicationDownArrow KeyPadHome KeyPadEnd KeyPadPageUp KeyPadPageDown KeyPadBegin
+    InternalPasteStart InternalPasteEnd
     // hedrugal.h: end
-];
+};

@@ -1,5 +1,4 @@
 // The parser as a value.
-use crate::lines::lines;
 use crate::plain::key_event;
 use hedrugal::input::{InputParser, KeyCode, Modifiers};
 
@@ -13,15 +12,6 @@ fn goes_on_after_a_panic() {
     assert!(caught.is_err());
     let b = key_event(KeyCode::Char('b'), Modifiers::NONE);
     assert_eq!(parser.parse_as_vec(b"", true), [b]);
-}
-
-// A parser with buffered bytes goes to another thread.
-#[test]
-fn goes_to_another_thread() {
-    let mut parser = InputParser::new();
-    assert_eq!(parser.parse_as_vec(b"\x1b[", true), []);
-    let events = std::thread::spawn(move || parser.parse_as_vec(b"A", true)).join();
-    assert_eq!(lines(&events.expect("no panic")), "key UpArrow NONE");
 }
 
 #[test]

@@ -9,11 +9,11 @@ use rows::Table;
 use std::collections::BTreeMap;
 use std::str;
 
-const ESC: &[u8] = b"\x1b";
+pub const ESC: &[u8] = b"\x1b";
 
-const START: &[u8] = b"\x1b[200~";
+pub const START: &[u8] = b"\x1b[200~";
 
-const END: &[u8] = b"\x1b[201~";
+pub const END: &[u8] = b"\x1b[201~";
 
 const TWO_ESCAPES: &[u8] = b"\x1b\x1b";
 
@@ -29,6 +29,11 @@ fn modifiers_of(shift: bool, alt: bool, ctrl: bool) -> Modifiers {
     modifiers.set(Modifiers::ALT, alt);
     modifiers.set(Modifiers::CTRL, ctrl);
     modifiers
+}
+
+// "Mouse events": the modifiers of a code.
+pub fn modifiers_of_code(code: u16) -> Modifiers {
+    modifiers_of(code & 4 != 0, code & 8 != 0, code & 16 != 0)
 }
 
 // "Mouse events": the buttons of a base at `M`.
@@ -69,12 +74,11 @@ pub fn report_of(text: &[u8]) -> Option<MouseEvent> {
     if numbers.next().is_some() {
         return None;
     }
-    let modifiers = modifiers_of(code & 4 != 0, code & 8 != 0, code & 16 != 0);
     Some(MouseEvent {
         x,
         y,
         mouse_buttons,
-        modifiers,
+        modifiers: modifiers_of_code(code),
     })
 }
 
@@ -268,22 +272,12 @@ impl PlainReader {
         ends
     }
 
-    // "What stays buffered": whether bytes that stand there as they are, or after one ESC, are
-    // undecided.
-    fn are_undecided(&self, bytes: &[u8], more: bool) -> bool {
-        bytes.len() <= 20 && self.is_open(bytes, more)
-    }
-
     // "What stays buffered": the kind of bytes that are undecided as they stand there, or after one
     // ESC.
     fn kind_of_undecided(&self, bytes: &[u8], more: bool) -> Option<Waiting> {
-        if !self.are_undecided(bytes, more) {
-            return None;
-        }
-        if begins_character(bytes) {
-            return Some(Waiting::Character);
-        }
-        Some(Waiting::Sequence)
+        let kinds = [Waiting::Sequence, Waiting::Character];
+        let is_undecided = bytes.len() <= 20 && self.is_open(bytes, more);
+        is_undecided.then(|| kinds[usize::from(begins_character(bytes))])
     }
 
     // "What stays buffered": the kind of a rest, and `None` if it is of none.

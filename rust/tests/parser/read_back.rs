@@ -2,6 +2,7 @@
 // instances of the laws of `termwiz_laws` on keys that it doesn't list.
 use crate::calls::Buffer;
 use crate::encode::{ALT, APPLICATION, CTRL, NONE, SHIFT, SUPER, XTERM};
+use crate::names::keys;
 use crate::plain::key_event;
 use hedrugal::input::{InputParser, KeyCode, KeyCodeEncodeModes, KeyboardEncoding, Modifiers};
 
@@ -61,27 +62,12 @@ fn functions(numbers: std::ops::RangeInclusive<u8>) -> impl Iterator<Item = KeyC
 
 // Keys other than characters, with the modifiers and modes at which they are listed.
 fn listed_keys() -> Vec<(Vec<KeyCode>, Vec<Modifiers>, Modes)> {
-    let cursor = [
-        KeyCode::LeftArrow,
-        KeyCode::RightArrow,
-        KeyCode::UpArrow,
-        KeyCode::DownArrow,
-        KeyCode::Home,
-        KeyCode::End,
+    let cursor = keys![LeftArrow RightArrow UpArrow DownArrow Home End];
+    let application = keys![
+        ApplicationLeftArrow ApplicationRightArrow ApplicationUpArrow ApplicationDownArrow
     ];
-    let application = [
-        KeyCode::ApplicationLeftArrow,
-        KeyCode::ApplicationRightArrow,
-        KeyCode::ApplicationUpArrow,
-        KeyCode::ApplicationDownArrow,
-    ];
-    let editing = [
-        KeyCode::PageUp,
-        KeyCode::PageDown,
-        KeyCode::Insert,
-        KeyCode::Delete,
-    ];
-    let typed = [KeyCode::Enter, KeyCode::Escape, KeyCode::Backspace];
+    let editing = keys![PageUp PageDown Insert Delete];
+    let typed = keys![Enter Escape Backspace];
     vec![
         (cursor.to_vec(), any(), ALL),
         (functions(1..=20).collect(), any(), ALL),
@@ -92,9 +78,9 @@ fn listed_keys() -> Vec<(Vec<KeyCode>, Vec<Modifiers>, Modes)> {
         (vec![KeyCode::Tab], ctrl_and_shift(), OFF),
         (editing.to_vec(), any(), OFF),
         (functions(21..=24).collect(), any(), OFF),
-        (vec![KeyCode::Tab, KeyCode::Enter], any(), ON),
-        (vec![KeyCode::Escape, KeyCode::Backspace], any(), TWO),
-        (vec![KeyCode::Home, KeyCode::End], any(), &[APPLICATION]),
+        (keys![Tab Enter].to_vec(), any(), ON),
+        (keys![Escape Backspace].to_vec(), any(), TWO),
+        (keys![Home End].to_vec(), any(), &[APPLICATION]),
     ]
 }
 
@@ -130,11 +116,8 @@ fn check_read_as(parser: &mut InputParser, press: Press, modes: KeyCodeEncodeMod
     let text = press.0.encode(press.1, modes, true);
     let text = text.expect("a key with a text");
     let events = parser.parse_as_vec(text.as_bytes(), false);
-    assert_eq!(
-        events,
-        [key_event(wanted.0, wanted.1)],
-        "{press:?} {modes:?}"
-    );
+    let wanted = key_event(wanted.0, wanted.1);
+    assert_eq!(events, [wanted], "{press:?} {modes:?}");
     assert_eq!(parser.waiting_len(), 0, "{press:?} {modes:?}");
 }
 
@@ -192,27 +175,20 @@ fn reads_some_unlisted_keys_back() {
 #[test]
 fn reads_other_keys_as_those_that_send_the_same() {
     let mut parser = InputParser::new();
-    for (press, modes, wanted) in [
-        ((KeyCode::Char('i'), CTRL), XTERM, (KeyCode::Tab, NONE)),
-        ((KeyCode::Char('m'), CTRL), XTERM, (KeyCode::Enter, NONE)),
+    for (key, held, modes, wanted) in [
+        (KeyCode::Char('i'), CTRL, XTERM, KeyCode::Tab),
+        (KeyCode::Char('m'), CTRL, XTERM, KeyCode::Enter),
+        (KeyCode::Char('\u{7f}'), NONE, XTERM, KeyCode::Delete),
+        (KeyCode::Char('a'), SHIFT, XTERM, KeyCode::Char('A')),
         (
-            (KeyCode::Char('\u{7f}'), NONE),
-            XTERM,
-            (KeyCode::Delete, NONE),
-        ),
-        (
-            (KeyCode::Char('a'), SHIFT),
-            XTERM,
-            (KeyCode::Char('A'), NONE),
-        ),
-        (
-            (KeyCode::UpArrow, NONE),
+            KeyCode::UpArrow,
+            NONE,
             APPLICATION,
-            (KeyCode::ApplicationUpArrow, NONE),
+            KeyCode::ApplicationUpArrow,
         ),
-        ((KeyCode::UpArrow, SUPER), XTERM, (KeyCode::UpArrow, NONE)),
-        ((KeyCode::Escape, SHIFT), LEVEL_1, (KeyCode::Escape, NONE)),
+        (KeyCode::UpArrow, SUPER, XTERM, KeyCode::UpArrow),
+        (KeyCode::Escape, SHIFT, LEVEL_1, KeyCode::Escape),
     ] {
-        check_read_as(&mut parser, press, modes, wanted);
+        check_read_as(&mut parser, (key, held), modes, (wanted, NONE));
     }
 }

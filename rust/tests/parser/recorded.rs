@@ -1,6 +1,6 @@
 // The answers in tests/recorded, of the parser and of the encoder.
 use crate::calls::Buffer;
-use crate::feeder::{data, feed_file, told, Counts, Reader};
+use crate::feeder::{check_file, data, Reader};
 use crate::lines::{bytes, key_named, line, modifiers_named};
 use crate::names::PLAIN_KEYS;
 use hedrugal::input::{
@@ -19,40 +19,23 @@ impl Reader for InputParser {
     fn waiting_len(&self) -> usize {
         Buffer::waiting_len(self)
     }
-
-    fn check_other(&mut self, came: &str, _: &[u8], wanted: &str) {
-        panic!("{came}, and not {wanted}");
-    }
-}
-
-// The parser answers each line as it was recorded.
-fn check(file: &str) {
-    let counts = feed_file(&mut InputParser::new(), file);
-    let wanted = Counts {
-        others: 0,
-        ..told(file)
-    };
-    assert_eq!(counts, wanted, "{file}");
 }
 
 #[test]
 fn rows() {
-    check("parse-rows.txt");
+    check_file(&mut InputParser::new(), "parse-rows.txt");
 }
 
 #[test]
 fn cases() {
-    check("parse-cases.txt");
+    check_file(&mut InputParser::new(), "parse-cases.txt");
 }
 
 // The modes of a number, as tests/recorded/README.md lists its bits.
 fn modes(number: u32) -> KeyCodeEncodeModes {
+    let encodings = [KeyboardEncoding::Xterm, KeyboardEncoding::CsiU];
     KeyCodeEncodeModes {
-        encoding: if number & 16 == 0 {
-            KeyboardEncoding::Xterm
-        } else {
-            KeyboardEncoding::CsiU
-        },
+        encoding: encodings[(number >> 4 & 1) as usize],
         application_cursor_keys: number & 1 != 0,
         newline_mode: number & 2 != 0,
         modify_other_keys: [None, Some(0), Some(1), Some(2)][(number >> 2 & 3) as usize],
@@ -75,12 +58,9 @@ fn check_key(key: KeyCode, mods: Modifiers, texts: &str) {
         let mask = u32::from_str_radix(mask, 16).expect(texts);
         let wanted = wanted_text(key, text);
         for number in (0..32).filter(|number| mask >> number & 1 != 0) {
-            assert_eq!(
-                key.encode(mods, modes(number), true),
-                wanted,
-                "{key:?} {mods:?} {number}"
-            );
-            assert_eq!(key.encode(mods, modes(number), false), Ok(String::new()));
+            let encode = |is_down| key.encode(mods, modes(number), is_down);
+            assert_eq!(encode(true), wanted, "{key:?} {mods:?} {number}");
+            assert_eq!(encode(false), Ok(String::new()));
         }
         seen |= mask;
     }

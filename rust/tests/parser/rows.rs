@@ -1,10 +1,10 @@
 // The entries of the sequence table, against the rows of the plain reader, and the entries that
 // would complete what stays buffered.
-use crate::calls::{Buffer, Call};
+use crate::calls::Buffer;
+use crate::generated::Comparison;
 use crate::lines::hex;
 use crate::plain::{key_event, PlainReader};
-use hedrugal::input::{InputEvent, InputParser, KeyCode, KeyEvent, Modifiers};
-use hedrugal::Waiting;
+use hedrugal::input::{InputParser, KeyCode, KeyEvent, Modifiers};
 
 // All entries, by their places.
 fn entries(parser: &InputParser) -> Vec<(Vec<u8>, KeyEvent)> {
@@ -12,117 +12,58 @@ fn entries(parser: &InputParser) -> Vec<(Vec<u8>, KeyEvent)> {
     entries.map(|(bytes, key)| (bytes.to_vec(), key)).collect()
 }
 
-// How many there are: as many as the rules gave rows.
-fn entry_count() -> usize {
-    PlainReader::new().row_count()
-}
-
-// The event of a key, with ALT if a first ESC was buffered.
-fn with_alt(key: &KeyEvent, has_alt: bool) -> InputEvent {
-    let mut modifiers = key.modifiers;
-    modifiers.set(
-        Modifiers::ALT,
-        modifiers.contains(Modifiers::ALT) || has_alt,
-    );
-    key_event(key.key, modifiers)
-}
-
-// Parses the rest of an entry: its key is the event, but the start of a paste opens one, after an
-// Escape if there was a first ESC.
+// Parses the rest of an entry: its key is the event, with ALT if a first ESC was buffered. But the
+// start of a paste opens one, after an Escape if there was a first ESC.
 fn check_completed(parser: &mut InputParser, rest: &[u8], key: &KeyEvent, has_alt: bool) {
-    let events = parser.parse_as_vec(rest, false);
-    let escape = key_event(KeyCode::Escape, Modifiers::NONE);
     let is_start = key.key == KeyCode::InternalPasteStart;
-    match (is_start, has_alt) {
-        (true, false) => assert_eq!(events, []),
-        (true, true) => assert_eq!(events, [escape]),
-        _ => assert_eq!(events, [with_alt(key, has_alt)]),
-    }
+    let escape = key_event(KeyCode::Escape, Modifiers::NONE);
+    let alt = [Modifiers::NONE, Modifiers::ALT][usize::from(has_alt)];
+    let wanted = match (is_start, has_alt) {
+        (true, false) => vec![],
+        (true, true) => vec![escape],
+        _ => vec![key_event(key.key, key.modifiers | alt)],
+    };
+    assert_eq!(parser.parse_as_vec(rest, false), wanted, "{}", hex(rest));
     assert_eq!(parser.is_paste_open(), is_start);
-    parser.reset();
+    assert_eq!(parser.reset(), if is_start { 6 } else { 0 });
 }
 
+// The entries are the rows of the plain reader, in the order of their bytes, which differ.
 #[test]
 fn tells_entries() {
-    let mut parser = InputParser::new();
-    let entries = entries(&parser);
-    assert_eq!(entries.len(), entry_count());
-    assert!(entries.windows(2).all(|two| two[0].0 < two[1].0));
-    for (bytes, key) in &entries {
-        check_completed(&mut parser, bytes, key, false);
-    }
-    assert_eq!(entries.iter().map(|(bytes, _)| bytes.len()).max(), Some(11));
-}
-
-// The entries are the rows of the plain reader, whose bytes differ.
-#[test]
-fn has_the_rows_of_the_plain_reader() {
-    let reader = PlainReader::new();
-    assert_eq!(reader.rows().len(), reader.row_count(), "all bytes differ");
-    let entries = entries(&InputParser::new());
+    let (mut parser, reader) = (InputParser::new(), PlainReader::new());
+    parser.parse(b"\x1b[200~text", |_| {}, true);
+    let (entries, count) = (entries(&parser), reader.row_count());
+    assert_eq!(entries.len(), count);
     assert!(entries
         .iter()
         .map(|(bytes, key)| (bytes, key))
         .eq(reader.rows()));
-}
-
-// The text of a row has this one event, after which nothing is buffered.
-fn check_event(parser: &mut InputParser, text: &[u8], event: InputEvent) {
-    let events = Call::List.events(parser, text, false);
-    assert_eq!(events, [event], "{}", hex(text));
-    assert_eq!(parser.waiting_len(), 0, "{}", hex(text));
+    assert_eq!(entries.iter().map(|(bytes, _)| bytes.len()).max(), Some(11));
+    for place in [count, count + 1, usize::MAX] {
+        assert_eq!(parser.parser().entry(place), None);
+    }
+    let (bytes, _) = parser.parser().entry(count - 1).expect("the last one");
+    assert_eq!((&bytes[..], bytes.as_ref().len()), (&b"\x7f"[..], 1));
+    assert_eq!(parser.waiting_len(), 10);
 }
 
 // Alone each row of the plain reader is read as its key, and after one ESC as its key with ALT.
-// Only the start of a paste isn't a key.
 #[test]
 fn reads_rows_of_the_plain_reader() {
     let mut parser = InputParser::new();
     for (bytes, key) in PlainReader::new().rows() {
-        if key.key != KeyCode::InternalPasteStart {
-            check_event(&mut parser, bytes, with_alt(key, false));
-            let escaped = [b"\x1b", &bytes[..]].concat();
-            check_event(&mut parser, &escaped, with_alt(key, true));
-        }
-    }
-}
-
-// Cut in two at every place, the row is read as it is whole.
-fn check_cuts(parser: &mut InputParser, bytes: &[u8]) {
-    let wanted = (Call::List.events(parser, bytes, false), parser.reset());
-    for place in 0..=bytes.len() {
-        let (first, second) = bytes.split_at(place);
-        let mut events = Call::List.events(parser, first, true);
-        events.append(&mut Call::List.events(parser, second, false));
-        let came = (events, parser.reset());
-        assert_eq!(came, wanted, "{}|{}", hex(first), hex(second));
+        check_completed(&mut parser, bytes, key, false);
+        check_completed(&mut parser, &[b"\x1b", &bytes[..]].concat(), key, true);
     }
 }
 
 #[test]
 fn reads_rows_cut_in_two() {
-    let mut parser = InputParser::new();
+    let mut comparison = Comparison::new(0);
     for bytes in PlainReader::new().rows().keys() {
-        check_cuts(&mut parser, bytes);
+        comparison.check_whole(bytes);
     }
-}
-
-#[test]
-fn has_no_other_entries() {
-    let (mut parser, count) = (InputParser::new(), entry_count());
-    parser.parse(b"\x1b[200~text", |_| {}, true);
-    for place in [count, count + 1, usize::MAX] {
-        assert_eq!(parser.parser().entry(place), None);
-    }
-    let (bytes, key) = parser
-        .parser()
-        .entry(count - 1)
-        .expect("there is a last entry");
-    assert_eq!(
-        (&bytes[..], bytes.as_ref().len(), key.key),
-        (&b"\x7f"[..], 1, KeyCode::Backspace)
-    );
-    assert_eq!(parser.waiting_len(), 10);
 }
 
 // Texts, and whether the keys of the entries that would complete them get ALT.
@@ -173,38 +114,4 @@ fn tells_completions() {
         }
         assert_eq!(completions.entries.len(), count, "{}", hex(text));
     }
-}
-
-// The first entry that would complete ESC [ 1 ; 5 is the one of the up arrow with CTRL.
-#[test]
-fn tells_the_first_completion() {
-    let mut parser = InputParser::new();
-    parser.parse(b"\x1b[1;5", |_| {}, true);
-    let (bytes, key) = parser
-        .parser()
-        .entry(parser.parser().completions().entries.start)
-        .expect("there is a first entry");
-    assert_eq!(
-        (&bytes[..], key.key, key.modifiers),
-        (&b"\x1b[1;5A"[..], KeyCode::UpArrow, Modifiers::CTRL)
-    );
-}
-
-// Threads read the table of one parser at once.
-#[test]
-fn shares_the_table() {
-    let mut parser = InputParser::new();
-    parser.parse(b"\x1b[1;5", |_| {}, true);
-    std::thread::scope(|scope| {
-        for _ in 0..2 {
-            scope.spawn(|| {
-                let completions = parser.parser().completions();
-                assert!(completions
-                    .entries
-                    .clone()
-                    .all(|place| parser.parser().entry(place).is_some()));
-                assert_eq!(parser.parser().waiting(), Waiting::Sequence);
-            });
-        }
-    });
 }

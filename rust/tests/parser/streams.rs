@@ -9,7 +9,7 @@
 use crate::calls::Buffer;
 use crate::draws::Draws;
 use crate::lines::{hex, line};
-use crate::plain::PlainReader;
+use crate::plain::{PlainReader, END};
 use hedrugal::input::{InputEvent, InputParser};
 use std::io::Write;
 use std::path::{Path, PathBuf};
@@ -24,8 +24,6 @@ const STREAMS: usize = 20000;
 // One of so many streams is also read alone.
 const ALONE: usize = 100;
 
-const PASTE_END: &[u8] = b"\x1b[201~";
-
 // The program: what KEYSHOW names, or the one that rt built in this repository, or else the prebuilt
 // one, which cc links.
 fn keyshow() -> &'static Path {
@@ -34,22 +32,18 @@ fn keyshow() -> &'static Path {
         let top = Path::new(env!("CARGO_MANIFEST_DIR")).join("..");
         let built = top.join("crates/keyshow/out/keyshow");
         let named = env::var_os("KEYSHOW").map(PathBuf::from);
+        let prebuilt = top.join(format!("prebuilt/{}-linux/keyshow.o", env::consts::ARCH));
         named
             .or_else(|| built.is_file().then_some(built))
-            .unwrap_or_else(|| {
-                linked(&top.join(format!("prebuilt/{}-linux/keyshow.o", env::consts::ARCH)))
-            })
+            .unwrap_or_else(|| linked(&prebuilt))
     })
 }
 
 // The program that cc makes of an object.
 fn linked(object: &Path) -> PathBuf {
     let program = Path::new(env!("CARGO_TARGET_TMPDIR")).join("keyshow");
-    let cc = Command::new("cc")
-        .arg(object)
-        .arg("-o")
-        .arg(&program)
-        .status();
+    let words = [object, Path::new("-o"), &program];
+    let cc = Command::new("cc").args(words).status();
     assert!(
         cc.is_ok_and(|status| status.success()),
         "cc can't link {}: name the program keyshow in KEYSHOW",
@@ -98,21 +92,17 @@ fn streams() -> Vec<Vec<u8>> {
 
 // The mark after a stream.
 fn mark(number: usize) -> (String, String) {
-    (
-        format!("\x1b[<95;{number};65535M"),
-        format!("mouse {number} 65535 HORZ_WHEEL SHIFT+ALT+CTRL"),
-    )
+    let line = format!("mouse {number} 65535 HORZ_WHEEL SHIFT+ALT+CTRL");
+    (format!("\x1b[<95;{number};65535M"), line)
 }
 
 // The lines of each stream, up to its mark.
 fn parted(lines: &[String]) -> Vec<&[String]> {
-    let mut rest = lines;
-    let mut parts = Vec::new();
+    let (mut rest, mut parts) = (lines, Vec::new());
     for number in 0..STREAMS {
         let (_, line) = mark(number);
         let end = rest.iter().position(|other| *other == line);
-        let (part, after) =
-            rest.split_at(end.unwrap_or_else(|| panic!("no mark after stream {number}")) + 1);
+        let (part, after) = rest.split_at(end.expect(&line) + 1);
         parts.push(part);
         rest = after;
     }
@@ -125,7 +115,7 @@ fn joined() {
     let streams = streams();
     let mut text = Vec::new();
     for (number, stream) in streams.iter().enumerate() {
-        text.extend([&stream[..], PASTE_END, mark(number).0.as_bytes()].concat());
+        text.extend([&stream[..], END, mark(number).0.as_bytes()].concat());
     }
     for piece in PIECES {
         let (wanted, given) = (shown(&text, *piece), parsed(&text, *piece));
@@ -142,12 +132,8 @@ fn alone() {
     let check = || {
         while let Some(stream) = { left.lock().expect("no panic").next() } {
             for piece in PIECES {
-                assert_eq!(
-                    parsed(stream, *piece),
-                    shown(stream, *piece),
-                    "pieces of {piece}: {}",
-                    hex(stream)
-                );
+                let (given, wanted) = (parsed(stream, *piece), shown(stream, *piece));
+                assert_eq!(given, wanted, "pieces of {piece}: {}", hex(stream));
             }
         }
     };

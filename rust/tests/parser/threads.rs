@@ -1,7 +1,8 @@
 // Threads that make, use and free parsers. All of these share one sequence table.
+use crate::lines::lines;
 use crate::plain::key_event;
 use hedrugal::input::{InputEvent, InputParser, KeyCode, Modifiers};
-use hedrugal::{Dialect, Event, Parser};
+use hedrugal::{Dialect, Event, Parser, Waiting};
 use std::sync::mpsc::{channel, Sender};
 use std::thread;
 use std::time::Instant;
@@ -43,5 +44,39 @@ fn four_threads() {
     assert_eq!(count, THREADS * ROUNDS);
     for thread in threads {
         thread.join().expect("the thread read what it wanted");
+    }
+}
+
+// What stays buffered and the table are read by two threads at once, and the parser goes on in a third.
+#[test]
+fn goes_on_in_another_thread() {
+    for (begun, kind, end, wanted) in [
+        (
+            &b"\x1b[200~text"[..],
+            Waiting::Paste,
+            &b"\x1b[201~"[..],
+            "paste 4:74657874",
+        ),
+        (b"\x1b[1;5", Waiting::Sequence, b"A", "key UpArrow CTRL"),
+        (b"\x1b[", Waiting::Sequence, b"A", "key UpArrow NONE"),
+    ] {
+        let mut parser = InputParser::new();
+        parser.parse(begun, |_| {}, true);
+        let read = || {
+            let parser = parser.parser();
+            for _ in 0..1000 {
+                let waiting = (parser.waiting(), parser.waiting_len());
+                assert_eq!(waiting, (kind, begun.len()));
+            }
+            let mut places = parser.completions().entries;
+            assert!(places.all(|place| parser.entry(place).is_some()));
+        };
+        thread::scope(|scope| {
+            for _ in 0..2 {
+                scope.spawn(read);
+            }
+        });
+        let events = thread::spawn(move || parser.parse_as_vec(end, true)).join();
+        assert_eq!(lines(&events.expect("no panic")), wanted);
     }
 }

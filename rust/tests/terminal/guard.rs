@@ -2,11 +2,13 @@
 //!
 //! It reads by itself, with `plain` without a mouse, and with `thread` in a thread. With `storm` it
 //! drops many guards. With `errno` a handler fails to write, and the program prints `errno` after it.
+#[allow(dead_code)] // what the program of the scenarios uses
+mod unix;
+
 use hedrugal::terminal::{Modes, RawMode};
 use hedrugal::MouseTracking;
 use std::fs::File;
 use std::io::{self, Read, Write};
-use std::os::fd::AsRawFd;
 use std::process::Command;
 use std::thread;
 use std::time::{Duration, Instant};
@@ -26,7 +28,6 @@ const SIGCONT: i32 = 18;
 
 extern "C" {
     fn tcgetattr(terminal: i32, settings: *mut [u32; 64]) -> i32;
-    fn dup2(from: i32, to: i32) -> i32;
     fn raise(number: i32) -> i32;
     fn __errno_location() -> *mut i32;
 }
@@ -96,13 +97,8 @@ fn continue_after(settings: &str) -> io::Result<i32> {
 
 fn run_errno() -> io::Result<()> {
     let guard = RawMode::new(MODES)?;
-    let (output, full) = (guard.output().as_raw_fd(), File::create("/dev/full")?);
-    let before = guard.output().try_clone()?;
-    // SAFETY: the calls have no pointers.
-    unsafe { dup2(full.as_raw_fd(), output) };
-    let errno = continue_after("sane")?;
-    // SAFETY: as above.
-    unsafe { dup2(before.as_raw_fd(), output) };
+    let full = File::create("/dev/full")?;
+    let errno = unix::with_output(&full, || continue_after("sane"))??;
     continue_after("sane")?;
     print(&format!("q ends, errno {errno}"))?;
     read(&guard)

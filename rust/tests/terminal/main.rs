@@ -18,6 +18,9 @@ mod port {
 mod source;
 #[cfg(feature = "tokio")]
 mod stream;
+#[path = "../../examples/relay/unix.rs"]
+#[allow(dead_code)] // what the relay uses
+mod system;
 mod unix;
 
 use hedrugal::terminal::{restore, Modes, Terminal};
@@ -95,7 +98,6 @@ fn main() -> io::Result<ExitCode> {
             source,
             command: &command,
             asks: words.contains(&"asks"),
-            is_back: false,
             told: None,
         };
         program.print("begun")?;

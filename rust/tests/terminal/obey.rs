@@ -3,7 +3,6 @@ use super::{lines, malloc, unix, Source};
 use hedrugal::terminal::Terminal;
 use hedrugal::{Event, KeyCode, KeyEventKind, KittyModifiers, ReportedKey, Size};
 use std::io::{self, Write};
-use std::mem;
 use std::process::Command;
 use std::thread::sleep;
 use std::time::Duration;
@@ -25,9 +24,8 @@ pub enum Obeyed {
 pub struct Program<'a> {
     pub source: Source,
     pub command: &'a str,
-    // Whether it asks once it is told that the terminal is back, and whether the size comes next.
+    // Whether it asks once it is told the size, which comes last when the terminal is back.
     pub asks: bool,
-    pub is_back: bool,
     // The size that was told when the terminal was lent no longer.
     pub told: Option<Size>,
 }
@@ -65,12 +63,8 @@ impl Program<'_> {
             return Ok(Obeyed::GoesOn);
         }
         self.print(&lines::line(event))?;
-        match event {
-            Event::Resumed => self.is_back = true,
-            Event::Resized(_) if mem::take(&mut self.is_back) && self.asks => {
-                self.ask(POSITION, Duration::ZERO)?;
-            }
-            _ => {}
+        if self.asks && matches!(event, Event::Resized(_)) {
+            self.ask(POSITION, Duration::ZERO)?;
         }
         character(event).map_or(Ok(Obeyed::GoesOn), |key| self.obey(key))
     }

@@ -1,10 +1,11 @@
 // The loops that a word names: how a program waits for the events of its terminal.
 #[cfg(feature = "tokio")]
 use super::stream::Stream;
-use super::unix;
+use super::system::{poll_all, POLLIN};
 use hedrugal::terminal::Terminal;
 use hedrugal::Event;
 use std::io;
+use std::os::fd::AsRawFd;
 use std::time::Duration;
 
 pub enum Source {
@@ -54,30 +55,30 @@ impl Source {
         match self {
             Source::Plain(it) => it.read(),
             Source::Own(it) => next_by(it, |it| {
-                unix::poll_both(it.descriptors(), it.timeout());
-                Ok(())
+                let both = it.descriptors().map(|it| (it.as_raw_fd(), POLLIN));
+                poll_all(both, it.timeout()).map(|_| ())
             }),
             #[cfg(feature = "tokio")]
             Source::Tokio(it) => it.next(),
             #[cfg(feature = "mio")]
             Source::Mio(it, poll) => {
                 let mut ready = mio::Events::with_capacity(8);
-                next_by(it, |it| match poll.poll(&mut ready, it.timeout()) {
-                    Err(error) if error.kind() != io::ErrorKind::Interrupted => Err(error),
-                    _ => Ok(()),
-                })
+                next_by(it, |it| poll.poll(&mut ready, it.timeout()))
             }
         }
     }
 }
 
-// The next event of a loop that waits so.
+// The next event of a loop that waits so. A signal may interrupt it.
 fn next_by(
     terminal: &mut Terminal,
     mut wait: impl FnMut(&Terminal) -> io::Result<()>,
 ) -> io::Result<Option<Event>> {
     while !terminal.poll(Duration::ZERO)? {
-        wait(terminal)?;
+        match wait(terminal) {
+            Err(error) if error.kind() != io::ErrorKind::Interrupted => return Err(error),
+            _ => {}
+        }
     }
     terminal.read()
 }

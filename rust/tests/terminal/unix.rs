@@ -1,21 +1,12 @@
 // The calls of Unix that std doesn't have.
-use std::ffi::{c_int, c_short, c_ulong};
+use std::ffi::c_int;
 use std::fs::File;
 use std::io;
-use std::os::fd::{AsFd, AsRawFd, BorrowedFd};
+use std::os::fd::{AsFd, AsRawFd};
 use std::os::unix::process::ExitStatusExt;
 use std::process::ExitStatus;
-use std::time::Duration;
 
 const SIGUSR1: c_int = 10;
-const POLLIN: c_short = 1;
-
-#[repr(C)]
-struct PollFd {
-    descriptor: c_int,
-    events: c_short,
-    ready: c_short,
-}
 
 extern "C" {
     fn fork() -> c_int;
@@ -23,7 +14,6 @@ extern "C" {
     fn pause() -> c_int;
     fn signal(number: c_int, handler: extern "C" fn(c_int)) -> usize;
     fn siginterrupt(number: c_int, interrupts: c_int) -> c_int;
-    fn poll(descriptors: *mut PollFd, count: c_ulong, milliseconds: c_int) -> c_int;
     fn dup2(from: c_int, to: c_int) -> c_int;
 }
 
@@ -62,18 +52,6 @@ pub fn interrupt_by_sigusr1() {
         signal(SIGUSR1, note);
         siginterrupt(SIGUSR1, 1);
     }
-}
-
-/// Waits until one of them can be read, a signal comes, or the time is over.
-pub fn poll_both(descriptors: [BorrowedFd<'_>; 2], time: Option<Duration>) {
-    let milliseconds = time.map_or(-1, |it| it.as_micros().div_ceil(1000) as c_int);
-    let mut polled = descriptors.map(|it| PollFd {
-        descriptor: it.as_raw_fd(),
-        events: POLLIN,
-        ready: 0,
-    });
-    // SAFETY: there are two.
-    unsafe { poll(polled.as_mut_ptr(), 2, milliseconds) };
 }
 
 /// Calls a function while this is standard output.

@@ -11,14 +11,10 @@ use std::time::Duration;
 
 // A value and its JSON, in both directions.
 fn check<T: Serialize + DeserializeOwned + PartialEq + Debug>(value: T, json: &str) {
-    assert_eq!(
-        serde_json::to_string(&value).expect("JSON is written"),
-        json
-    );
-    assert_eq!(
-        serde_json::from_str::<T>(json).expect("JSON is read"),
-        value
-    );
+    let written = serde_json::to_string(&value).expect("JSON is written");
+    assert_eq!(written, json);
+    let read: T = serde_json::from_str(json).expect("JSON is read");
+    assert_eq!(read, value);
 }
 
 const BOTH: Modifiers = Modifiers::SHIFT.union(Modifiers::CTRL);
@@ -29,10 +25,8 @@ fn writes_and_reads_flags() {
     check(Modifiers::NONE, "\"\"");
     check(Modifiers::from_bits_retain(0x8002), "\"SHIFT | 0x8000\"");
     check(MouseButtons::VERT_WHEEL, "\"VERT_WHEEL\"");
-    check(
-        KittyKeyboardFlags::REPORT_EVENT_TYPES,
-        "\"REPORT_EVENT_TYPES\"",
-    );
+    let types = KittyKeyboardFlags::REPORT_EVENT_TYPES;
+    check(types, "\"REPORT_EVENT_TYPES\"");
     assert!(serde_json::from_str::<Modifiers>("\"SHFT\"").is_err());
     assert!(serde_json::from_str::<Modifiers>("2").is_err());
 }
@@ -70,10 +64,8 @@ fn writes_and_reads_events() {
         }),
         r#"{"PixelMouse":{"x_pixels":30,"y_pixels":40,"mouse_buttons":"LEFT","modifiers":"SHIFT | CTRL"}}"#,
     );
-    check(
-        InputEvent::Resized { cols: 80, rows: 24 },
-        r#"{"Resized":{"cols":80,"rows":24}}"#,
-    );
+    let resized = InputEvent::Resized { cols: 80, rows: 24 };
+    check(resized, r#"{"Resized":{"cols":80,"rows":24}}"#);
     check(InputEvent::Paste("text".to_string()), r#"{"Paste":"text"}"#);
     check(InputEvent::Wake, "\"Wake\"");
 }
@@ -96,10 +88,8 @@ fn writes_and_reads_policies() {
     ] {
         assert_eq!(json[limit].to_string(), wanted, "{limit}");
     }
-    check(
-        policy,
-        &serde_json::to_string(&policy).expect("JSON is written"),
-    );
+    let json = serde_json::to_string(&policy).expect("JSON is written");
+    check(policy, &json);
 }
 
 #[test]
@@ -117,13 +107,9 @@ fn writes_and_reads_extended_events() {
         r#"{"Key":{"key":{"Functional":57428},"modifiers":"SHIFT | NUM_LOCK","kind":"Release","shifted":"A","base":null,"text":""}}"#,
     );
     check(Event::Paste("text".to_string()), r#"{"Paste":"text"}"#);
-    check(
-        Event::CursorPosition {
-            row: 24,
-            column: 80,
-        },
-        r#"{"CursorPosition":{"row":24,"column":80}}"#,
-    );
+    let (row, column) = (24, 80);
+    let position = Event::CursorPosition { row, column };
+    check(position, r#"{"CursorPosition":{"row":24,"column":80}}"#);
     check(
         Event::Mouse(MouseReport {
             x: 3,
@@ -144,21 +130,13 @@ fn writes_and_reads_extended_events() {
         }),
         r#"{"Resized":{"columns":80,"rows":24,"width":0,"height":0}}"#,
     );
-    check(
-        Event::KeyboardFlags(KittyKeyboardFlags::REPORT_EVENT_TYPES),
-        r#"{"KeyboardFlags":"REPORT_EVENT_TYPES"}"#,
-    );
+    let flags = Event::KeyboardFlags(KittyKeyboardFlags::REPORT_EVENT_TYPES);
+    check(flags, r#"{"KeyboardFlags":"REPORT_EVENT_TYPES"}"#);
     check(Event::Osc(b"1;".to_vec()), r#"{"Osc":[49,59]}"#);
     let (kind, bytes) = (StringKind::Dcs, b">|".to_vec());
-    check(
-        Event::StringPart {
-            kind,
-            bytes: bytes.clone(),
-        },
-        r#"{"StringPart":{"kind":"Dcs","bytes":[62,124]}}"#,
-    );
-    check(
-        Event::StringCut { kind, bytes },
-        r#"{"StringCut":{"kind":"Dcs","bytes":[62,124]}}"#,
-    );
+    let cut = Event::StringCut { kind, bytes };
+    check(cut, r#"{"StringCut":{"kind":"Dcs","bytes":[62,124]}}"#);
+    let bytes = b">|".to_vec();
+    let part = Event::StringPart { kind, bytes };
+    check(part, r#"{"StringPart":{"kind":"Dcs","bytes":[62,124]}}"#);
 }

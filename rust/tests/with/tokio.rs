@@ -28,10 +28,9 @@ fn decoder() -> EventDecoder {
 fn decode(decoder: &mut EventDecoder, bytes: &[u8], is_end: bool) -> Vec<Event> {
     let mut bytes = BytesMut::from(bytes);
     let next = || {
-        let decoded = if is_end {
-            decoder.decode_eof(&mut bytes)
-        } else {
-            decoder.decode(&mut bytes)
+        let decoded = match is_end {
+            true => decoder.decode_eof(&mut bytes),
+            false => decoder.decode(&mut bytes),
         };
         decoded.expect("memory is granted")
     };
@@ -39,28 +38,23 @@ fn decode(decoder: &mut EventDecoder, bytes: &[u8], is_end: bool) -> Vec<Event> 
 }
 
 fn names(events: &[Event]) -> Vec<String> {
-    events
-        .iter()
-        .map(|event| match event.press() {
-            Some(press) => press.to_string(),
-            None => format!("{event:?}"),
-        })
-        .collect()
+    let name = |event: &Event| match event.press() {
+        Some(press) => press.to_string(),
+        None => format!("{event:?}"),
+    };
+    events.iter().map(name).collect()
 }
 
-fn wanted() -> Vec<String> {
-    [
-        "a",
-        "up",
-        "Paste(\"text\")",
-        "CursorPosition { row: 24, column: 80 }",
-        "Osc([49, 49, 59, 114, 103, 98, 58, 49, 47, 50, 47, 51])",
-        "é",
-        "escape",
-    ]
-    .map(String::from)
-    .to_vec()
-}
+// What is sent, in these words.
+const WANTED: [&str; 7] = [
+    "a",
+    "up",
+    "Paste(\"text\")",
+    "CursorPosition { row: 24, column: 80 }",
+    "Osc([49, 49, 59, 114, 103, 98, 58, 49, 47, 50, 47, 51])",
+    "é",
+    "escape",
+];
 
 #[test]
 fn decodes_however_bytes_are_cut() {
@@ -71,7 +65,7 @@ fn decodes_however_bytes_are_cut() {
             events.extend(decode(&mut decoder, bytes, false));
         }
         events.extend(decode(&mut decoder, b"", true));
-        assert_eq!(names(&events), wanted(), "reads of {size}");
+        assert_eq!(names(&events), WANTED, "reads of {size}");
     }
 }
 
@@ -123,10 +117,11 @@ fn reads_as_it_is_told() {
         (EraseByte::Delete, "ctrl+h", "backspace"),
         (EraseByte::Backspace, "backspace", "ctrl+backspace"),
     ] {
-        for (newline, ten) in [
+        let tens = [
             (NewlineByte::CtrlJ, "ctrl+j"),
             (NewlineByte::Enter, "enter"),
-        ] {
+        ];
+        for (newline, ten) in tens {
             let reading = Reading {
                 erase,
                 newline,

@@ -4,8 +4,9 @@ use super::keys::{
     modified_keypad_key_of, other_key_of, rxvt_key_of,
 };
 use super::strings::event_of_string;
-use crate::port::plain::buttons_of;
-use hedrugal::input::{KeyCode, Modifiers, MouseButtons};
+use super::NONE;
+use crate::port::plain::{buttons_of, modifiers_of_code};
+use hedrugal::input::{KeyCode, MouseButtons};
 use hedrugal::{
     Event, KeyEventKind, KeyReport, KittyKeyboardFlags, KittyModifiers, MouseKind, MouseReport,
     ReportedKey, Size,
@@ -48,15 +49,14 @@ struct Manner {
 }
 
 const PRESSED: Manner = Manner {
-    modifiers: KittyModifiers::NONE,
+    modifiers: NONE,
     kind: KeyEventKind::Press,
 };
 
 // The bits of a number that is one more than they are.
 fn modifiers_before(number: u32) -> Option<KittyModifiers> {
-    Some(KittyModifiers::from_bits_retain(
-        u8::try_from(number - 1).ok()?,
-    ))
+    let bits = u8::try_from(number - 1).ok()?;
+    Some(KittyModifiers::from_bits_retain(bits))
 }
 
 // mods: one more than the bits. Missing, it is 1.
@@ -194,9 +194,7 @@ fn rxvt_key(t: &[u8]) -> Option<Event> {
         b'$' => KittyModifiers::SHIFT,
         _ => return None,
     };
-    let kind = KeyEventKind::Press;
-    let report = report_of(rxvt_key_of(number)?, Manner { modifiers, kind });
-    Some(Event::Key(report))
+    Some(Event::Key(pressed(rxvt_key_of(number)?, modifiers)))
 }
 
 // The line of the keys that end in `~`.
@@ -215,14 +213,11 @@ fn other_key(t: &[u8]) -> Option<KeyReport> {
     let body = t.strip_prefix(b"27;")?.strip_suffix(b"~")?;
     let [m, c] = fields(body)?;
     let (m, c) = (number_up_to(m, 256)?, scalar_of(c)?);
-    let manner = Manner {
-        modifiers: modifiers_before(m)?,
-        kind: KeyEventKind::Press,
-    };
-    let is_shifted = manner.modifiers.contains(KittyModifiers::SHIFT) && !c.is_control();
+    let modifiers = modifiers_before(m)?;
+    let is_shifted = modifiers.contains(KittyModifiers::SHIFT) && !c.is_control();
     Some(KeyReport {
         shifted: is_shifted.then_some(c),
-        ..report_of(other_key_of(c), manner)
+        ..pressed(other_key_of(c), modifiers)
     })
 }
 
@@ -254,9 +249,8 @@ fn cursor_position(t: &[u8]) -> Option<Event> {
 fn keyboard_flags(t: &[u8]) -> Option<Event> {
     let flags = short_number(t.strip_prefix(b"?")?.strip_suffix(b"u")?)?;
     let bits = u8::try_from(flags).ok()?.into();
-    Some(Event::KeyboardFlags(KittyKeyboardFlags::from_bits_retain(
-        bits,
-    )))
+    let flags = KittyKeyboardFlags::from_bits_retain(bits);
+    Some(Event::KeyboardFlags(flags))
 }
 
 // The line of sizes.
@@ -268,15 +262,6 @@ fn resize(t: &[u8]) -> Option<Event> {
         height: short_number(height)?,
         width: short_number(width)?,
     }))
-}
-
-// The modifiers of a code.
-fn held_with(code: u16) -> Modifiers {
-    let mut modifiers = Modifiers::NONE;
-    modifiers.set(Modifiers::SHIFT, code & 4 != 0);
-    modifiers.set(Modifiers::ALT, code & 8 != 0);
-    modifiers.set(Modifiers::CTRL, code & 16 != 0);
-    modifiers
 }
 
 // How a mouse report is written. Only SGR's tell which button was released.
@@ -313,7 +298,7 @@ fn mouse_report(code: u16, x: u16, y: u16, form: Form) -> Option<Event> {
     Some(Event::Mouse(MouseReport {
         x,
         y,
-        modifiers: held_with(code),
+        modifiers: modifiers_of_code(code),
         buttons,
         kind,
         button: number,
@@ -333,13 +318,8 @@ pub fn sgr_report(text: &[u8]) -> Option<Event> {
         b'm' => Form::Released,
         _ => return None,
     };
-    let [code, x, y] = fields(body)?;
-    mouse_report(
-        short_number(code)?,
-        short_number(x)?,
-        short_number(y)?,
-        form,
-    )
+    let [code, x, y] = fields(body)?.map(short_number);
+    mouse_report(code?, x?, y?, form)
 }
 
 // The line of side buttons in SGR reports.
@@ -351,8 +331,8 @@ fn sgr_side_button(t: &[u8]) -> Option<Event> {
 
 // The line of urxvt's mouse reports.
 fn urxvt_report(t: &[u8]) -> Option<Event> {
-    let [b, x, y] = fields(t.strip_suffix(b"M")?)?;
-    mouse_event(short_number(b)?, short_number(x)?, short_number(y)?)
+    let [b, x, y] = fields(t.strip_suffix(b"M")?)?.map(short_number);
+    mouse_event(b?, x?, y?)
 }
 
 // The line of X10 mouse reports. Each byte is at least 32.
@@ -366,7 +346,7 @@ fn x10_report(t: &[u8]) -> Option<Event> {
 // The line of the Linux console's keys.
 fn console_key(t: &[u8]) -> Option<Event> {
     match t {
-        [b'[', letter] => Some(Event::Key(report_of(console_key_of(*letter)?, PRESSED))),
+        [b'[', letter] => Some(Event::Key(pressed(console_key_of(*letter)?, NONE))),
         _ => None,
     }
 }
@@ -383,18 +363,11 @@ fn back_tab(t: &[u8]) -> Option<Event> {
 
 // The lines of a letter after a digit, and of `G`.
 fn short_key(t: &[u8]) -> Option<Event> {
-    let report = match t {
-        [m @ b'2'..=b'8', letter] => {
-            let manner = Manner {
-                modifiers: modifiers_of(&[*m])?,
-                kind: KeyEventKind::Press,
-            };
-            report_of(key_of_short_letter(*letter)?, manner)
-        }
-        [b'G'] => report_of(ReportedKey::Named(KeyCode::KeyPadBegin), PRESSED),
+    Some(Event::Key(match t {
+        [m @ b'2'..=b'8', letter] => pressed(key_of_short_letter(*letter)?, modifiers_of(&[*m])?),
+        [b'G'] => pressed(ReportedKey::Named(KeyCode::KeyPadBegin), NONE),
         _ => return None,
-    };
-    Some(Event::Key(report))
+    }))
 }
 
 // The first line that fits, while a question for the cursor is open or not.
@@ -422,12 +395,8 @@ fn event_of_control(t: &[u8], is_asked: bool) -> Event {
 
 // The key behind ESC `O` and a number.
 fn modified_key(m: u8, letter: u8) -> Option<Event> {
-    let manner = Manner {
-        modifiers: modifiers_of(&[m])?,
-        kind: KeyEventKind::Press,
-    };
-    let report = report_of(modified_keypad_key_of(letter)?, manner);
-    Some(Event::Key(report))
+    let key = modified_keypad_key_of(letter)?;
+    Some(Event::Key(pressed(key, modifiers_of(&[m])?)))
 }
 
 // The event of a text of a form, while a question for the cursor is open or not.
@@ -440,7 +409,7 @@ pub fn event_of(text: &[u8], is_asked: bool) -> Option<Event> {
         return Some(event_of_control(t, is_asked));
     }
     match text {
-        [0x1b, b'O', letter] => Some(Event::Key(report_of(keypad_key_of(*letter)?, PRESSED))),
+        [0x1b, b'O', letter] => Some(Event::Key(pressed(keypad_key_of(*letter)?, NONE))),
         [0x1b, b'O', m, letter] | [0x1b, b'O', b'0' | b'1', b';', m, letter] => {
             modified_key(*m, *letter)
         }

@@ -11,9 +11,17 @@ use hedrugal::{KeyNameErrorKind as Fault, KittyModifiers as Held, ReportedKey};
 // What is wrong, and the byte where that part starts.
 pub type Wrong = (Fault, usize);
 
+type Row = (
+    Held,
+    &'static str,
+    &'static [&'static str],
+    &'static str,
+    &'static str,
+);
+
 // The modifiers, in the order in which they are printed: each by its word, by its further words, by the
 // letters of Emacs and by those of Vim.
-const MODIFIERS: &[(Held, &str, &[&str], &str, &str)] = &[
+const MODIFIERS: &[Row] = &[
     (Held::SUPER, "super", &["cmd", "win"], "s", "d"),
     (Held::HYPER, "hyper", &[], "H", ""),
     (Held::META, "meta", &[], "", "t"),
@@ -31,27 +39,10 @@ static WORDS: Keys = Keys::new(
      kpequal: = ctrl: Control option: Alt cmd: Super win: Super",
 );
 
-// The characters that are printed as they are, but for those of ASCII.
-const SHOWN: &[(u32, u32)] = &[
-    (0xa1, 0xac),
-    (0xae, 0x2ff),
-    (0x370, 0x377),
-    (0x37a, 0x37f),
-    (0x384, 0x38a),
-    (0x38c, 0x38c),
-    (0x38e, 0x3a1),
-    (0x3a3, 0x482),
-    (0x48a, 0x52f),
-    (0x5d0, 0x5ea),
-    (0x620, 0x64a),
-    (0x10d0, 0x10ff),
-    (0x1e00, 0x1eff),
-    (0x20a0, 0x20bf),
-    (0x3041, 0x3096),
-    (0x30a1, 0x30fa),
-    (0x4e00, 0x9ffc),
-    (0xac00, 0xd7a3),
-];
+// The characters that are printed as they are, but for those of ASCII: the first and the last of each range.
+const SHOWN: &str = "\u{a1}\u{ac}\u{ae}\u{2ff}\u{370}\u{377}\u{37a}\u{37f}\u{384}\u{38a}\u{38c}\u{38c}\
+    \u{38e}\u{3a1}\u{3a3}\u{482}\u{48a}\u{52f}\u{5d0}\u{5ea}\u{620}\u{64a}\u{10d0}\u{10ff}\u{1e00}\u{1eff}\
+    \u{20a0}\u{20bf}\u{3041}\u{3096}\u{30a1}\u{30fa}\u{4e00}\u{9ffc}\u{ac00}\u{d7a3}";
 
 // The keys that have a name of their own: all but characters, function keys and Windows' Menu.
 fn named_keys() -> impl Iterator<Item = KeyCode> {
@@ -157,24 +148,23 @@ fn with(held: Held, modifier: Held, at: usize) -> Result<Held, Wrong> {
     Ok(held.union(modifier))
 }
 
+// The modifier of a row.
+fn modifier_of(is: impl Fn(&Row) -> bool) -> Option<Held> {
+    let row = MODIFIERS.iter().find(|row| is(row));
+    row.map(|row| row.0)
+}
+
 fn of_word(word: &str) -> Option<Held> {
     let is = |known: &&str| known.eq_ignore_ascii_case(word);
-    let row = MODIFIERS
-        .iter()
-        .find(|row| is(&row.1) || row.2.iter().any(is));
-    row.map(|row| row.0)
+    modifier_of(|row| is(&row.1) || row.2.iter().any(is))
 }
 
 fn of_emacs_letter(letter: char) -> Option<Held> {
-    let row = MODIFIERS.iter().find(|row| row.3.contains(letter));
-    row.map(|row| row.0)
+    modifier_of(|row| row.3.contains(letter))
 }
 
 fn of_vim_letter(letter: char) -> Option<Held> {
-    let row = MODIFIERS
-        .iter()
-        .find(|row| row.4.contains(letter.to_ascii_lowercase()));
-    row.map(|row| row.0)
+    modifier_of(|row| row.4.contains(letter.to_ascii_lowercase()))
 }
 
 // The letters in front of a name, each with `-` behind it: what they stand for, and where the name is.
@@ -204,14 +194,10 @@ fn in_brackets(text: &str) -> Option<&str> {
 fn vim_key(inner: &str) -> Result<Press, Wrong> {
     let (held, at) = letters(inner, of_vim_letter)?;
     let name = &inner[at..];
-    if name.is_empty() {
-        return Err((Fault::MissingKey, at));
-    }
     // A character stands only behind a letter.
-    let key = if at == 0 {
-        spelled(name)
-    } else {
-        any_name(name)
+    let key = match at {
+        0 => spelled(name),
+        _ => any_name(name),
     };
     press(key, held).map_err(|fault| (fault, at))
 }
@@ -220,9 +206,6 @@ fn vim_key(inner: &str) -> Result<Press, Wrong> {
 fn emacs_key(text: &str) -> Result<Press, Wrong> {
     let (held, at) = letters(text, of_emacs_letter)?;
     let name = &text[at..];
-    if name.is_empty() {
-        return Err((Fault::MissingKey, at));
-    }
     match in_brackets(name) {
         Some(inner) => press(spelled(inner), held).map_err(|fault| (fault, at + 1)),
         None => press(any_name(name), held).map_err(|fault| (fault, at)),
@@ -235,12 +218,10 @@ fn worded_key(text: &str) -> Result<Press, Wrong> {
     loop {
         let rest = &text[at..];
         // A separator has a word in front of it.
-        let separator = rest
-            .char_indices()
-            .skip(1)
-            .find(|(_, c)| matches!(c, '+' | '-'));
-        let Some((end, _)) = separator.filter(|(end, _)| one_character(&rest[..*end]).is_none())
-        else {
+        let mut behind = rest.char_indices().skip(1);
+        let separator = behind.find(|(_, c)| matches!(c, '+' | '-'));
+        let is_word = |end: &usize| one_character(&rest[..*end]).is_none();
+        let Some(end) = separator.map(|(end, _)| end).filter(is_word) else {
             break;
         };
         let Some(modifier) = of_word(&rest[..end]) else {
@@ -303,9 +284,8 @@ fn printed_key(key: ReportedKey) -> String {
         ReportedKey::Named(Char(' ')) => "space".to_string(),
         ReportedKey::Named(Char(c)) => {
             let number = u32::from(c);
-            let is_shown = SHOWN
-                .iter()
-                .any(|range| (range.0..=range.1).contains(&number));
+            let ends: Vec<char> = SHOWN.chars().collect();
+            let is_shown = ends.chunks(2).any(|it| (it[0]..=it[1]).contains(&c));
             if c.is_ascii_graphic() || is_shown {
                 c.to_string()
             } else {

@@ -1,5 +1,6 @@
 // What is sent for mouse reports and pastes. It follows docs/SENDERS.md sentence by sentence, and shares nothing
 // with the library but the types of reports.
+use crate::port::names::named;
 use hedrugal::{Modifiers, MouseButton, MouseEncoding, MouseError, MouseTracking, SentMouse};
 use Action::{Drag, Move, Press, Release};
 
@@ -12,55 +13,28 @@ enum Action {
     Move,
 }
 
-// The names of the numbers of the C header.
-pub const TRACKINGS: &[(&str, MouseTracking)] = &[
-    ("X10", MouseTracking::X10),
-    ("NORMAL", MouseTracking::Normal),
-    ("BUTTON", MouseTracking::Button),
-    ("ANY", MouseTracking::Any),
-];
+pub const TRACKINGS: &[(&str, MouseTracking)] = named![MouseTracking: X10 Normal Button Any];
 
-pub const ENCODINGS: &[(&str, MouseEncoding)] = &[
-    ("DEFAULT", MouseEncoding::Default),
-    ("URXVT", MouseEncoding::Urxvt),
-    ("SGR", MouseEncoding::Sgr),
-];
+pub const ENCODINGS: &[(&str, MouseEncoding)] = named![MouseEncoding: Default Urxvt Sgr];
 
-pub const BUTTONS: &[(&str, MouseButton)] = &[
-    ("NONE", MouseButton::None),
-    ("BUTTON1_PRESS", MouseButton::Button1Press),
-    ("BUTTON2_PRESS", MouseButton::Button2Press),
-    ("BUTTON3_PRESS", MouseButton::Button3Press),
-    ("BUTTON4_PRESS", MouseButton::Button4Press),
-    ("BUTTON5_PRESS", MouseButton::Button5Press),
-    ("BUTTON6_PRESS", MouseButton::Button6Press),
-    ("BUTTON7_PRESS", MouseButton::Button7Press),
-    ("BUTTON1_RELEASE", MouseButton::Button1Release),
-    ("BUTTON2_RELEASE", MouseButton::Button2Release),
-    ("BUTTON3_RELEASE", MouseButton::Button3Release),
-    ("BUTTON4_RELEASE", MouseButton::Button4Release),
-    ("BUTTON5_RELEASE", MouseButton::Button5Release),
-    ("BUTTON6_RELEASE", MouseButton::Button6Release),
-    ("BUTTON7_RELEASE", MouseButton::Button7Release),
-    ("BUTTON1_DRAG", MouseButton::Button1Drag),
-    ("BUTTON2_DRAG", MouseButton::Button2Drag),
-    ("BUTTON3_DRAG", MouseButton::Button3Drag),
+pub const BUTTONS: &[(&str, MouseButton)] = named![MouseButton: None
+    Button1Press Button2Press Button3Press Button4Press Button5Press Button6Press Button7Press
+    Button1Release Button2Release Button3Release Button4Release Button5Release Button6Release
+    Button7Release Button1Drag Button2Drag Button3Drag
 ];
 
 // What the name of a button says, and the button's code: 0 to 2 of the first three, 64 to 67 of the wheels.
 fn meaning(button: MouseButton) -> (Action, u8) {
     let row = BUTTONS.iter().find(|(_, it)| *it == button);
     let name = row.expect("each button has a name").0;
-    let Some((number, action)) = name
-        .strip_prefix("BUTTON")
-        .and_then(|it| it.split_once('_'))
-    else {
+    let Some(said) = name.strip_prefix("Button") else {
         return (Move, 3);
     };
+    let (number, action) = said.split_at(1);
     let code = [0, 1, 2, 64, 65, 66, 67][number.parse::<usize>().expect(name) - 1];
     let action = match action {
-        "PRESS" => Press,
-        "RELEASE" => Release,
+        "Press" => Press,
+        "Release" => Release,
         _ => Drag,
     };
     (action, code)

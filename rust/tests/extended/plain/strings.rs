@@ -1,5 +1,5 @@
 // 5 to 7: strings, and what comes of them.
-use super::ESC;
+use crate::port::plain::ESC;
 use hedrugal::{Event, StringKind};
 
 const ST: &[u8] = b"\x1b\\";

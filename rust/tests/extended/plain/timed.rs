@@ -1,7 +1,7 @@
 // A slow parser with a clock: of each call what it answers. It keeps the times of all calls, and sums the clock's steps
 // anew whenever a limit is asked for. What bytes mean it asks the plain reader.
-use super::{PlainReader, END, START};
-use crate::port::plain::begins_character;
+use super::PlainReader;
+use crate::port::plain::{begins_character, END, START};
 use hedrugal::{Dialect, Event, Reading, Waiting};
 
 // Limits in milliseconds, by their names.
@@ -110,10 +110,8 @@ impl PlainTimed {
         let name = limit_of(kind, self.text.len());
         let row = self.limits.iter().find(|row| Some(row.0) == name);
         let limit = row.and_then(|row| row.1);
-        let more = match kind {
-            Waiting::String => self.text.len(),
-            _ => 0,
-        };
+        let is_string = kind == Waiting::String;
+        let more = if is_string { self.text.len() } else { 0 };
         let since = match kind {
             Waiting::Sequence | Waiting::String | Waiting::Character => {
                 self.came[0].max(self.told_at)

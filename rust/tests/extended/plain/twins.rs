@@ -1,17 +1,12 @@
 // A slow reader of twins: what is read in place of a key. It follows the tables of the page of the crate
 // termwiz_binding_laws line by line.
+use super::keys::listed;
 use super::presses::{is_control, main_key, said_of, Press, Said};
+use super::{pressed, ALT, CTRL, NONE, SHIFT};
+use crate::port::lines::Keys;
 use hedrugal::input::KeyCode::{self, Char, Function};
 use hedrugal::input::KittyKeyboardFlags as Flags;
 use hedrugal::{KeyEventKind, KeyReport, KittyModifiers as Held, ReportedKey};
-
-const NONE: Held = Held::NONE;
-
-const SHIFT: Held = Held::SHIFT;
-
-const ALT: Held = Held::ALT;
-
-const CTRL: Held = Held::CTRL;
 
 const SUPER: Held = Held::SUPER;
 
@@ -57,19 +52,11 @@ const TOLD_IN_CSI_U: &str = "im[@{";
 
 const HAS_CONTROL: &str = " \\]^_abcdefghijklmnopqrstuvwxyz";
 
-const EDIT_KEYS: &[(KeyCode, KeyCode)] = &[
-    (KeyCode::Numpad0, KeyCode::Insert),
-    (KeyCode::Numpad1, KeyCode::End),
-    (KeyCode::Numpad2, KeyCode::DownArrow),
-    (KeyCode::Numpad3, KeyCode::PageDown),
-    (KeyCode::Numpad4, KeyCode::LeftArrow),
-    (KeyCode::Numpad5, KeyCode::KeyPadBegin),
-    (KeyCode::Numpad6, KeyCode::RightArrow),
-    (KeyCode::Numpad7, KeyCode::Home),
-    (KeyCode::Numpad8, KeyCode::UpArrow),
-    (KeyCode::Numpad9, KeyCode::PageDown),
-    (KeyCode::Decimal, KeyCode::Delete),
-];
+static EDIT_KEYS: Keys = Keys::new(
+    "Numpad0: Insert Numpad1: End Numpad2: DownArrow Numpad3: PageDown Numpad4: LeftArrow \
+     Numpad5: KeyPadBegin Numpad6: RightArrow Numpad7: Home Numpad8: UpArrow Numpad9: PageDown \
+     Decimal: Delete",
+);
 
 // The key that a table has for Ctrl and a character, with ALT too if that is held.
 fn controlled(tables: &[&[Row]], c: char, held: Held) -> Option<Key> {
@@ -138,8 +125,8 @@ fn twin_of_name(key: KeyCode, held: Held, modes: Modes) -> Key {
     if !is_told {
         return (key, held.intersection(ALT));
     }
-    let edit = EDIT_KEYS.iter().find(|row| row.0 == key);
-    (edit.map_or(key, |row| row.1), held.difference(SUPER))
+    let edit = listed(&EDIT_KEYS, format!("{key:?}"));
+    (edit.unwrap_or(key), held.difference(SUPER))
 }
 
 // What the extended dialect reads of a key that `KeyCode::encode` sends.
@@ -191,12 +178,9 @@ pub fn port_twin(key: KeyCode, held: Held, modes: Modes) -> Key {
 // The press of a key with modifiers, and what it types with Shift.
 fn press_of(key: ReportedKey, held: Held, shifted: Option<char>, text: &str) -> Option<Press> {
     let said = said_of(&KeyReport {
-        key,
-        modifiers: held,
-        kind: KeyEventKind::Press,
         shifted,
-        base: None,
         text: text.to_string(),
+        ..pressed(key, held)
     });
     match said {
         Said::Press(press) => Some(press),
