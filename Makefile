@@ -49,7 +49,7 @@ flags: library ## prints what to add to a command that compiles a program in C: 
 	@printf '%q %q\n' '-I$(abspath $(lib))' '$(abspath $(lib)/libhedrugal.a)'
 
 clean: ## removes what was built, but for what the prover keeps in crates/*/out
-	rm -rf out hedrugal-keys rust/target rust/with/target
+	rm -rf out hedrugal-keys rust/target rust/with/target rust/crossterm/target
 
 help: ## prints this
 	@sed -nE 's/^([a-z0-9-]+):[^#]*## (.*)/make \1\t\2/p' Makefile $(wildcard *.mk) | expand -t 22
