@@ -10,7 +10,7 @@ use std::time::Instant;
 const PARSERS: usize = 1000;
 
 // Less than a table, and more than half of one; and more than a parser has beside it.
-const TABLE: usize = 100_000;
+const TABLE: usize = 150_000;
 const PARSER: usize = 1024;
 
 // Each request of the first parser is refused in turn, of one kind and of the other. Nothing is
