@@ -29,13 +29,13 @@ started_by() { # process
         END { for (it in parent) { for (above = it; above != first && above in parent;) above = parent[above]; if (above == first) print it } }'
 }
 
-# Ends this script by a signal, and before it all that a job has started. While they are stopped they start no others.
+# Ends this script by a signal, and before it all that its job has started, if it has one. While they are stopped they start no others.
 # shellcheck disable=SC2086
-end_by() { # signal job
+end_by() { # signal
     local all='' before=none tries
     trap '' INT TERM HUP
     while [ "$all" != "$before" ]; do
-        before=$all all=$(started_by "$2" | sort | tr '\n' ' ')
+        before=$all all=$(started_by "${!:-}" | sort | tr '\n' ' ')
         kill -STOP $all
     done
     kill $all
@@ -46,17 +46,23 @@ end_by() { # signal job
     kill "-$1" $$
 } 2> /dev/null
 
+# A signal ends all that is started from here on. This comes before a job, which else would go on if a signal came right after it.
+catch() {
+    local signal
+    # shellcheck disable=SC2064
+    for signal in INT TERM HUP; do trap "end_by $signal" "$signal"; done
+}
+
 # Waits for the last job, and answers with its status.
 finish() {
-    local signal status=0
-    # shellcheck disable=SC2064
-    for signal in INT TERM HUP; do trap "end_by $signal $!" "$signal"; done
+    local status=0
     wait $! || status=$?
     trap - INT TERM HUP
     return "$status"
 }
 
 run() { # words..
+    catch
     "$@" &
     finish
 }
@@ -102,6 +108,7 @@ part() { # name command
     began=$(date +%s)
     # what make tells the makes below it is not the command's
     unset MAKEFLAGS MFLAGS MAKELEVEL GATE
+    catch
     # the part that takes longest is shown as it goes
     if [ "$1" = ci ]; then
         { time bash -c "$2" 2>&1 < /dev/null | tee "$log"; } 2> "$gate/$1.time" &
@@ -159,6 +166,7 @@ table() { # names..
 
 # Each part of the file of floors has a row, so that no part goes unseen.
 gate() { # command names..
+    catch
     bash -c "$1" &
     finish
     mapfile -t left < <(sed -nE 's/^([a-z0-9-]+) .*/\1/p' "$floors" | grep -vxFf <(printf '%s\n' "${@:2}"))
