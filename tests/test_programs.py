@@ -558,6 +558,9 @@ def test_one_that_is_no_terminal(example):
         done = run_without_terminal([*example("c", "many"), os.ttyname(theirs), other])
         assert done.returncode == 1 and done.stderr.startswith(f"{other}: ".encode())
         assert termios.tcgetattr(theirs) == before
-    assert os.read(ours, 64) == b"\033[?2004h\033[?2004l" * 2
+    written, switched = b"", b"\033[?2004h\033[?2004l" * 2
+    while len(written) < len(switched):
+        written += os.read(ours, 64)
+    assert written == switched
     os.close(ours)
     os.close(theirs)
