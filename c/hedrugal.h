@@ -434,6 +434,14 @@ size_t hed_parser_text(const hed_parser *parser, uint8_t *out, size_t len);
  * has copied a text that is too long to be kept. If there are none or there is no parser, it does nothing. */
 void hed_parser_drop_text(hed_parser *parser);
 
+/* Copies a pasted text, text_len bytes, to out, with LF in the place of each CR and of each CR LF, at most len bytes of it. Terminals send CR for
+ * the end of a line. Every other byte is copied as it is. The rest of out is unchanged.
+ *
+ * Of a paste that is told in parts, join the parts first: a CR at the end of a part and an LF at the start of the next one become two LF.
+ *
+ * Returns the number of all bytes, which is at most text_len. No memory is needed. */
+size_t hed_paste_lines(const uint8_t *text, size_t text_len, uint8_t *out, size_t len);
+
 /* Returns how many milliseconds the program may wait for input, as poll takes it. While events may be next, that is 0: from a call that can bring
  * some, also such as hed_parser_set_parts and hed_parser_set_reading, until hed_parser_next returned HED_NONE. Then it is the time until what is
  * buffered is due, 0 if it is due already. It is -1 if that may wait for ever, nothing is buffered, or there is no parser. The parser is
@@ -1102,6 +1110,25 @@ typedef struct hed_modes {
  * encoding or, with HED_ENCODING_KITTY, kitty_flags have a value or a bit without a name. */
 hed_status hed_encode(uint16_t key, uint32_t detail, uint16_t modifiers, bool is_down, const hed_modes *modes, uint8_t *out, size_t len,
                       size_t *text_len);
+
+/* Writes what a terminal in these modes sends for named presses, one after another, so that a program's keys are tested without a terminal. text is
+ * the name of a chord, text_len bytes of UTF-8, as hed_key_read reads it: `ctrl+x ctrl+s`.
+ *
+ * With HED_ENCODING_KITTY each press is sent as hed_encode_kitty does under kitty_flags, with the text that the press types. A capital is its letter
+ * with Shift, as a keyboard has it, and a sign is a key of its own. Otherwise each press is sent as hed_encode does, with HED_KITTY_MOD_SHIFT, ALT,
+ * CTRL and SUPER as termwiz's bits.
+ *
+ * Many keys send the bytes of another one: `ctrl+i` those of `tab`. What follows an ESC may go on with it: the bytes of `escape x` are those of
+ * `alt+x`. So pass what comes after `escape` in a call of its own, and feed it later.
+ *
+ * Returns HED_OK, HED_NO_MEMORY, or HED_BAD_NUMBER if modes has a number that names nothing, as for hed_encode. *at is 0 then. Otherwise it is one
+ * of these, and *at is a byte of the text:
+ *
+ * - HED_NAME_.. or HED_BAD_TEXT, as hed_key_read returns it, and where the part that is wrong starts.
+ * - HED_REFUSED_KEY, and where the name of the first press starts that sends nothing: a key or a modifier that has no bytes in these modes, as
+ *   `hyper+x` without Kitty's protocol. */
+hed_status hed_send_names(const uint8_t *text, size_t text_len, const hed_modes *modes, uint8_t *out, size_t len, size_t *sent_len,
+                          size_t *at);
 
 /* ---- hedrugal_replies(3): replies of a terminal, and the questions that they answer ---- */
 

@@ -484,21 +484,42 @@ static bool is_mode(const char *word) {
   return len > 0 && !word[len];
 }
 
+static bool are_modes(char *words) {
+  modes = (hed_modes){ 0 };
+  while (words) {
+    char *mode = words;
+    words = cut(mode, "+");
+    if (!is_mode(mode)) return false;
+  }
+  return true;
+}
+
 /* KEY MODIFIERS MODES = "BYTES" or STATUS. A key that is up sends nothing. */
 static bool encodes_key(char *given, char *wanted) {
   static const char *const mods[] = { "",       "SHIFT",     "ALT",        "CTRL",       "SUPER",       "LEFT_ALT", "RIGHT_ALT",
                                       "LEADER", "LEFT_CTRL", "RIGHT_CTRL", "LEFT_SHIFT", "RIGHT_SHIFT", NULL };
-  modes = (hed_modes){ 0 };
-  if (!is_key(word_of(&given), &key, &detail) || !is_set(word_of(&given), mods, &modifiers) || !given) return false;
-  while (given) {
-    char *mode = given;
-    given = cut(mode, "+");
-    if (!is_mode(mode)) return false;
-  }
+  if (!is_key(word_of(&given), &key, &detail) || !is_set(word_of(&given), mods, &modifiers) || !given || !are_modes(given)) return false;
   is_down = true;
   is_written(encode, wanted, false);
   is_down = false;
   is_written(encode, "\"\"", false);
+  return true;
+}
+
+static size_t name_at;
+
+static hed_status send_names(uint8_t *out, size_t room, size_t *len) {
+  name_at = 77;
+  return hed_send_names(bytes.at, bytes.len, &modes, out, room, len, &name_at);
+}
+
+/* MODES "TEXT" = "BYTES" or STATUS PLACE */
+static bool sends_names(char *given, char *wanted) {
+  char *text = cut(given, " "), *place = *wanted == '"' ? NULL : cut(wanted, " ");
+  if (!text || !are_modes(given) || !is_text(text, &bytes)) return false;
+  is_written(send_names, wanted, false);
+  tell("%zu", name_at);
+  is_told(place ? place : "0");
   return true;
 }
 
@@ -570,6 +591,18 @@ static bool writes_paste(char *given, char *safe) {
     tells = way < 2 ? tell_events : tell_arrays;
     reads_written(write_paste, wanted);
   }
+  return true;
+}
+
+static hed_status copy_lines(uint8_t *out, size_t room, size_t *len) {
+  *len = hed_paste_lines(bytes.len > 0 ? bytes.at : NULL, bytes.len, out, room);
+  return HED_OK;
+}
+
+/* "TEXT" = "LINES" */
+static bool copies_lines(char *given, char *lines) {
+  if (!is_text(given, &bytes)) return false;
+  is_written(copy_lines, lines, false);
   return true;
 }
 
@@ -701,9 +734,11 @@ static const struct {
   const char *name;
   bool (*runs)(char *given, char *wanted);
 } forms[] = {
-  { "events.txt", reads_events },    { "runs.txt", makes_runs },    { "presses.txt", makes_presses }, { "names.txt", names_chord },
-  { "bindings.txt", runs_commands }, { "kitty.txt", reports_key },  { "encodings.txt", encodes_key }, { "written.txt", writes_event },
-  { "pastes.txt", writes_paste },    { "mouse.txt", sends_report }, { "replies.txt", reads_reply },   { "timers.txt", tells_time_left },
+  { "events.txt", reads_events },    { "runs.txt", makes_runs },          { "presses.txt", makes_presses },
+  { "names.txt", names_chord },      { "bindings.txt", runs_commands },   { "kitty.txt", reports_key },
+  { "encodings.txt", encodes_key },  { "written.txt", writes_event },     { "pastes.txt", writes_paste },
+  { "mouse.txt", sends_report },     { "replies.txt", reads_reply },      { "timers.txt", tells_time_left },
+  { "sent_names.txt", sends_names }, { "paste_lines.txt", copies_lines },
 };
 
 enum { FORMS = sizeof forms / sizeof *forms };

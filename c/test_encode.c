@@ -116,6 +116,97 @@ static void reads_keys_back(hed_parser *parser) {
   EXPECT(reads_back(parser, (hed_event)KEY_AND_CODES(REPEAT, CTRL, HED_KEY_CHAR, 0x10ffff, HED_NO_CODE, 0xe9), ""));
 }
 
+/* Modes in which the names of keys are sent, and how many names are told as their own press, as another one that sends the same bytes, as one that
+ * sends others (Super, modifyOtherKeys with Shift, newline mode, the menu key that tells F16), and how many aren't sent. */
+static const struct {
+  hed_modes modes;
+  unsigned own, twin, other, unsent;
+} sent_in[] = {
+  { { 0 }, 562, 1120, 4, 8584 },
+  { { .application_cursor_keys = true, .newline_mode = true }, 562, 1100, 24, 8584 },
+  { { .has_modify_other_keys = true, .modify_other_keys = 1 }, 664, 827, 195, 8584 },
+  { { .has_modify_other_keys = true, .modify_other_keys = 2 }, 736, 721, 229, 8584 },
+  { { .encoding = HED_ENCODING_CSI_U }, 679, 897, 110, 8584 },
+  { { .encoding = HED_ENCODING_KITTY }, 8610, 188, 64, 1408 },
+  { { .encoding = HED_ENCODING_KITTY, .kitty_flags = 1 }, 8774, 88, 0, 1408 },
+  { { .encoding = HED_ENCODING_KITTY, .kitty_flags = 5 }, 8774, 88, 0, 1408 },
+  { { .encoding = HED_ENCODING_KITTY, .kitty_flags = 8 }, 8798, 64, 0, 1408 },
+  { { .encoding = HED_ENCODING_KITTY, .kitty_flags = 29 }, 8799, 63, 0, 1408 },
+  { { .encoding = HED_ENCODING_KITTY, .kitty_flags = ALL_FLAGS }, 8799, 63, 0, 1408 },
+};
+static unsigned own, twin, other, unsent;
+
+/* The first press that a parser tells of the bytes, after which nothing more comes. */
+static hed_key_press press_told(hed_parser *parser, const uint8_t *sent, size_t len) {
+  hed_event event = { 0 };
+  hed_key_press press = { 0 };
+  EXPECT(hed_parser_feed(parser, 0, sent, len) == HED_OK);
+  hed_parser_end(parser);
+  EXPECT(hed_parser_next(parser, &event) == HED_OK && hed_parser_press(parser, &event, &press) == HED_OK);
+  while (hed_parser_next(parser, &event) == HED_OK) continue;
+  return press;
+}
+
+/* The key's name, if the key has one, is sent and told, or refused where it starts: by itself and behind another one. */
+static void sends_name(hed_parser *parser, hed_key_press press, const hed_modes *modes) {
+  uint8_t name[72] = "x ", sent[64], again[64];
+  size_t name_len, len, again_len, at = 77, place = 77;
+  if (hed_press_print(&press, name + 2, sizeof name - 2, &name_len) != HED_OK) return;
+  hed_status status = hed_send_names(name + 2, name_len, modes, sent, sizeof sent, &len, &at);
+  EXPECT(hed_send_names(name, name_len + 2, modes, again, sizeof again, &again_len, &place) == status && at == 0);
+  if (status == HED_REFUSED_KEY) {
+    EXPECT(len == 0 && again_len == 0 && place == 2);
+    unsent++;
+    return;
+  }
+  EXPECT(status == HED_OK && len > 0 && place == 0 && again_len > len && memcmp(again + again_len - len, sent, len) == 0);
+  hed_key_press told = press_told(parser, sent, len);
+  EXPECT(hed_press_print(&told, name, sizeof name, &name_len) == HED_OK);
+  EXPECT(hed_send_names(name, name_len, modes, again, sizeof again, &again_len, &at) == HED_OK);
+  if (same_press(&told, &press)) own++;
+  else if (again_len == len && memcmp(again, sent, len) == 0) twin++;
+  else other++;
+}
+
+/* All keys with all sets of modifiers: of characters those of ASCII and a few others, of Kitty's table some without a name here. */
+static void sends_names(hed_parser *parser, const hed_modes *modes) {
+  static const uint32_t others[] = { 0x80, 0xc9, 0xe9, 0x3c2, 0x401, 0x441, 0x451, 0x20ac, 0xe000, 0x10ffff };
+  own = twin = other = unsent = 0;
+  for (uint8_t held = 0; held < 64; held++) {
+    for (uint16_t key = 2; key <= LAST_KEY; key++)
+      if (key != HED_KEY_FUNCTION) sends_name(parser, (hed_key_press){ key, held, 0 }, modes);
+    for (uint32_t c = ' '; c < 0x7f; c++) sends_name(parser, (hed_key_press){ HED_KEY_CHAR, held, c }, modes);
+    for (size_t i = 0; i < sizeof others / sizeof *others; i++) sends_name(parser, (hed_key_press){ HED_KEY_CHAR, held, others[i] }, modes);
+    for (uint32_t number = 0; number < 40; number++) sends_name(parser, (hed_key_press){ HED_KEY_FUNCTION, held, number }, modes);
+    for (uint32_t number = 57344; number < 57500; number += 7) sends_name(parser, (hed_key_press){ 0, held, number }, modes);
+  }
+}
+
+static void sends_names_in(hed_parser *parser, size_t way) {
+  sends_names(parser, &sent_in[way].modes);
+  EXPECT(own == sent_in[way].own && twin == sent_in[way].twin && other == sent_in[way].other && unsent == sent_in[way].unsent);
+}
+
+/* A chord of the most keys, no text, and modes of which a number names nothing. */
+static void sends_long_name_and_none(void) {
+  static const hed_modes modes = { .encoding = HED_ENCODING_KITTY, .kitty_flags = ALL_FLAGS };
+  static const hed_modes bad_modes[] = { { .encoding = 4 }, { .encoding = HED_ENCODING_KITTY, .kitty_flags = 32 } };
+  static uint8_t name[HED_CHORD_MOST * 30], sent[HED_CHORD_MOST * 12];
+  static const char key[] = "super+hyper+meta+ctrl+alt+f13 ";
+  size_t at = 77;
+  for (size_t i = 0; i < sizeof name; i++) name[i] = (uint8_t)key[i % 30];
+  EXPECT(hed_send_names(name, sizeof name, &modes, sent, sizeof sent, &sent_len, &at) == HED_OK && at == 0);
+  EXPECT(sent_len == HED_CHORD_MOST * 11 && memcmp(sent, "\033[57376;63u", 11) == 0);
+  mark();
+  EXPECT(hed_send_names(NULL, 0, &modes, out, sizeof out, &sent_len, &at) == HED_NAME_EMPTY && at == 0);
+  EXPECT(is_sent("", 0, 0));
+  for (size_t i = 0; i < 2; i++) {
+    mark();
+    EXPECT(hed_send_names(HED_TEXT("x foo+y"), &bad_modes[i], out, sizeof out, &sent_len, &at) == HED_BAD_NUMBER && at == 0);
+    EXPECT(is_sent("", 0, 0));
+  }
+}
+
 /* A mouse report, and what a program asked for, of which a number names nothing. */
 static const struct {
   hed_sent_mouse report;
@@ -293,6 +384,8 @@ int main(void) {
   for (uint8_t flags = 0; flags <= ALL_FLAGS; flags++) TEST(refuses_keys(flags));
   for (unsigned flags = ALL_FLAGS + 1; flags < 256; flags += 17) TEST(refuses_key((hed_event)LETTER(0), (uint8_t)flags, HED_BAD_NUMBER));
   TEST(reads_keys_back(&parser));
+  for (size_t way = 0; way < sizeof sent_in / sizeof *sent_in; way++) TEST(sends_names_in(&parser, way));
+  TEST(sends_long_name_and_none());
   TEST(refuses_reports());
   TEST(refuses_events(&parser));
   TEST(refuses_by_the_reading(&parser));

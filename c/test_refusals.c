@@ -113,11 +113,27 @@ static void refuse_string_parts(void) {
 }
 
 /* The calls that write bytes, and how many these are. */
-enum { ENCODED, REPORTED, REPORTED_WITH_TEXT, PASTED, MOUSE, WRITTEN, POSITION, SCHEME, ATTRIBUTES, NAMED, NAMED_LONG, NAMED_ALONE, CALLS };
-static const size_t lengths[CALLS] = { 7, 21, 87, 34, 9, 25, 8, 9, 9, 13, 61, 6 };
+enum {
+  ENCODED,
+  REPORTED,
+  REPORTED_WITH_TEXT,
+  PASTED,
+  MOUSE,
+  WRITTEN,
+  POSITION,
+  SCHEME,
+  ATTRIBUTES,
+  NAMED,
+  NAMED_LONG,
+  NAMED_ALONE,
+  SENT,
+  SENT_BY_KITTY,
+  CALLS
+};
+static const size_t lengths[CALLS] = { 7, 21, 87, 34, 9, 25, 8, 9, 9, 13, 61, 6, 11, 25 };
 
 static hed_status write_by(int call, uint8_t *out, size_t room, size_t *len) {
-  static const hed_modes modes = { 0, 0, 0, false, false, false };
+  static const hed_modes modes = { 0, 0, 0, false, false, false }, kitty = { .encoding = HED_ENCODING_KITTY, .kitty_flags = 31 };
   static const hed_event letter = CHAR(SHIFT, 'a', 'A', HED_NO_CODE), osc = { .kind = HED_KIND_OSC };
   static const hed_sent_mouse mouse = { 1, 1, 0, HED_MOUSE_BUTTON1_PRESS };
   static const uint16_t numbers[] = { 62, 22 };
@@ -133,6 +149,8 @@ static hed_status write_by(int call, uint8_t *out, size_t room, size_t *len) {
     case POSITION: return hed_encode_cursor_position(24, 80, false, out, room, len);
     case SCHEME: return hed_encode_colour_scheme(true, out, room, len);
     case ATTRIBUTES: return hed_encode_device_attributes(numbers, 2, out, room, len);
+    case SENT: return hed_send_names(HED_TEXT("x up f5 y z"), &modes, out, room, len, &at);
+    case SENT_BY_KITTY: return hed_send_names(HED_TEXT("A up b"), &kitty, out, room, len, &at);
     case NAMED: EXPECT(hed_key_read(HED_TEXT("ctrl+x ctrl+s"), keys, 4, &count, &at) == HED_OK); break;
     case NAMED_ALONE: EXPECT(hed_key_read(HED_TEXT("ctrl+x"), keys, 4, &count, &at) == HED_OK); break;
     default:

@@ -10,7 +10,7 @@ from hedrugal import Age, Bindings, Bound, Chord, Dialect, EncodeError, Keyboard
 from hedrugal import KeyCodeEncodeModes, KeyNameError, KeyPress, KeyReport, KittyKeyboardFlags
 from hedrugal import Matcher, Modifiers, MouseButton, MouseEncoding, MouseTracking, Parser, Policy
 from hedrugal import SentMouse, Timer, Unbound
-from hedrugal import encode, encode_event, encode_paste, reply
+from hedrugal import encode, encode_event, encode_paste, paste_lines, reply, send_names
 from hedrugal import _calls as numbers
 from hedrugal._library import borrowed, library
 from cases import FILES, FOLDER, cases_of, cuts_of, event_by, events_by, events_line, key_of
@@ -243,6 +243,17 @@ def check_encodings(words, told):
     assert encode(*asked, is_down=False) == b""
 
 
+def check_sent_names(words, told):
+    modes, text = words
+    try:
+        assert quoted(send_names(text_of(text).decode(), modes_of(modes))) == told
+    except KeyNameError as error:
+        assert f"{STATUSES[error.kind.value]} {error.at}" == told
+    except EncodeError as error:
+        place = re.search(r"at byte (\d+) has no bytes", str(error))
+        assert f"REFUSED_KEY {place[1]}" == told
+
+
 def check_written(words, told):
     event = event_by(*words)
     with parser_by(reading_of(words[0])) as parser:
@@ -259,6 +270,10 @@ def check_pastes(words, told):
         with Parser(dialect) as parser:
             (paste,) = parser.feed(START + safe + END)
             assert (paste.text.encode(), parser.waiting_len) == (safe, 0)
+
+
+def check_paste_lines(words, told):
+    assert paste_lines(text_of(*words).decode()) == text_of(told).decode()
 
 
 def check_mouse(words, told, *events):

@@ -226,6 +226,7 @@ CALLS: Dict[str, Tuple[Any, List[Any]]] = {
     ),
     "hed_parser_text": (SIZE, [_to(RawHandle), POINTER, SIZE]),
     "hed_parser_drop_text": (None, [_to(RawHandle)]),
+    "hed_paste_lines": (SIZE, [POINTER, SIZE, POINTER, SIZE]),
     "hed_parser_timeout": (I32, [_to(RawHandle), U64]),
     "hed_parser_idle": (None, [_to(RawHandle), U64]),
     "hed_parser_flush": (None, [_to(RawHandle)]),
@@ -289,6 +290,7 @@ CALLS: Dict[str, Tuple[Any, List[Any]]] = {
     "hed_encode_colour_scheme": (U32, [BOOL, POINTER, SIZE, _to(SIZE)]),
     "hed_encode_device_attributes": (U32, [_to(U16), SIZE, POINTER, SIZE, _to(SIZE)]),
     "hed_encode": (U32, [U16, U32, U16, BOOL, _to(RawModes), POINTER, SIZE, _to(SIZE)]),
+    "hed_send_names": (U32, [POINTER, SIZE, _to(RawModes), POINTER, SIZE, _to(SIZE), _to(SIZE)]),
     "hed_read_reply": (U32, [U8, POINTER, SIZE, _to(RawReply), _to(U32), SIZE, POINTER, SIZE]),
     "hed_questions_ask": (
         U32,

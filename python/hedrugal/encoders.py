@@ -23,9 +23,10 @@ from ._calls import (
     RawSentMouse,
 )
 from ._enums import Named, numbered
-from ._library import Bytes, borrowed, library
+from ._library import Bytes, borrowed, borrowed_text, library
 from .events import Event, KittyKeyboardFlags, PastePart, bytes_of, raw_event
 from .keys import (
+    EncodeError,
     Key,
     Modifiers,
     bytes_sent,
@@ -33,6 +34,7 @@ from .keys import (
     numbers_of_key,
     whole,
 )
+from .names import KeyNameError, name_error_kinds
 from .parser import Parser
 from .replies import ColourScheme
 
@@ -48,6 +50,8 @@ __all__ = [
     "MouseButton",
     "MouseEncoding",
     "MouseTracking",
+    "paste_lines",
+    "send_names",
     "SentMouse",
 ]
 
@@ -128,6 +132,44 @@ def encode(
     return bytes_sent(call, {STATUS_REFUSED_KEY: f"F{detail} has no text: only F1 to F24 have one"})
 
 
+def send_names(text: str, modes: KeyCodeEncodeModes = KeyCodeEncodeModes()) -> bytes:
+    r"""Returns the bytes, in UTF-8, that a terminal in these modes sends for named keys, one after
+    another, so that a program's keys are tested without a terminal. The text is the name of a
+    Chord, as Chord.read reads it.
+
+        >>> send_names("ctrl+x ctrl+s up")
+        b'\x18\x13\x1b[A'
+        >>> flags = KittyKeyboardFlags.DISAMBIGUATE_ESCAPE_CODES
+        >>> kitty = KeyCodeEncodeModes(KeyboardEncoding.KITTY, kitty_flags=flags)
+        >>> send_names("ctrl+i A", kitty)
+        b'\x1b[105;5uA'
+
+    With KeyboardEncoding.KITTY a key is sent as KeyReport.encode does, with the text that it types.
+    A capital is its letter with Shift, as a keyboard has it, and a sign is a key of its own.
+    Otherwise a key is sent as encode does.
+
+    Many keys send the bytes of another one: ctrl+i those of tab. What follows an ESC may go on with
+    it: the bytes of "escape x" are those of alt+x. So pass what comes after escape in a call of its
+    own, and feed it later.
+
+    Raises KeyNameError, which is a ValueError, if the text names no keys. Raises EncodeError, which
+    is one too, for a key or a modifier that has no bytes in these modes, as hyper+x without Kitty's
+    protocol. Its text says at which byte of the text's UTF-8 the name starts. Raises MemoryError if
+    memory is refused."""
+    name, name_len = borrowed_text(text)
+    raw_modes, at = _raw_modes(modes), ctypes.c_size_t()
+
+    def call(out: Any, size: int, length: ctypes.c_size_t) -> int:
+        answer = int(library.hed_send_names(name, name_len, raw_modes, out, size, length, at))
+        if answer in name_error_kinds:
+            raise KeyNameError(name_error_kinds[answer], at.value)
+        if answer == STATUS_REFUSED_KEY:
+            raise EncodeError(f"the key at byte {at.value} has no bytes in these modes")
+        return answer
+
+    return bytes_sent(call, {})
+
+
 class MouseButton(Named):
     """What happened to which button of the mouse, in a SentMouse."""
 
@@ -193,6 +235,22 @@ def encode_paste(data: Bytes, bracketed: bool) -> bytes:
         return int(library.hed_encode_paste(text, text_len, bracketed, out, size, length))
 
     return bytes_sent(call, {})
+
+
+def paste_lines(text: str) -> str:
+    r"""Returns a pasted text with LF in the place of each CR and of each CR LF. Terminals send CR
+    for the end of a line in a Paste. Every other character stays.
+
+        >>> paste_lines("one\rtwo\r\nthree")
+        'one\ntwo\nthree'
+
+    Of a paste that comes in parts, join the parts first: a CR at the end of a part and an LF at the
+    start of the next one become two LF."""
+    pasted, pasted_len = borrowed_text(text)
+    room = bytearray(pasted_len)
+    out, size = borrowed(room)
+    length = library.hed_paste_lines(pasted, pasted_len, out, size)
+    return room[:length].decode("utf-8", "surrogatepass")
 
 
 @dataclass(frozen=True)

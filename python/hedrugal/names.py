@@ -199,7 +199,7 @@ class Chord:
         answer = library.hed_key_read(name, length, keys, CHORD_MOST, count, at)
         if answer == numbers.STATUS_OK:
             return Chord(map(press_of, keys[: count.value]))
-        raise KeyNameError(_name_error_kinds.get(answer) or fault(), at.value)
+        raise KeyNameError(name_error_kinds.get(answer) or fault(), at.value)
 
     def __str__(self) -> str:
         """The name of the chord, as ctrl+x ctrl+s. `Chord.read` reads the same chord from it.
@@ -232,7 +232,7 @@ def typed_text(report: KeyReport) -> str:
     return report.text if types and not has_control else ""
 
 
-_name_error_kinds = {kind.value: kind for kind in KeyNameErrorKind}
+name_error_kinds = {kind.value: kind for kind in KeyNameErrorKind}
 # What is wrong, in words.
 _faults = {
     KeyNameErrorKind.CONTROL_CHARACTER: "a control character is in the text",

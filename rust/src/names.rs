@@ -87,7 +87,7 @@ impl error::Error for KeyNameError {}
 
 impl KeyNameErrorKind {
     // What is wrong, by the number of the library.
-    fn of(number: u32) -> KeyNameErrorKind {
+    pub(crate) fn of(number: u32) -> KeyNameErrorKind {
         match number {
             raw::STATUS_NAME_CONTROL_CHARACTER => KeyNameErrorKind::ControlCharacter,
             raw::STATUS_NAME_MODIFIER_TWICE => KeyNameErrorKind::ModifierTwice,

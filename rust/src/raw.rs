@@ -308,6 +308,7 @@ extern "C" {
         text: *mut u8, text_room: usize, count: *mut usize) -> u32;
     pub fn hed_parser_text(parser: *const Parser, out: *mut u8, len: usize) -> usize;
     pub fn hed_parser_drop_text(parser: *mut Parser);
+    pub fn hed_paste_lines(text: *const u8, text_len: usize, out: *mut u8, len: usize) -> usize;
     pub fn hed_parser_timeout(parser: *const Parser, now: u64) -> i32;
     pub fn hed_parser_idle(parser: *mut Parser, now: u64);
     pub fn hed_parser_flush(parser: *mut Parser);
@@ -390,6 +391,8 @@ extern "C" {
         sent_len: *mut usize) -> u32;
     pub fn hed_encode(key: u16, detail: u32, modifiers: u16, is_down: bool, modes: *const Modes,
         out: *mut u8, len: usize, text_len: *mut usize) -> u32;
+    pub fn hed_send_names(text: *const u8, text_len: usize, modes: *const Modes, out: *mut u8,
+        len: usize, sent_len: *mut usize, at: *mut usize) -> u32;
     pub fn hed_read_reply(kind: u8, bytes: *const u8, len: usize, reply: *mut Reply,
         numbers: *mut u32, numbers_capacity: usize, out: *mut u8, capacity: usize) -> u32;
     pub fn hed_questions_ask(questions: *mut Questions, parser: *mut Parser, now: u64,

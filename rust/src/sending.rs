@@ -1,4 +1,4 @@
-// What a terminal sends that is no key: pasted texts and mouse reports.
+// What a terminal sends that is no key: pasted texts and mouse reports; and the lines of a paste.
 use crate::error::FAULT;
 use crate::{raw, AllocError, Modifiers, MouseKind, MouseReport};
 use std::{error, fmt};
@@ -51,6 +51,42 @@ pub fn try_encode_paste(text: &[u8], bracketed: bool) -> Result<String, AllocErr
         (raw::STATUS_NO_MEMORY, _) => Err(AllocError),
         _ => unreachable!("{FAULT}"),
     }
+}
+
+/// Returns a pasted text with LF in the place of each CR and of each CR LF. Terminals send CR for
+/// the end of a line in an [`Event::Paste`](crate::Event::Paste). Every other character stays.
+///
+/// ```
+/// assert_eq!(hedrugal::paste_lines("one\rtwo\r\nthree"), "one\ntwo\nthree");
+/// ```
+///
+/// Of a paste that comes in parts, join the parts first: a CR at the end of a part and an LF at the
+/// start of the next one become two LF.
+///
+/// # Panics
+///
+/// If memory is refused.
+#[must_use]
+pub fn paste_lines(text: &str) -> String {
+    try_paste_lines(text).expect("out of memory")
+}
+
+/// Returns what [`paste_lines`] returns.
+///
+/// # Errors
+///
+/// If memory is refused.
+pub fn try_paste_lines(text: &str) -> Result<String, AllocError> {
+    let mut bytes = Vec::new();
+    bytes
+        .try_reserve_exact(text.len())
+        .map_err(|_| AllocError)?;
+    bytes.resize(text.len(), 0);
+    // SAFETY: the pointers lead to as many bytes as the lengths say.
+    let len =
+        unsafe { raw::hed_paste_lines(text.as_ptr(), text.len(), bytes.as_mut_ptr(), bytes.len()) };
+    bytes.truncate(len);
+    Ok(String::from_utf8(bytes).expect(FAULT))
 }
 
 /// What happened to which button of the mouse, in a [`SentMouse`].

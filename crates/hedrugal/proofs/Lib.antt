@@ -7,7 +7,9 @@ pub mod Pressed
 pub mod PressNumbers
 pub mod QuestionLists
 pub mod QuestionSteps
+pub mod SentPresses
 pub mod OwnedPointerValues
+pub mod PastedLines
 pub mod TimerNumbers
 pub mod Walks
 pub mod WrittenEvents

@@ -14,6 +14,7 @@ pub mod Limits
 pub mod MatcherCalls
 pub mod NameCalls
 pub mod Owned
+pub mod PasteLines
 pub mod PressCalls
 pub mod Presses
 pub mod QuestionCalls
@@ -21,5 +22,6 @@ pub mod Questions
 pub mod ReadingCalls
 pub mod Replies
 pub mod SenderCalls
+pub mod SentNames
 pub mod TimerCalls
 pub mod Views

@@ -3,7 +3,8 @@
 //! The caller keeps a `hed_parser`, all zero at first. It says which bytes came and when by `hed_parser_feed`, and that none came by
 //! `hed_parser_idle`, and is told the events, one at a time, by `hed_parser_next`. A `hed_keymap` and a `hed_bindings` are kept in the same way.
 //! The calls whose names begin with `hed_encode` go the other way, from a key or an event to the bytes that a terminal sends for it.
-//! `hed_parser_press` tells the press of a key, and `hed_key_read` and `hed_key_print` read and print the names of keys.
+//! `hed_parser_press` tells the press of a key, and `hed_key_read` and `hed_key_print` read and print the names of keys. `hed_send_names` writes
+//! what a terminal sends for named keys.
 #![tactic(auto)]
 
 ghost use Rattle.std.specs.Prelude.{◌≡◌, ◌≢◌, ◌↔◌, ◌⊎◌, ◌+◌, ◌*◌, ◌++◌, [], ◌∷◌, length, false};
@@ -33,6 +34,7 @@ mod modes;
 mod name_calls;
 mod parser_and_text;
 mod parser_calls;
+mod paste_lines;
 mod policy;
 mod press_calls;
 mod question_calls;
@@ -43,6 +45,7 @@ mod replies;
 mod reply_calls;
 mod sender_calls;
 mod sending;
+mod sent_names;
 mod slot;
 mod status;
 mod timer_calls;

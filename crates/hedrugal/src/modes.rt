@@ -68,7 +68,7 @@ fn encoding_of(number: u8, kitty_flags: u8) -> Option<KeyboardEncoding>
 }
 
 // The modes that these numbers stand for.
-fn modes_of(modes: &CModes) -> Option<KeyCodeEncodeModes>
+pub(crate) fn modes_of(modes: &CModes) -> Option<KeyCodeEncodeModes>
     ensures { (m : Modes) → (result ≡ Some m) ↔ AreModes m modes.now }
 {
     let encoding = encoding_of(modes.encoding, modes.kitty_flags)?;
