@@ -14,6 +14,7 @@ static const char blanks[] = " \t";
 
 /* What the file says of a chord. The number that the chord is bound to is its address. */
 typedef struct binding {
+  size_t line; /* its number */
   const char *chord; /* its name, behind the command */
   char command[];
 } binding;
@@ -38,13 +39,14 @@ static void tell(source *at, size_t place, const char *what) {
 }
 
 /* Returns false if memory is refused. */
-static bool bind(bindings *it, const char *command, size_t length, const hed_key_press *keys, size_t count) {
+static bool bind(bindings *it, const source *at, const char *command, size_t length, const hed_key_press *keys, size_t count) {
   char chord[HED_CHORD_MOST * PRESS_SIZE];
   size_t chord_length;
   if (hed_key_print(keys, count, (uint8_t *)chord, sizeof chord - 1, &chord_length) != HED_OK) return false;
   chord[chord_length] = '\0';
   binding *added = malloc(sizeof *added + length + chord_length + 2);
   if (!added) return false;
+  added->line = at->number;
   memcpy(added->command, command, length);
   added->command[length] = '\0';
   added->chord = strcpy(added->command + length + 1, chord);
@@ -61,7 +63,7 @@ static bool bind_named(bindings *it, source *at, const char *command, size_t len
   hed_key_press keys[HED_CHORD_MOST];
   size_t count, wrong;
   hed_status named = hed_key_read((const uint8_t *)at->text + name, at->length - name, keys, HED_CHORD_MOST, &count, &wrong);
-  if (named == HED_OK) return bind(it, command, length, keys, count);
+  if (named == HED_OK) return bind(it, at, command, length, keys, count);
   tell(at, name + wrong, name_errors[named]);
   return true;
 }
@@ -177,6 +179,26 @@ static binding *binding_at(const bindings *it, size_t place) {
 continuation bindings_at(const bindings *it, size_t place) {
   const binding *found = binding_at(it, place);
   return (continuation){ found->chord, behind(found->chord, it->matcher.count), found->command };
+}
+
+size_t bindings_count(const bindings *it) {
+  return hed_bindings_len(&it->chords);
+}
+
+bool bindings_add_warning(text *out, const bindings *it, size_t place, const char *file, twins *keys) {
+  hed_key_press chord[HED_CHORD_MOST];
+  size_t count;
+  uint64_t value;
+  if (hed_bindings_entry(&it->chords, place, chord, HED_CHORD_MOST, &count, &value) != HED_OK) return true;
+  for (size_t i = 0; i < count; i++) {
+    everyday key = { .pressed = chord[i] };
+    if (!twins_of(keys, &chord[i], &key.twin)) return false;
+    if (is_same_press(&key.pressed, &key.twin)) continue;
+    text_add_shown(out, file, strlen(file));
+    text_add(out, ":%zu: ", binding_of(value)->line);
+    return twins_add_line(out, keys, &key);
+  }
+  return true;
 }
 
 void bindings_free(bindings *it) {

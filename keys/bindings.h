@@ -3,6 +3,7 @@
 #define KEYS_BINDINGS_H
 
 #include "line.h"
+#include "twins.h"
 
 /* The pause after which pending presses are given up. */
 enum { CHORD_PAUSE_MS = 1000 };
@@ -51,6 +52,12 @@ bool bindings_following(const bindings *it, size_t *first, size_t *end);
 
 /* The chord at one of these places. */
 continuation bindings_at(const bindings *it, size_t place);
+
+/* How many chords are bound. */
+size_t bindings_count(const bindings *it);
+
+/* Appends a line on the chord at a place, if the terminal sends one of its keys as another one. Returns false if memory is refused. */
+bool bindings_add_warning(text *out, const bindings *it, size_t place, const char *file, twins *keys);
 
 void bindings_free(bindings *it);
 

@@ -26,16 +26,16 @@ static void put_flags(const char *field, const flag *flags, unsigned set) {
   putc(']', output);
 }
 
-static void put_character(uint32_t code) {
-  if (code == '"' || code == '\\') fprintf(output, "\\%c", (char)code);
-  else if (code >= ' ' && code < 0x7f) putc((int)code, output);
-  else if (code < 0x10000) fprintf(output, "\\u%04x", (unsigned)code);
-  else fprintf(output, "\\u%04x\\u%04x", (unsigned)(0xd800 + ((code - 0x10000) >> 10)), (unsigned)(0xdc00 + (code & 0x3ff)));
+void json_character(FILE *out, uint32_t code) {
+  if (code == '"' || code == '\\') fprintf(out, "\\%c", (char)code);
+  else if (code >= ' ' && code < 0x7f) putc((int)code, out);
+  else if (code < 0x10000) fprintf(out, "\\u%04x", (unsigned)code);
+  else fprintf(out, "\\u%04x\\u%04x", (unsigned)(0xd800 + ((code - 0x10000) >> 10)), (unsigned)(0xdc00 + (code & 0x3ff)));
 }
 
 /* A text in UTF-8, as that of a paste always is. */
 static void put_text(const char *characters, size_t length) {
-  for (size_t at = 0, taken; at < length; at += taken) put_character(text_code_point(characters + at, &taken));
+  for (size_t at = 0, taken; at < length; at += taken) json_character(output, text_code_point(characters + at, &taken));
 }
 
 static void put_field(const char *before, const char *name, const char *value) {

@@ -7,15 +7,17 @@
 
 /* An event has at most two presses. PRESS_SIZE is room for the name of one, with all modifiers and a final 0. A paste starts with
  * PASTE_START bytes. */
-enum { TEXT_SHOWN = 16, PRESSES_MOST = 2, PRESS_SIZE = 64, PASTE_START = 6 };
+enum { TEXT_SHOWN = 48, PRESSES_MOST = 2, PRESS_SIZE = 64, PASTE_START = 6 };
 
 typedef struct group {
   size_t start, length; /* its bytes, among the line's */
   hed_event event;
-  uint8_t text[TEXT_SHOWN]; /* how the bytes begin that the event brought */
+  uint8_t text[TEXT_SHOWN + 1]; /* how the bytes begin that the event brought, and one of the rest */
   char presses[PRESSES_MOST][PRESS_SIZE]; /* the names of its press and of its second press */
   size_t press_count;
   size_t first_outcome; /* the place of the first outcome that it brought */
+  hed_key_press press; /* the first of its presses, if it has one */
+  bool is_reply; /* whether it answers a question of the program's own, so that nobody typed it */
 } group;
 
 /* What keys did that were pressed. */

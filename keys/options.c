@@ -3,39 +3,59 @@
 #include <string.h>
 
 const mode all_modes[MODE_COUNT] = {
-  { .word = "--application-cursor-keys", .on = "\033[?1h", .off = "\033[?1l" },
-  { .word = "--modify-other-keys=1", .on = HED_TERMINAL_MODIFY_OTHER_KEYS_ON(1), .off = HED_TERMINAL_MODIFY_OTHER_KEYS_OFF },
-  { .word = "--modify-other-keys=2", .on = HED_TERMINAL_MODIFY_OTHER_KEYS_ON(2), .off = HED_TERMINAL_MODIFY_OTHER_KEYS_OFF },
-  { .word = "--mouse", .on = HED_TERMINAL_MOUSE_ON, .off = HED_TERMINAL_MOUSE_OFF },
-  { .word = "--bracketed-paste", .on = HED_TERMINAL_PASTE_ON, .off = HED_TERMINAL_PASTE_OFF },
-  { .word = "--focus", .on = HED_TERMINAL_FOCUS_ON, .off = HED_TERMINAL_FOCUS_OFF },
-  { .word = "--kitty-keyboard", .on = HED_TERMINAL_KITTY_ON(31), .off = HED_TERMINAL_KITTY_OFF, .wants_extended = true },
+  [MODE_CURSOR_KEYS] = { .word = "--application-cursor-keys", .on = "\033[?1h", .off = "\033[?1l" },
+  [MODE_OTHER_KEYS_1] = { .word = "--modify-other-keys=1",
+                          .on = HED_TERMINAL_MODIFY_OTHER_KEYS_ON(1),
+                          .off = HED_TERMINAL_MODIFY_OTHER_KEYS_OFF },
+  [MODE_OTHER_KEYS_2] = { .word = "--modify-other-keys=2",
+                          .on = HED_TERMINAL_MODIFY_OTHER_KEYS_ON(2),
+                          .off = HED_TERMINAL_MODIFY_OTHER_KEYS_OFF },
+  [MODE_MOUSE] = { .word = "--mouse", .on = HED_TERMINAL_MOUSE_ON, .off = HED_TERMINAL_MOUSE_OFF },
+  [MODE_PASTE] = { .word = "--bracketed-paste", .on = HED_TERMINAL_PASTE_ON, .off = HED_TERMINAL_PASTE_OFF },
+  [MODE_FOCUS] = { .word = "--focus", .on = HED_TERMINAL_FOCUS_ON, .off = HED_TERMINAL_FOCUS_OFF },
+  [MODE_KITTY_ALL] = { .word = "--kitty-keyboard", .on = HED_TERMINAL_KITTY_ON(31), .off = HED_TERMINAL_KITTY_OFF, .wants_extended = true },
+  [MODE_KITTY] = { .word = "", .on = HED_TERMINAL_KITTY_ON(5), .off = HED_TERMINAL_KITTY_OFF },
 };
 
 const char options_help[] =
     "usage: hedrugal-keys [SWITCH..] [FILE]\n"
     "\n"
-    "Shows what a terminal sends, read by read and byte by byte, and the keys, mouse reports and pastes that the bytes mean.\n"
-    "Two ^D keys in a row end it. With FILE or a pipe it shows that input, and flushes at its end what waits. FILE - is the\n"
-    "standard input, as without a FILE.\n"
+    "Asks the terminal what it can tell, turns the best of that on, and shows the\n"
+    "name of each key with the bytes that the terminal sends for it. ^D twice ends\n"
+    "it. With FILE or a pipe it shows that input; FILE - is the standard input.\n"
     "\n"
-    "  --application-cursor-keys   the terminal sends arrows, Home and End as ESC O in place of ESC [\n"
-    "  --modify-other-keys=1|2     it sends characters with modifiers as sequences, all of them at level 2\n"
-    "  --mouse                     it reports the mouse\n"
-    "  --bracketed-paste           it marks where a paste starts and ends\n"
-    "  --focus                     it reports when its window gains or loses the focus\n"
-    "  --kitty-keyboard            it reports keys by Kitty's protocol, with repeats and releases; implies --extended\n"
-    "  --extended                  also reads what terminals send beyond the sequence table, as key reports and replies\n"
-    "  --bindings=FILE             shows what the keys do by the bindings of a file, and which keys may follow;\n"
-    "                              a line of it is a command and the keys of a chord: save ctrl+x ctrl+s\n"
-    "  --hex                       bytes in hexadecimal\n"
-    "  --json                      an object on a line for each event; not with --hex\n"
-    "  -h, --help, --version       print this, or the version, and end\n"
-    "  --                          ends the switches: what follows is FILE\n"
+    "  --once             prints the name of one key, such as ctrl+up, and ends\n"
+    "  --json             an object on a line for each event\n"
+    "  --hex              bytes in hexadecimal\n"
+    "  --bindings=FILE    shows what the keys do by the bindings of a file, which\n"
+    "                     keys may follow, and which bindings can't come here; a\n"
+    "                     line of it is a command and a chord: save ctrl+x ctrl+s\n"
+    "  --record=FILE      keeps what comes in, with its times, as asciinema does\n"
+    "  --replay=FILE      shows such a recording by its times; wants no terminal\n"
+    "  --real-time        replays it as slowly as it was recorded\n"
+    "  --twins            lists the everyday keys that can't be told apart here\n"
+    "  --plain            asks nothing, and turns nothing on by itself\n"
+    "  --extended         of FILE, a pipe or with --plain: also reads what is\n"
+    "                     beyond the sequence table, as key reports and replies\n"
+    "  -h, --help         prints this\n"
+    "  --version          prints the version\n"
+    "  --                 ends the switches: what follows is FILE\n"
     "\n"
-    "A line has the read's number, then groups: bytes -> event = press. Bytes of earlier reads are in parentheses.\n"
-    "Bytes that wait are dimmed, and the reason follows. SP is a space, ^A to ^_ and ^? are control characters,\n"
-    "and two hexadecimal digits any byte from 80 on. NO_COLOR switches off colours.\n";
+    "What the terminal does, if it can:\n"
+    "\n"
+    "  --application-cursor-keys  arrows, Home and End begin with ESC O, not ESC [\n"
+    "  --modify-other-keys=1|2    characters with modifiers are sequences, at level\n"
+    "                             2 all of them\n"
+    "  --kitty-keyboard           keys are Kitty's reports, with repeats and\n"
+    "                             releases; implies --extended\n"
+    "  --mouse                    the mouse is reported\n"
+    "  --bracketed-paste          it is told where a paste starts and ends\n"
+    "  --focus                    it is told that the window gains or loses focus\n"
+    "\n"
+    "Bytes of earlier reads are in parentheses. Bytes that wait for others are\n"
+    "dimmed, and the reason follows. SP is a space, ^A to ^_ and ^? are control\n"
+    "characters, and two hexadecimal digits any byte from 80 on. NO_COLOR switches\n"
+    "off colours.\n";
 
 static bool read_mode(options *it, const char *word) {
   for (size_t i = 0; i < MODE_COUNT; i++) {
@@ -56,40 +76,88 @@ static bool read_file(options *it, const char *word) {
   return it->refused.length == 0;
 }
 
-/* The file is the rest of the word, or the next one: NULL if there is none. */
-static bool read_bindings(options *it, const char *word) {
-  if (!word) text_add(&it->refused, "--bindings wants a file behind it; --help says more");
-  else if (it->bindings) text_add(&it->refused, "wants one file of bindings, and '%s' is another; --help says more", word);
-  it->bindings = word;
+/* What a word names that has a file behind it, and the word's length, or NULL. The file is the rest of the word behind =, or the next one. */
+static const char **named_by(options *it, const char *word, size_t *length) {
+  const struct {
+    const char *word, **file;
+  } words[] = { { "--bindings", &it->bindings }, { "--record", &it->record }, { "--replay", &it->replay } };
+  for (size_t i = 0; i < sizeof words / sizeof *words; i++) {
+    *length = strlen(words[i].word);
+    if (strncmp(word, words[i].word, *length) == 0 && strchr("=", word[*length])) return words[i].file;
+  }
+  return NULL;
+}
+
+/* The file is NULL if no word is left. */
+static bool read_named(options *it, const char **named, const char *word, size_t length, const char *file) {
+  if (!file) text_add(&it->refused, "%.*s wants a file behind it; --help says more", (int)length, word);
+  else if (*named) text_add(&it->refused, "wants one file for %.*s, and '%s' is another; --help says more", (int)length, word, file);
+  *named = file;
   return it->refused.length == 0;
+}
+
+/* What a word without more says, or NULL. */
+static bool *word_of(options *it, const char *word) {
+  const struct {
+    const char *word;
+    bool *asked;
+  } words[] = {
+    { "--extended", &it->is_extended },   { "--hex", &it->is_hex },     { "--json", &it->is_json },
+    { "--once", &it->is_once },           { "--plain", &it->is_plain }, { "--twins", &it->lists_twins },
+    { "--real-time", &it->is_real_time }, { "-h", &it->wants_help },    { "--help", &it->wants_help },
+    { "--version", &it->wants_version },
+  };
+  for (size_t i = 0; i < sizeof words / sizeof *words; i++)
+    if (strcmp(word, words[i].word) == 0) return words[i].asked;
+  return NULL;
 }
 
 static bool read_word(options *it, const char *word) {
-  static const char bindings[] = "--bindings=";
   if (*word != '-' || strcmp(word, "-") == 0) return read_file(it, word);
-  if (strncmp(word, bindings, strlen(bindings)) == 0) return read_bindings(it, word + strlen(bindings));
-  bool *is_asked = NULL;
-  if (strcmp(word, "--extended") == 0) is_asked = &it->is_extended;
-  if (strcmp(word, "--hex") == 0) is_asked = &it->is_hex;
-  if (strcmp(word, "--json") == 0) is_asked = &it->is_json;
-  if (strcmp(word, "-h") == 0 || strcmp(word, "--help") == 0) is_asked = &it->wants_help;
-  if (strcmp(word, "--version") == 0) is_asked = &it->wants_version;
-  if (!is_asked) return read_mode(it, word);
-  *is_asked = true;
+  bool *asked = word_of(it, word);
+  if (!asked) return read_mode(it, word);
+  *asked = true;
   return true;
 }
 
-/* The bytes of JSON are hexadecimal in any case. */
+/* The bytes of JSON are hexadecimal in any case, and a name has none. */
 static bool check_form(options *it) {
-  if (it->is_hex && it->is_json) text_add(&it->refused, "takes one of --hex and --json; --help says more");
+  const char *second = it->is_json ? "--json" : it->is_once ? "--once" : NULL;
+  if (it->is_hex && second) text_add(&it->refused, "takes one of --hex and %s; --help says more", second);
+  else if (it->bindings && it->is_once) text_add(&it->refused, "takes one of --bindings and --once; --help says more");
   return it->refused.length == 0;
 }
 
-/* A file or a pipe has no modes. */
+/* A list of twins has no events: it is of a terminal with the modes that are named. */
+static bool check_twins(options *it) {
+  const struct {
+    bool is_asked;
+    const char *word;
+  } words[] = {
+    { it->is_json, "--json" },          { it->is_hex, "--hex" },
+    { it->is_once, "--once" },          { it->bindings != NULL, "--bindings" },
+    { it->has_file, "a file" },         { it->record != NULL, "--record" },
+    { it->replay != NULL, "--replay" },
+  };
+  for (size_t i = 0; i < sizeof words / sizeof *words && it->lists_twins && it->refused.length == 0; i++)
+    if (words[i].is_asked) text_add(&it->refused, "takes one of %s and --twins; --help says more", words[i].word);
+  return it->refused.length == 0;
+}
+
+/* A recording is of a terminal, and takes its place when it is replayed. */
+static bool check_recording(options *it, bool has_terminal) {
+  if (it->record && it->replay) text_add(&it->refused, "takes one of --record and --replay; --help says more");
+  else if (it->replay && it->has_file) text_add(&it->refused, "wants one file, and '%s' is another; --help says more", it->replay);
+  else if (it->record && (it->file || !has_terminal)) text_add(&it->refused, "--record wants a terminal as the input; --help says more");
+  else if (it->is_real_time && !it->replay) text_add(&it->refused, "--real-time wants --replay; --help says more");
+  return it->refused.length == 0;
+}
+
+/* A file, a pipe or a recording has no modes. A list of twins is that of the modes that are named, without a terminal too. */
 static bool check_modes(options *it, bool has_terminal) {
-  bool is_live = has_terminal && !it->file;
+  bool has_modes = (has_terminal && !it->file && !it->replay) || it->lists_twins;
   for (size_t i = 0; i < MODE_COUNT && it->refused.length == 0; i++)
-    if (it->modes[i] && !is_live) text_add(&it->refused, "%s wants a terminal as the input; --help says more", all_modes[i].word);
+    if (it->modes[i] && !has_modes) text_add(&it->refused, "%s wants a terminal as the input; --help says more", all_modes[i].word);
   return it->refused.length == 0;
 }
 
@@ -100,10 +168,15 @@ static bool read_switch(options *it, const char *word, bool has_switches) {
 bool options_read(options *it, int count, char **words, bool has_terminal) {
   bool has_switches = true;
   for (int i = 1; i < count; i++) {
-    bool wants_next = has_switches && strcmp(words[i], "--bindings") == 0;
+    size_t length = 0;
+    const char **named = has_switches ? named_by(it, words[i], &length) : NULL;
+    bool is_next = named && words[i][length] == '\0';
     bool is_end = has_switches && strcmp(words[i], "--") == 0;
     if (is_end) has_switches = false;
-    else if (wants_next ? !read_bindings(it, words[++i]) : !read_switch(it, words[i], has_switches)) return false;
+    else if (!named && !read_switch(it, words[i], has_switches)) return false;
+    else if (named && !read_named(it, named, words[i], length, is_next ? words[i + 1] : words[i] + length + 1)) return false;
+    if (is_next) i++;
   }
-  return it->wants_help || it->wants_version || (check_form(it) && check_modes(it, has_terminal));
+  bool is_told = it->wants_help || it->wants_version;
+  return is_told || (check_form(it) && check_twins(it) && check_recording(it, has_terminal) && check_modes(it, has_terminal));
 }

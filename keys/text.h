@@ -19,8 +19,15 @@ void text_add(text *it, const char *format, ...);
 /* The code point of the character at the front of a text in UTF-8, and how many bytes it has. */
 uint32_t text_code_point(const char *front, size_t *length);
 
-/* Appends a text in UTF-8. A character that isn't of ASCII is written as U+00E9. */
-void text_add_ascii(text *it, const char *characters, size_t length);
+/* How many bytes the character in UTF-8 has that is at the front of at most so many bytes, 0 if there is none or only its beginning. */
+size_t text_character(const uint8_t *front, size_t most);
+
+/* How many columns a text in UTF-8 takes. */
+size_t text_width(const char *characters);
+
+/* Appends bytes that others chose, such as those of a paste. Characters in UTF-8 that show are themselves. Others are written as U+202E, and control
+ * characters and bytes that begin no character as \r or \x1b. */
+void text_add_shown(text *it, const char *bytes, size_t length);
 
 /* Prints words that others chose, such as a file's name. Each byte of a control character, or that begins no character in UTF-8, is
  * printed as in \x1b, since it would act on the terminal. */

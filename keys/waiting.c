@@ -129,7 +129,7 @@ void add_waiting_for(text *out, const hed_parser *parser, uint64_t now) {
   }
   text_add(out, kind == HED_WAITING_ESCAPE ? "; if nothing follows in " : ": waits up to ");
   add_time(out, left);
-  if (kind == HED_WAITING_ESCAPE) text_add(out, ": key Escape %s", hed_parser_waiting_len(parser) == 1 ? "NONE" : "ALT");
+  if (kind == HED_WAITING_ESCAPE) text_add(out, ": %s", hed_parser_waiting_len(parser) == 1 ? "escape" : "alt+escape");
 }
 
 void add_pending(text *out) {

@@ -4,7 +4,8 @@ import re
 
 TOKEN = re.compile(
     rb"\033\[(\d+)A|\033\[J|\033\[([0126]|36)m|\033\[(\?\d+)([hl])|\033\[(>4)(;[12])?m"
-    rb"|\033\[(>31|<)u|\r\n|([ -~]+)"
+    rb"|\033\[(>31|>5|<)u|(\033\[>q[^\n]*\r\033\[K\033\[c)|\r\n"
+    rb"|((?:[ -~]|[\xc2-\xf4][\x80-\xbf]+)+)"
 )
 STYLES = {b"0": "", b"1": "*", b"2": "~", b"36": "_"}
 
@@ -24,9 +25,11 @@ class Screen:
         return self
 
     def obey(self, token):
-        up, style, mode, switch, other, level, kitty, characters = token.groups()
+        up, style, mode, switch, other, level, kitty, questions, characters = token.groups()
         if characters:
-            self.put(characters.decode("ascii"))
+            self.put(characters.decode())
+        elif questions:
+            assert self.rows[self.row] == [], "the questions erase a row"
         elif up:
             self.frames.append(self.text())
             self.row = max(len(self.rows) - self.height, self.row - int(up), 0)
@@ -37,7 +40,7 @@ class Screen:
         elif other:
             self.modes[other.decode()] = int(level[1:]) if level else False
         elif kitty:
-            self.modes["kitty"] = kitty == b">31"
+            self.modes["kitty"] = kitty != b"<" and int(kitty[1:])
         elif token[0] == b"\033[J":
             self.rows[self.row :] = [[]]
         else:
