@@ -197,12 +197,17 @@ static bool insert(edit *it, const uint8_t *bytes, size_t len) {
   return true;
 }
 
-/* Inserts the text that the last event brought, as it is. */
+/* Inserts the text that the last event brought, with LF at the ends of its lines, which are CR in most pastes. */
 static bool insert_event_text(edit *it, size_t len) {
-  uint8_t *room = text_insert(&it->text, len);
-  if (!room) return fail(it, "out of memory");
-  hed_parser_text(&it->parser, room, len);
+  uint8_t *brought = malloc(len), *room;
+  if (!brought) return fail(it, "out of memory");
+  hed_parser_text(&it->parser, brought, len);
   hed_parser_drop_text(&it->parser);
+  size_t lines_len = hed_paste_lines(brought, len, NULL, 0);
+  room = text_insert(&it->text, lines_len);
+  if (room) hed_paste_lines(brought, len, room, lines_len);
+  free(brought);
+  if (!room) return fail(it, "out of memory");
   print_text(&it->text);
   return true;
 }

@@ -279,11 +279,12 @@ static bool handle_signals(void) {
   return true;
 }
 
-/* The second after a signal that ends the program still counts. */
+/* The second after a signal that ends the program still counts. A handler that the program has set meanwhile stays. */
 static void release_signals(void) {
   for (struct handled *it = handled; it < handled + HANDLED; it++) {
+    struct sigaction now;
     if (!it->is_handled || (it->handler == end_late && ending)) continue;
-    sigaction(it->number, &it->before, NULL);
+    if (sigaction(it->number, NULL, &now) == 0 && now.sa_handler == it->handler) sigaction(it->number, &it->before, NULL);
     it->is_handled = false;
   }
 }
@@ -353,8 +354,12 @@ static bool switches_mouse_on(const char *text) {
   return is_found;
 }
 
+static bool are_texts(const char *enter, const char *leave) {
+  return strlen(enter) <= HED_TERMINAL_TEXT_MOST && strlen(leave) <= HED_TERMINAL_TEXT_MOST;
+}
+
 static bool keep_texts(hed_terminal *it, const char *enter, const char *leave) {
-  if (strlen(enter) > HED_TERMINAL_TEXT_MOST || strlen(leave) > HED_TERMINAL_TEXT_MOST) return fail(it, "a text is too long");
+  if (!are_texts(enter, leave)) return fail(it, "a text is too long");
   strcpy(guard.enter, enter);
   strcpy(guard.leave, leave);
   guard.has_mouse = switches_mouse_on(enter);
@@ -415,6 +420,15 @@ bool hed_terminal_take_back(hed_terminal *terminal) {
   terminal->is_back = take_terminal(terminal);
   end_poll();
   return terminal->is_back;
+}
+
+/* A handler that interrupts this finds either no mode switched on, or the new ones. */
+bool hed_terminal_switch(hed_terminal *terminal, const char *enter, const char *leave) {
+  if (!is_own()) return fail(terminal, "no terminal is open");
+  if (guard.is_raw && are_texts(enter, leave)) write_leave(true);
+  if (!keep_texts(terminal, enter, leave)) return false;
+  guard.is_switched = guard.is_raw;
+  return !guard.is_raw || write_text(guard.enter, true) || fail(terminal, "the terminal can't be written");
 }
 
 /* Waiting. */

@@ -134,9 +134,9 @@ enum hed_terminal_event {
 bool hed_terminal_open(hed_terminal *terminal, int input, int output, const char *enter, const char *leave);
 
 /* Writes what stdout holds, and the text that switches modes off, and restores the settings, unless another program has the terminal. Waits for
- * replies that are still to come, for a second at most. Signals are handled as before the terminal was opened. If no terminal is open, it does
- * nothing.
- * Scenarios: half a line* */
+ * replies that are still to come, for a second at most. Signals are handled as before the terminal was opened, but by handlers that the program has
+ * set since. If no terminal is open, it does nothing.
+ * Scenarios: half a line*, a handler that is set meanwhile */
 void hed_terminal_close(hed_terminal *terminal);
 
 /* Ends the program by the signal that ends it, as a program ends that handles none: so its parent sees why. Returns if none came.
@@ -214,6 +214,15 @@ void hed_terminal_lend(hed_terminal *terminal);
  * Returns false if it fails, as when the terminal is gone.
  * Scenarios: a lent terminal, a terminal that is taken back */
 bool hed_terminal_take_back(hed_terminal *terminal);
+
+/* Switches the modes off that are on, and then others on: enter and leave take the place of the texts that hed_terminal_open was given, also after a
+ * stop and at the end. So a program asks its terminal first, and then switches on what it has, such as Kitty's keyboard protocol. While another
+ * program has the terminal, nothing is written until this one has it again.
+ *
+ * Returns false if no terminal is open, a text has more than HED_TERMINAL_TEXT_MOST bytes, or the terminal can't be written. Unless it is that, the
+ * texts are as before.
+ * Scenarios: test_best_protocol, test_protocol_over_a_stop */
+bool hed_terminal_switch(hed_terminal *terminal, const char *enter, const char *leave);
 
 /* The size of a terminal. */
 typedef struct hed_size {

@@ -19,13 +19,14 @@ static void insert(const uint8_t *text, size_t len) {
 }
 
 static bool handle(const hed_parser *parser, const hed_event *event) {
-  uint8_t text[ROOM];
+  uint8_t text[ROOM], pasted[ROOM];
   hed_key_press press;
-  size_t before = cursor, behind = cursor;
+  size_t before = cursor, behind = cursor, len = hed_parser_text(parser, pasted, ROOM);
   while (before > 0 && (line[--before] & 0xc0) == 0x80) continue;
   while (line[behind] && (line[++behind] & 0xc0) == 0x80) continue;
   if (shown == count) strcpy(lines[count % MOST], line);
-  if (event->kind == HED_KIND_PASTE || event->kind == HED_KIND_PASTE_PART) insert(text, hed_parser_text(parser, text, ROOM));
+  if (event->kind == HED_KIND_PASTE || event->kind == HED_KIND_PASTE_PART)
+    insert(text, hed_paste_lines(pasted, len < ROOM ? len : ROOM, text, ROOM));
   if (hed_parser_press(parser, event, &press) != HED_OK) return true;
   insert(text, hed_press_text(&press, text, ROOM));
   if (press.key == HED_KEY_RIGHT_ARROW) cursor = behind;
@@ -55,6 +56,5 @@ int main(void) {
   hed_terminal_close(&terminal);
   hed_parser_free(&parser);
   hed_terminal_end();
-  if (came == HED_TERMINAL_FAILED) fprintf(stderr, "prompt: %s\n", terminal.failure);
-  return came == HED_TERMINAL_FAILED;
+  return came == HED_TERMINAL_FAILED && fprintf(stderr, "prompt: %s\n", terminal.failure);
 }

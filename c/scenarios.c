@@ -401,6 +401,11 @@ static void interrupt_by(int number) {
   sigaction(number, &action, NULL);
 }
 
+static bool is_interrupted_by(int number) {
+  struct sigaction now;
+  return sigaction(number, NULL, &now) == 0 && now.sa_handler == note;
+}
+
 /* Opens a terminal whose output can't be written, is none, or with a text that is too long. It fails, and the settings are as they were. */
 static void fail_to_open(const char *output, const char *on) {
   struct termios before, after;
@@ -441,9 +446,11 @@ int main(int argc, char **argv) {
     if (hed_parser_init(&parser, HED_DIALECT_EXTENDED)) return 1;
     if (!open_terminal()) return fprintf(stderr, "scenarios: %s\n", terminal.failure), 1;
     if (has("bare")) hed_terminal_tell_settings(&terminal, &parser);
+    if (has("inside")) interrupt_by(SIGUSR1);
     puts("begun");
     while (step()) continue;
     hed_terminal_close(&terminal);
+    EXPECT(!has("inside") || is_interrupted_by(SIGUSR1));
     hed_parser_free(&parser);
   } while (is_reopened);
   hed_terminal_end();

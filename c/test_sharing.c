@@ -7,10 +7,14 @@ static bool init_sharing(hed_parser *parser, uint32_t dialect, const hed_parser 
   return hed_parser_init_sharing(parser, dialect, other) == HED_OK;
 }
 
+#if !__GLIBC_PREREQ(2, 33)
+#define mallinfo2 mallinfo
+#endif
+
 /* How many bytes of memory are in use. Valgrind, which has its own, leaves them at 0. */
 static size_t in_use(void) {
   struct mallinfo2 all = mallinfo2();
-  return all.uordblks + all.hblkhd;
+  return (size_t)all.uordblks + (size_t)all.hblkhd;
 }
 
 /* A table has more bytes. */

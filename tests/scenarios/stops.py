@@ -212,6 +212,11 @@ ROWS = {
         [*press("e"), "errno 0", "resized 24 80 0 0"],
         only={"c": "in Rust no call fails in a handler that notes a signal"},
     ),
+    "a handler that is set meanwhile": Row(
+        [*press("w")],
+        words=["inside"],
+        only={"c": "Python has its case in test_python_terminal"},
+    ),
     "an opening that fails": Row([*press("w"), Program.check_open], words=["retry"]),
     # What switches modes is written whole.
     "SIGTSTP while the output is stopped": Row(
