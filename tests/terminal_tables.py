@@ -1,10 +1,15 @@
-"""The tables of docs/TERMINALS.md, made from the data of tests/terminals."""
+"""What is made from the data of tests/terminals: the tables of docs/TERMINALS.md, and what the page
+of python/hedrugal/page shows."""
+import collections
+import itertools
 import re
 from pathlib import Path
 
 from terminal_data import FOLDER, KEY_MODES, is_kitty
+from terminal_judge import SEND_8
 
 DOCUMENT = Path(__file__).resolve().parent.parent / "docs/TERMINALS.md"
+PAGE_DATA = DOCUMENT.parent.parent / "python/hedrugal/page/terminals.tsv"
 TITLES = {
     "gnome-terminal": "gnome-terminal (VTE)",
     "putty": "PuTTY",
@@ -199,6 +204,43 @@ def replies(files):
         asked = [{it.what for it in lines if it.kind == "reply"} for _, lines in files.values()]
         rows.append([name, *("yes" if question in it else "" for it in asked)])
     return table(("", *map(title, files)), rows)
+
+
+def pressed(lines):
+    """The presses of the usual layout, without keys that are none by themselves: their bytes and
+    names, and in which modes a terminal sends these bytes for them, by their places."""
+    sent, presses, found = (collections.defaultdict(list) for _ in range(3))
+    for line in lines:
+        if line.kind == "press" and not line.layout:
+            for mode, name in itertools.product(line.modes.split(","), line.what.split()):
+                sent[mode, name].append(line.bytes.hex())
+    for (mode, name), texts in sent.items():
+        # In modes of cursor keys the lines also have what is sent without them.
+        usual = sent.get(("default", name)) if mode.startswith("dec") and len(texts) > 1 else None
+        for text in texts:
+            if name != "none" and text not in (usual or []):
+                presses[mode, text].append(name)
+    for (mode, text), names in presses.items():
+        found[text, " ".join(names)].append(KEY_MODES.index(mode))
+    return {it: tuple(sorted(modes)) for it, modes in found.items()}
+
+
+def page_data(files):
+    """Lines of a terminal, what its Backspace key sends, and some modes. Then lines of bytes, the
+    presses that send them, and the places of such terminals and modes from 0 on."""
+    rows = {}
+    for terminal, (_, lines) in files.items():
+        for it, modes in pressed(lines).items():
+            rows.setdefault(it, []).append((terminal, modes))
+    setups = sorted({setup for them in rows.values() for setup in them})
+    places = {it: str(place) for place, it in enumerate(setups)}
+    heads = []
+    for terminal, modes in setups:
+        erase = "BACKSPACE" if terminal in SEND_8 else "DELETE"
+        heads.append((title(terminal), erase, ",".join(KEY_MODES[it] for it in modes)))
+    texts = [(*it, " ".join(places[setup] for setup in them)) for it, them in rows.items()]
+    parts = ("\n".join(map("\t".join, it)) for it in (heads, texts))
+    return "\n\n".join(("# Made by tests/test_terminals.py --write", *parts)) + "\n"
 
 
 def with_table(text, name, made):

@@ -12,6 +12,8 @@ from pathlib import Path
 
 import pytest
 from conftest import SECONDS, entries_after, header_constant
+from hedrugal import Chord
+from hedrugal.page.recorded import sent
 from selenium.webdriver import ActionChains, Chrome, ChromeOptions
 from selenium.webdriver.chrome.service import Service
 from selenium.webdriver.common.keys import Keys
@@ -30,6 +32,7 @@ LINES = "$$('#items > li .event').map((it) => it.firstChild.textContent)"
 TWO_READS, SINGLE_BYTES = "#two .event", "#steps .event:not(.quiet)"
 HREFS = "$$('#rows a, #sent a').map((it) => it.hash.endsWith('&reading=extended'))"
 SAME = "✓ Two reads: the same events."
+PICKED = "$$('#keyboard :checked').map((it) => it.value).sort().join(' ')"
 EVIL = "<script>alert(1)</script><img src=x onerror=alert(2)>"
 
 # What has the focus, how that is shown, and its place in the page.
@@ -242,12 +245,13 @@ class Page:
         """The fragment of the link, which is made when it is copied."""
         return self.copied("copy", "link").removeprefix(self.url)
 
-    def picture(self, name, last="body"):
-        """Keeps a picture of the page, down to the element `last`."""
+    def picture(self, name, last="body", first="html"):
+        """Keeps a picture of the page, from the element `first` down to the element `last`."""
         self.run("document.activeElement.blur()")
+        top = f"$$('{first}')[0].getBoundingClientRect().top + scrollY - 16"
         bottom = f"$$('{last}')[0].getBoundingClientRect().bottom + scrollY + 16"
-        width, height = self.run(f"[innerWidth, {bottom}]")
-        clip = {"x": 0, "y": 0, "width": width, "height": height, "scale": 1}
+        width, top, bottom = self.run(f"[innerWidth, Math.max({top}, 0), {bottom}]")
+        clip = {"x": 0, "y": top, "width": width, "height": bottom - top, "scale": 1}
         taken = self.call("Page.captureScreenshot", captureBeyondViewport=True, clip=clip)
         if os.environ.get("SCREENSHOTS"):
             data = base64.b64decode(taken["data"])
@@ -275,14 +279,15 @@ def driver():
 @pytest.fixture
 def page(driver, server):
     """The page, in which nothing may go wrong: no exception, nothing that the policy refuses, no
-    dialog. Nothing that is typed or clicked changes its address."""
+    dialog. Nothing that is typed or clicked changes its address, but for the name of a key."""
     it = Page(driver, server)
     it.faults()
     it.size(*WIDE)
     it.scheme("light")
     it.open()
     yield it
-    assert it.run("[document.scripts.length, location.href]") == [1, it.address]
+    scripts, address = it.run("[document.scripts.length, location.href]")
+    assert (scripts, address.split("#key=")[0]) == (1, it.address.split("#key=")[0])
     assert it.faults() == []
 
 
@@ -290,7 +295,6 @@ def test_first_sight(page):
     page.check(["key UpArrow CTRL", "key U+0071 NONE"], "ESC")
     assert page.text("count") == "8 bytes: 2 events, and 1 byte waits."
     page.picture("light")
-    page.picture("page", "#waits")
 
 
 # Bytes, and what is said below each of their events.
@@ -405,6 +409,24 @@ def test_pressing_keys(page):
     page.check(lines, "ESC")
     page.press(Keys.TAB)
     assert page.run("document.activeElement.tagName") == "SUMMARY"
+
+
+def test_the_first_key_takes_the_place_of_an_example(page):
+    """It isn't Alt and that key, though the example ends in ESC. A changed example stays."""
+    page.press("a", on="press")
+    page.check(typed("a"))
+    page.click("[data-try='\\\\e']")
+    for lines in ([], typed("q"), typed("qa")):
+        page.check(lines, "" if lines else "ESC")
+        page.press("qa"[len(lines) : len(lines) + 1], on="press")
+    page.click("[data-try='\\\\e[1;']")
+    page.press("5", on="text")
+    page.check([], "ESC [ 1 ; 5")
+    page.press("A", on="press")
+    page.check(["key UpArrow CTRL"])
+    page.open("#bytes=1b")
+    page.press("q", on="press")
+    page.check(["key U+0071 ALT"])
 
 
 def test_pressing_keys_in_other_modes(page):
@@ -609,7 +631,8 @@ def test_search(page):
 
 def test_keys_in_every_mode(page):
     page.enter("i", "key")
-    page.click("#modifiers input[value=CTRL]")
+    page.wait_for_text("key-count", "key U+0069 NONE sends")
+    page.click("#keyboard [value=CTRL]")
     page.wait_for_text("key-count", "key U+0069 CTRL sends")
     rows = page.cells("#sent")
     assert len(rows) == 7
@@ -619,9 +642,84 @@ def test_keys_in_every_mode(page):
     assert ["CSI u, modifyOtherKeys off", *sent] in rows
     assert rows[-1] == ["Kitty’s protocol", sent[0], "key U+0069 CTRL", sent[2]]
     page.enter("Enter", "key")
-    page.click("#modifiers input[value=CTRL]")
     page.wait_for_text("key-count", "key Enter NONE sends")
     assert "newline mode" in page.text("sent")
+
+
+def test_picking_keys(page):
+    """A key that is picked is named, and shows what each terminal sends for it. The page's address
+    leads back to it."""
+    page.click("#keyboard [value=i]")
+    page.click("#keyboard [value=CTRL]")
+    page.wait_for_text("apart", "ctrl+i in 17 terminals. 13 can’t tell it from another press: ")
+    apart = "4 can tell it from others in some modes alone: foot, kitty, Vim's terminal, xterm."
+    assert page.text("apart").endswith(apart)
+    rows = page.cells("#recorded")
+    for row in (
+        ["xterm", "^I", "≠ tab", "ctrl+shift+i, ctrl+tab, tab"],
+        ["xterm, modifyOtherKeys 1", "^I", "≠ tab", "ctrl+shift+i, tab"],
+        ["kitty, Kitty’s flags 1, 3, 31", "ESC [ 1 0 5 ; 5 u", "✓ ctrl+i", "no other"],
+    ):
+        assert row in rows
+    page.wait("location.hash", "#key=ctrl%2Bi")
+    page.picture("keyboard", "#recorded", "#keys-heading")
+    page.open("#key=ctrl%2Bi")
+    assert (page.cells("#recorded"), page.value("key")) == (rows, "ctrl+i")
+    assert page.run(PICKED) == "CTRL i"
+    page.run("location.hash = '#key=up'")
+    page.wait_for_text("apart", "up in 17 terminals.")
+    wanted = ["alacritty, application cursor keys", "ESC O A", "✓ up", "no other"]
+    assert (page.run(PICKED), wanted in page.cells("#recorded")) == ("up", True)
+    page.click("#recorded td a")
+    page.check(["key UpArrow NONE"])
+
+
+# What is clicked one after the other, and the names of that.
+CLICKED = {
+    **{"1": "1", "SHIFT": "!", "ALT": "alt+!", "a": "alt+shift+a", "CTRL": "ctrl+alt+shift+a"},
+    **{",": "ctrl+alt+<", "space": "ctrl+alt+shift+space", "SUPER": "super+ctrl+alt+shift+space"},
+}
+
+
+def test_names_of_picked_keys(page):
+    """Shift makes a sign of some keys, as on the keyboard. Each key has a name that is read, and
+    was recorded."""
+    for value, name in CLICKED.items():
+        page.click(f"#keyboard [value='{value}']")
+        page.wait("$('key').value", name)
+    page.wait_for_text("apart", "super+ctrl+alt+shift+space in 17 terminals.")
+    names = page.run("$$('#keyboard [type=radio]').flatMap((it) => [it.value, it.dataset.sign])")
+    presses = [str(Chord.read(it)) for it in names if it]
+    assert len(presses) == len({*presses}) == 98
+    assert [it for it in presses if not sent(it)] == []
+
+
+def test_named_keys_on_the_keyboard(page):
+    """What is named or pressed is shown on the keyboard, if it is one press of a key there. No
+    press is in the address."""
+    names = {"alt+!": "1 ALT SHIFT", "f13": "", "A": "SHIFT a", "C-x C-s": "", "<Up>": "up"}
+    for name, keys in names.items():
+        page.enter(name, "key")
+        page.wait(PICKED, keys)
+    page.wait("location.hash", "#key=%3CUp%3E")
+    page.press("x", Keys.ALT, on="press")
+    page.wait(PICKED, "ALT x")
+    assert (page.value("key"), page.run("location.href")) == ("alt+x", page.url)
+
+
+def test_keyboard_by_keys(page):
+    """The arrow keys go to the next key of a row and to the nearest one of another, and the space
+    bar holds a modifier."""
+    page.run("$$('#keyboard [value=up]')[0].focus()")
+    steps = [(Keys.ARROW_UP, "end"), (Keys.ARROW_UP, "home"), (Keys.ARROW_LEFT, "insert")]
+    steps += [(Keys.ARROW_DOWN, "delete"), (Keys.ARROW_RIGHT, "end"), (Keys.ARROW_DOWN, "up")]
+    for key, name in [*steps, *2 * [(Keys.ARROW_DOWN, "down")]]:
+        page.press(key)
+        page.wait("[$('key').value, document.activeElement.value]", [name, name])
+    page.run("$$('#keyboard [value=SHIFT]')[0].focus()")
+    page.press(" ")
+    page.wait_for_text("apart", "shift+down in 17 terminals.")
+    page.wait("location.hash", "#key=shift%2Bdown")
 
 
 # Names, and what is said of their keys.
@@ -694,9 +792,12 @@ def test_links_of_texts(page):
 
 def test_broken_links(page):
     wrong = ("#bytes=1", "#bytes=zz", "#bytes=1b%3Cscript%3E", "#bytes=1b&cut=-1&end=%00")
-    for bad in (*wrong, "#<script>alert(1)</script>", "#%ff%fe"):
+    for bad in (*wrong, "#<script>alert(1)</script>", "#%ff%fe", "#key="):
         page.open(bad)
         assert page.run(LINES)
+    page.run("location.hash = '#key=<script>'")
+    page.wait_for_text("key-fault", "no key has this name, at byte 1: 'script>'.")
+    check_refused(page)
 
 
 def test_reports(page):
@@ -791,6 +892,7 @@ def test_narrow(page):
     inner = "!it.closest('.wide') && !it.closest('.hidden')"
     assert page.run(f"{wide}.filter((it) => {inner}).map((it) => it.outerHTML.slice(0, 80))") == []
     page.open_details(False)
+    assert page.run("Math.min(...$$('.key').map((it) => it.offsetWidth))") >= 24
     page.enter("C-i super+hyper+meta+pageup kitty57428", "key")
     page.wait_for_text("key-count", "key U+0069 CTRL sends")
     assert page.run(WIDTH) == 360
@@ -848,7 +950,8 @@ def test_keyboard_alone(page):
 
 ROLES = {*"textbox radio button slider searchbox checkbox combobox link application".split()}
 NAMED = """textbox Bytes/radio the sequence table alone/radio all that terminals send/slider Cut
-after byte/application Keys Press keys here/searchbox Search
+after byte/application Keys Press keys here/radio grave accent/radio Page Up/checkbox
+Ctrl/searchbox Search
 by words or bytes"""
 NAMED = {tuple(it.split(" ", 1)) for it in NAMED.replace("\n", " ").split("/")}
 

@@ -1,5 +1,6 @@
 """The server of the page, python/hedrugal/page, over sockets: what it refuses, and that its answers
 are the library's. Names, origins, methods, paths and bodies of any size are tried."""
+import collections
 import contextlib
 import functools
 import http.client
@@ -26,7 +27,11 @@ from hedrugal.page import meanings
 from hedrugal.page.lines import key_line, key_name, press_name, set_name, waiting_name
 from hedrugal.page.lines import line as line_of
 from hedrugal.page.reader import ENDS, READINGS, finish
+from hedrugal.page.recorded import load
 from hedrugal.page.server import AT_ONCE, FILES, MOST, Handler, Server
+from terminal_data import lines_of
+from terminal_judge import is_exact, reader_of
+from terminal_tables import title
 
 STREAM = b"hello\x1b[A\x1b\x1b[200~ab\xc3\xa9cd\x1b[201~q\x1b[<0;3;4M\xff\x1b[27;5;13~\xc3\xa9"
 STREAM += b"<script>alert(1)</script>"
@@ -407,8 +412,7 @@ def test_readings(client, data, table, extended):
 
 
 ALL_HELD = "SHIFT+ALT+CTRL+SUPER+HYPER+META+CAPS_LOCK+NUM_LOCK"
-# Bytes that the table doesn't know, their line in hedrugal-keys, and what is shown of their text
-# and of their press.
+# Bytes that the table doesn't know, their line, and what is shown of their text and of their press.
 REPORTS = [
     (b"\x1b[97;5:3u", "key U+0061 CTRL release", "a", ""),
     (b"\x1b[97;1:2u", "key U+0061 NONE repeat", "a", "a"),
@@ -601,6 +605,55 @@ def test_encodings_by_kitty(client, name, texts):
     assert [it[2:] for it in told["kitty"]] == [[name, True]] * 4
     is_alone = name in ("hyper+x", "kitty57428")
     assert [it is None for it in told["sent"]] == [is_alone] * 24
+
+
+# What a recorded terminal sends for a press: the first and the last of its modes, the bytes, what
+# is read in them, whether that is the press, and for which other presses they are sent.
+RECORDED = [
+    ("ctrl+i", "xterm", "default decckm+deckpam", b"\t", "tab", False, "ctrl+shift+i ctrl+tab tab"),
+    ("ctrl+i", "xterm", "mok1 mok1", b"\t", "tab", False, "ctrl+shift+i tab"),
+    ("ctrl+i", "xterm", "mok2 mok2", b"\x1b[27;5;105~", "ctrl+i", True, ""),
+    ("up", "PuTTY", "default default", b"\x1b[A", "up", True, "shift+up"),
+    ("up", "PuTTY", "decckm decckm+deckpam", b"\x1bOA", "up", True, "shift+up"),
+    ("backspace", "st", "default decckm+deckpam", b"\x7f", "backspace", True, "ctrl+8"),
+    ("backspace", "Vim's terminal", "mok2 kitty1", b"\x7f", "backspace", True, ""),
+    ("alt+a", "xterm", "default mok1", b"\xc3\xa1", "á", False, ""),
+    ("super+up", "xterm", "default mok2", b"\x1b[A", "up", False, "up"),
+    ("ctrl+!", "foot", "kitty1 kitty1", b"\x1b[49;6u", "ctrl+shift+1", True, ""),
+]
+# QTerminal's settings say that Backspace sends byte 8.
+OTHERS = "ctrl+h ctrl+shift+h shift+backspace"
+RECORDED += [("backspace", "qterminal", "default decckm+deckpam", b"\b", "backspace", True, OTHERS)]
+
+
+@pytest.mark.parametrize("name, terminal, modes, data, read, is_right, others", RECORDED)
+def test_recorded(client, name, terminal, modes, data, read, is_right, others):
+    rows = encodings(client, name)[0]["recorded"]
+    told = [
+        (f"{modes[0]} {modes[-1]}", bytes.fromhex(digits), press, same, " ".join(others))
+        for at, modes, (digits, _, press, same), others in rows
+        if at == terminal
+    ]
+    assert (modes, data, read, is_right, others) in told
+
+
+def test_recorded_presses():
+    """A press of the keyboard has one text in a mode, and is read as itself if docs/TERMINALS.md
+    counts it so. In modes of cursor keys that counts other presses too."""
+    told, texts = collections.defaultdict(set), set()
+    for name in load()[1]:
+        [key] = meanings.texts(name, "NONE")["keys"]
+        for terminal, modes, (digits, _, _, is_right), _ in key["recorded"]:
+            for mode in modes:
+                assert (terminal, mode, name) not in texts
+                texts.add((terminal, mode, name))
+                told[terminal, mode, bytes.fromhex(digits)].add(is_right)
+    assert len(texts) > 25000
+    for terminal, line in lines_of("press"):
+        for mode in line.modes.split(",") if line.what.isascii() and not line.layout else []:
+            found = told.get((title(terminal), mode, line.bytes))
+            if found and not mode.startswith("dec"):
+                assert (True in found) == is_exact(reader_of(terminal), line), (terminal, line)
 
 
 def test_keys_that_are_no_press(client):

@@ -1,7 +1,8 @@
 #!/usr/bin/python3
 """What real terminals sent, read by both dialects: tests/terminals has it.
 
-    tests/test_terminals.py --write    makes the tables of docs/TERMINALS.md anew
+    tests/test_terminals.py --write    makes the tables of docs/TERMINALS.md anew, and what the
+                                       page of python/hedrugal/page shows
 
 tests/terminal_judge.py says what is read exactly."""
 import collections
@@ -17,7 +18,7 @@ from hedrugal import CursorPosition, FocusGained, FocusLost, KeyCode, KeyPress, 
 from hedrugal import Modifiers, MouseButtons, MouseKind, Paste
 from terminal_data import left_out, lines_of, load_all, mouse_done
 from terminal_judge import is_exact, read, reader_of, told
-from terminal_tables import DOCUMENT, peers, set_up, tables, with_table
+from terminal_tables import DOCUMENT, PAGE_DATA, page_data, peers, set_up, tables, with_table
 
 sys.path.append(str(TOP / "tools/terminals"))
 import collect  # noqa: E402
@@ -262,11 +263,16 @@ def test_document(name):
     assert with_table(text, name, tables(FILES, judged())[name]) == text
 
 
+def test_page_data():
+    assert PAGE_DATA.read_text() == page_data(FILES)
+
+
 def write_tables():
     text = DOCUMENT.read_text()
     for name, made in tables(FILES, judged()).items():
         text = with_table(text, name, made)
     DOCUMENT.write_text(text)
+    PAGE_DATA.write_text(page_data(FILES))
 
 
 if __name__ == "__main__":

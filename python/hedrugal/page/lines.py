@@ -1,4 +1,4 @@
-"""The lines in which events are shown, as the program hedrugal-keys shows them."""
+"""The lines in which events are shown: those of keyshow, and for other events like ones."""
 from __future__ import annotations
 
 from typing import Any, Callable, Dict, Union
@@ -105,7 +105,7 @@ LINES: Dict[type, Callable[[Any], str]] = {
 
 
 def line(event: Event) -> str:
-    """The line that hedrugal-keys shows for an event. A long text is cut."""
+    """The line of an event, without its bytes. A long text is cut."""
     return LINES[type(event)](event)
 
 

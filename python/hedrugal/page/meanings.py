@@ -1,10 +1,10 @@
 """What the page shows, as values for JSON. The library alone decides what bytes mean: this module
-asks it, and names its answers as the program hedrugal-keys does."""
+asks it, and names its answers as keyshow does."""
 from __future__ import annotations
 
 import itertools
 import re
-from typing import Any, Dict, Iterable, List, Optional, Tuple
+from typing import Any, Dict, Iterable, List, Optional, Set, Tuple
 
 from hedrugal import (
     Apc,
@@ -40,6 +40,7 @@ from hedrugal import (
 from .lines import KEY_NAMES, SHOWN, glyphs, key_line, key_name, line, press_name, set_name
 from .lines import waiting_name
 from .reader import READINGS, Reader, acts, finish
+from .recorded import sent, terminals
 
 # The items that one answer lists, the reads of one byte that it lists, and the events that it lists
 # of a read.
@@ -201,31 +202,56 @@ def encoded_kitty(report: KeyReport, flags: KittyKeyboardFlags) -> Optional[byte
         return None
 
 
+def presses_of(event: Event) -> Set[Optional[KeyPress]]:
+    """The press of an event and its second one, or None alone."""
+    first = KeyPress.of_event(event)
+    second = KeyPress.second(event) if isinstance(event, KeyReport) else None
+    return {first, second} - {None} or {None}
+
+
 def read_back(
-    data: Optional[bytes], parser: Parser, wanted: Optional[KeyPress]
+    data: Optional[bytes], parser: Parser, right: Set[Optional[KeyPress]]
 ) -> Optional[List[Any]]:
-    """The bytes of a key, the lines of what the library reads in them, its name, and whether it is
-    the wanted press."""
+    """The bytes of a key, the lines of what the library reads in them, its name, and whether that
+    is one of the right presses."""
     if data is None:
         return None
     events = [*parser.feed(data), *parser.flush()]
     names = [press_name(event) or "no press" for event in events]
-    is_same = [KeyPress.of_event(event) for event in events] == [wanted]
+    is_right = len(events) == 1 and not right.isdisjoint(presses_of(events[0]))
     parser.reset()
-    return [data.hex(), ", ".join(map(line, events)), ", ".join(names), is_same]
+    return [data.hex(), ", ".join(map(line, events)), ", ".join(names), is_right]
+
+
+# The signs that Shift makes of other characters on a keyboard of the United States.
+SIGNS = dict(zip('~!@#$%^&*()_+{}|:"<>?', "`1234567890-=[]\\;',./"))
+
+
+def recorded_texts(press: Optional[KeyPress], parser: Parser) -> List[List[Any]]:
+    """What each recorded terminal sends for a press in some modes, with what the library reads in
+    it, and the names of other presses for which it sends the same. A terminal may tell Shift in
+    place of the sign that it makes."""
+    right, told = {press}, []
+    if press and press.held and isinstance(press.key, str) and press.key in SIGNS:
+        right.add(KeyPress(SIGNS[press.key], press.held | KittyModifiers.SHIFT))
+    for (terminal, reading, modes), data, others in sent(str(press)) if press else []:
+        parser.reading = reading
+        told.append([terminal, modes, read_back(data, parser, right), others])
+    return told
 
 
 def key_texts(key: ReportedKey, held: KittyModifiers) -> Json:
-    """The bytes that a terminal sends for a key in each of MODES, and for each of FLAGS, with what
-    the library reads in them."""
+    """The bytes that a terminal sends for a key in each of MODES, and for each of FLAGS, and those
+    that recorded terminals sent, with what the library reads in them."""
     report = report_of(key, held)
     wanted = KeyPress.of_report(report)
     with Parser() as parser:
         return {
             "line": key_line(key, held),
             "press": str(wanted) if wanted else "",
-            "sent": [read_back(encoded(key, held, modes), parser, wanted) for modes in MODES],
-            "kitty": [read_back(encoded_kitty(report, it), parser, wanted) for it in FLAGS],
+            "sent": [read_back(encoded(key, held, modes), parser, {wanted}) for modes in MODES],
+            "kitty": [read_back(encoded_kitty(report, it), parser, {wanted}) for it in FLAGS],
+            "recorded": recorded_texts(wanted, parser),
         }
 
 
@@ -284,13 +310,15 @@ class Meanings:
         )
 
     def table(self) -> Json:
-        """The entries, and the names of all keys that can be asked for."""
+        """The entries, and the names of all keys that can be asked for and of all terminals that
+        were recorded."""
         keys = [name for name in KEY_NAMES.values() if not name.startswith("Internal")]
         return {
             "version": __version__,
             "keys": keys + [f"F{number}" for number in range(1, 25)],
             "modifiers": HELD,
             "flags": [it.value for it in FLAGS],
+            "terminals": terminals(),
             "rows": [
                 [it.bytes.hex(), key_name(it.key), set_name(it.modifiers)] for it in self.entries
             ],

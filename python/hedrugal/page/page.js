@@ -234,8 +234,9 @@ function failed(error) {
 
 // ---- The input and what it means
 
-// The bytes, what comes after them (more, flush or paste), where they are cut, and the answers that are shown.
-const state = { bytes: new Uint8Array(), end: 'more', cut: null, owners: [], lines: [], waits: null, table: null };
+// The bytes, what comes after them (more, flush or paste), where they are cut, the example that no key took the place of, and the answers
+// that are shown.
+const state = { bytes: new Uint8Array(), end: 'more', cut: null, example: null, owners: [], lines: [], waits: null, table: null };
 let asking = new AbortController();
 
 const notation = () => chosen('notation');
@@ -267,6 +268,20 @@ function fill(bytes) {
     if (!same(bytesOf($('text').value, notation()).bytes, bytes)) choose('notation', 'text');
   }
   readField();
+}
+
+function showExample(text) {
+  $('text').value = text;
+  state.cut = null;
+  state.example = text;
+  setBytes(readField());
+}
+
+// The bytes to which those of a key are added: none while the field has an example as it was.
+function bytesBefore() {
+  const isExample = $('text').value === state.example;
+  state.example = null;
+  return isExample ? new Uint8Array() : state.bytes;
 }
 
 // The bytes that are compared. The server knows by one byte more that others follow.
@@ -524,6 +539,7 @@ function loadLink(hash) {
   state.cut = /^[0-9]{1,8}$/.test(cut) ? Number(cut) : null;
   choose('reading', Object.hasOwn(READINGS, reading) ? reading : 'table');
   showReading();
+  state.example = null;
   fill(fromHex(hex));
   setBytes(fromHex(hex), ['flush', 'paste'].includes(end) ? end : 'more');
   return true;
@@ -587,34 +603,212 @@ function press(event) {
   pressing = pressing.then(() => ask('encode', { name: key, modifiers })).then((answer) => {
     const [{ line, sent: texts }] = answer.keys, [hex = ''] = texts[modeIndex(modesNow())] ?? [], sent = fromHex(hex);
     set('pressed', sent.length ? `${line} sends ${sequence(sent)}` : `${line} sends nothing in these modes`);
-    const bytes = new Uint8Array(state.bytes.length + sent.length);
-    bytes.set(state.bytes);
-    bytes.set(sent, state.bytes.length);
+    const before = bytesBefore(), bytes = new Uint8Array(before.length + sent.length);
+    bytes.set(before);
+    bytes.set(sent, before.length);
     fill(bytes);
     setBytes(bytes);
-    $('key').value = key === 'U+0020' ? 'space' : key.startsWith('U+') ? String.fromCodePoint(parseInt(key.slice(2), 16)) : key;
-    for (const box of $('modifiers').querySelectorAll('input')) box.checked = held.includes(box.value);
+    $('key').value = answer.keys[0].press || key;
+    asked += 1;
     showSent(answer);
+    showOnKeyboard(answer.keys);
+    if (location.hash.startsWith('#key=')) showAddress('');
   }).catch(failed);
 }
 
 let asked = 0;
+// Shows what the named key sends, and returns the keys of the answer. None if the name is wrong, or if another one came meanwhile.
 async function showKey() {
   const name = $('key').value, mine = ++asked;
-  const held = [...$('modifiers').querySelectorAll('input:checked')].map((box) => box.value).join('+') || 'NONE';
   const fault = (words) => {
     set('key-fault', words);
     $('key').setAttribute('aria-invalid', String(words !== ''));
   };
   try {
-    const answer = await ask('encode', { name, modifiers: held });
-    if (mine !== asked) return;
+    const answer = await ask('encode', { name });
+    if (mine !== asked) return null;
     fault('');
     showSent(answer);
+    return answer.keys;
   } catch (error) {
     if (mine === asked) fault(`${error.message}.`);
+    return null;
   }
 }
+
+// A key that is named or picked is in the page's address, which leads back to it. No key is there that is pressed in the box.
+const addressOf = (name) => (name ? `#${new URLSearchParams({ key: name })}` : location.pathname);
+const showAddress = (name) => history.replaceState(null, '', addressOf(name));
+
+async function loadKey(hash) {
+  const name = new URLSearchParams(hash.slice(1)).get('key');
+  if (name) $('key').value = name;
+  showOnKeyboard(await showKey() ?? []);
+  if (name) $('keys-heading').scrollIntoView();
+}
+
+async function nameKey() {
+  const keys = await showKey();
+  if (!keys) return;
+  showOnKeyboard(keys);
+  showAddress($('key').value);
+}
+
+const showPicked = delayed(150, async () => {
+  if (await showKey()) showAddress($('key').value);
+});
+
+function pickKey() {
+  const name = nameOfPicked();
+  if (!name) return;
+  $('key').value = name;
+  asked += 1;
+  showPicked();
+}
+
+// ---- The keyboard
+
+// The rows of a keyboard of the United States, in two blocks. Behind a key is the sign that Shift makes of it. A number is a gap.
+const KEYBOARD = [[
+  'escape 4 f1 f2 f3 f4 2 f5 f6 f7 f8 2 f9 f10 f11 f12',
+  '`~ 1! 2@ 3# 4$ 5% 6^ 7& 8* 9( 0) -_ =+ backspace',
+  'tab q w e r t y u i o p [{ ]} \\|',
+  '7 a s d f g h j k l ;: \'" enter',
+  'SHIFT z x c v b n m ,< .> /? 11',
+  'CTRL SUPER ALT space menu 6',
+], ['printscreen pause 4', 'insert home pageup', 'delete end pagedown', '60', '4 up 4', 'left down right']];
+// How wide keys are, in quarters of a letter's key.
+const WIDTHS = { backspace: 8, tab: 6, '\\|': 6, enter: 9, SHIFT: 9, CTRL: 6, SUPER: 6, ALT: 6, space: 30, menu: 6 };
+// What stands on a key, if that isn't its name, and what a screen reader calls a sign.
+const CAPS = {
+  escape: 'Esc', backspace: '⌫', printscreen: 'Print Screen', pageup: 'Page Up', pagedown: 'Page Down', up: '↑', down: '↓', left: '←', right: '→',
+};
+const SPOKEN = {
+  '`': 'grave accent', '-': 'hyphen', '=': 'equals sign', '[': 'left bracket', ']': 'right bracket', '\\': 'backslash', ';': 'semicolon',
+  "'": 'apostrophe', ',': 'comma', '.': 'period', '/': 'slash',
+};
+
+const keysDrawn = () => [...$('keyboard').querySelectorAll('[type=radio]')];
+const modifiersDrawn = () => [...$('keyboard').querySelectorAll('[type=checkbox]')];
+
+function drawnKey(word) {
+  const [key, sign] = /^.[^a-z0-9]$/.test(word) ? word : [word];
+  const cap = CAPS[key] ?? (key.length > 1 ? key[0].toUpperCase() + key.slice(1).toLowerCase() : key);
+  const how = state.table.modifiers.includes(key) ? { type: 'checkbox' } : { type: 'radio', name: 'picked' };
+  const input = el('input', { ...how, value: key, 'aria-label': SPOKEN[key] ?? (cap.length > 1 ? cap : key) });
+  if (sign) input.dataset.sign = sign;
+  return el('label', { class: 'key' }, input, el('span', {}, ...(sign ? [el('small', {}, sign)] : []), cap));
+}
+
+function drawn(word) {
+  const gap = Number(/^\d+$/.exec(word)), it = gap ? el('span', { class: 'gap' }) : drawnKey(word);
+  it.style.setProperty('--width', gap || WIDTHS[word] || 4);
+  return it;
+}
+
+function drawKeyboard() {
+  const blocks = KEYBOARD.map((rows) => el('div', {}, ...rows.map((row) => el('div', { class: 'row' }, ...row.split(' ').map(drawn)))));
+  $('keyboard').append(...blocks);
+}
+
+// Shows on the keyboard what was named, if it is one press of a key that is there.
+function showOnKeyboard(keys) {
+  const [, prefix, name] = /^((?:[a-z]+\+)*)(.*)$/su.exec(keys.length === 1 ? keys[0].press : '');
+  const held = prefix.toUpperCase().split('+'), isCapital = /^[A-Z]$/.test(name);
+  const wanted = isCapital ? name.toLowerCase() : name;
+  const key = keysDrawn().find((it) => it.value === wanted || it.dataset.sign === name);
+  if (isCapital || key?.dataset.sign === name) held.push('SHIFT');
+  for (const it of keysDrawn()) it.checked = it === key;
+  for (const it of modifiersDrawn()) it.checked = key !== undefined && held.includes(it.value);
+}
+
+// The name of the key that is picked on the keyboard, with what is held. Shift is in a sign that it makes.
+function nameOfPicked() {
+  const key = keysDrawn().find((it) => it.checked), isHeld = (name) => modifiersDrawn().some((it) => it.checked && it.value === name);
+  const sign = isHeld('SHIFT') ? key?.dataset.sign : undefined;
+  const held = ['SUPER', 'CTRL', 'ALT', 'SHIFT'].filter((name) => isHeld(name) && !(sign && name === 'SHIFT'));
+  return key && [...held.map((name) => name.toLowerCase()), sign ?? key.value].join('+');
+}
+
+// The arrow keys up and down go to the nearest key of another row. Those to the sides go on in the row, as in any group of radio buttons.
+function goToRow(event) {
+  const way = { ArrowUp: -1, ArrowDown: 1 }[event.key], from = event.target.getBoundingClientRect();
+  if (!way || event.target.type !== 'radio') return;
+  event.preventDefault();
+  const far = (it) => {
+    const to = it.getBoundingClientRect(), down = way * (to.y - from.y);
+    return down > 5 ? 2 * down + Math.abs(to.x + to.width / 2 - from.x - from.width / 2) : Infinity;
+  };
+  const nearest = keysDrawn().reduce((one, other) => (far(other) < far(one) ? other : one));
+  if (far(nearest) === Infinity) return;
+  nearest.focus();
+  nearest.click();
+}
+
+// ---- What recorded terminals send
+
+const MODE_KINDS = { mok: 'modifyOtherKeys', kitty: 'Kitty’s flags' };
+const APPLICATION = { decckm: 'cursor keys', deckpam: 'keypad', 'decckm+deckpam': 'cursor keys and keypad' };
+
+// The modes behind a terminal's name. It starts in `default`. Application modes are named where they differ from that, and both together
+// where one alone doesn't.
+function modesText(modes) {
+  const isStart = modes.includes('default'), isAlone = modes.includes('decckm') || modes.includes('deckpam');
+  const application = Object.keys(APPLICATION).filter((it) => modes.includes(it) && !(isAlone && it === 'decckm+deckpam'));
+  const texts = application.length && !isStart ? [`application ${application.map((it) => APPLICATION[it]).join(', ')}`] : [];
+  for (const [start, kind] of Object.entries(MODE_KINDS)) {
+    const those = modes.filter((it) => it.startsWith(start)).map((it) => it.slice(start.length));
+    if (those.length) texts.push(`${kind} ${those.join(', ')}`);
+  }
+  return texts.length ? `, ${isStart ? 'also ' : ''}${texts.join('; ')}` : '';
+}
+
+function recordedRow([terminal, modes, [hex, , press, isRight], others]) {
+  return el('tr', {}, el('th', { scope: 'row' }, terminal, el('span', { class: 'quiet' }, modesText(modes))),
+    el('td', {}, linkTo(hex, {}, 'extended')), el('td', {}, `${isRight ? '✓' : '≠'} ${press}`),
+    el('td', {}, others.join(', ') || 'no other'));
+}
+
+// How well terminals tell a press from others.
+const APART = {
+  never: 'can’t tell it from another press', some: 'can tell it from others in some modes alone',
+  always: 'can tell it from others in each mode', nothing: 'sent nothing for it, or did a command of their own',
+};
+
+function howApart(rows) {
+  const apart = rows.filter(([, , , others]) => !others.length);
+  if (!rows.length) return 'nothing';
+  return apart.length === rows.length ? 'always' : apart.length ? 'some' : 'never';
+}
+
+function apartWords({ press, line, recorded }) {
+  const all = state.table.terminals, how = new Map(all.map((it) => [it, howApart(recorded.filter(([name]) => name === it))]));
+  const told = Object.entries(APART).map(([name, words]) => {
+    const those = all.filter((it) => how.get(it) === name);
+    return those.length ? `${those.length} ${words}: ${those.join(', ')}. ` : '';
+  });
+  return el('p', {}, el('b', {}, `${press || line} in ${all.length} terminals.`), ' ',
+    recorded.length ? told.join('') : 'No terminal was recorded with it.');
+}
+
+function headOf(...names) {
+  return el('thead', {}, el('tr', {}, ...names.map((name) => el('th', { scope: 'col' }, name))));
+}
+
+// The rows of each key of a chord, under its name if there are several.
+function bodies(keys, rows) {
+  const heading = (key) => el('tr', {}, el('th', { scope: 'rowgroup', colspan: 4 }, key.press));
+  return keys.map((key) => el('tbody', {}, ...(keys.length > 1 ? [heading(key)] : []), ...rows(key)));
+}
+
+function showRecorded(keys) {
+  $('apart').replaceChildren(...keys.map(apartWords));
+  $('recorded').closest('.wide').hidden = !keys.some((key) => key.recorded.length);
+  $('recorded').replaceChildren(headOf('Terminal and modes', 'Bytes', 'Read as', 'Also sent for'),
+    ...bodies(keys, (key) => key.recorded.map(recordedRow)));
+}
+
+// ---- What a key sends in every mode
 
 // Which of the modes change what a key sends.
 function mattersTo(hex) {
@@ -662,13 +856,10 @@ function sentWords(key) {
 
 function showSent(answer) {
   state.sent = answer;
-  const heads = ['Modes', 'Bytes', 'The library reads', 'Read back as'], isChord = answer.keys.length > 1;
+  showRecorded(answer.keys);
   set('key-count', answer.keys.map(sentWords).join(' '));
-  $('sent').replaceChildren(
-    el('thead', {}, el('tr', {}, ...heads.map((name) => el('th', { scope: 'col' }, name)))),
-    ...answer.keys.map((key) => el('tbody', {},
-      ...(isChord ? [el('tr', {}, el('th', { scope: 'rowgroup', colspan: heads.length }, key.press))] : []),
-      ...modeRows(key), ...flagRows(key))));
+  $('sent').replaceChildren(headOf('Modes', 'Bytes', 'The library reads', 'Read back as'),
+    ...bodies(answer.keys, (key) => [...modeRows(key), ...flagRows(key)]));
   const names = modesNow().map((value, at) => (value ? MODE_NAMES[at][value] : '')).filter(Boolean);
   set('modes-now', names.length ? names.join(', ') : 'xterm, all off');
 }
@@ -766,9 +957,9 @@ function start(table) {
   state.table = { ...table, words: table.rows.map(wordsOfRow) };
   set('version', table.version);
   $('key-names').replaceChildren(...table.keys.map((name) => el('option', { value: name })));
-  for (const name of table.modifiers) $('modifiers').append(el('label', {}, el('input', { type: 'checkbox', value: name }), ` ${name}`));
+  drawKeyboard();
   showFound();
-  showKey();
+  loadKey(location.hash);
 }
 
 const showTyped = delayed(60, () => {
@@ -797,9 +988,7 @@ for (const button of document.querySelectorAll('[data-try]')) {
     choose('notation', 'auto');
     if (button.dataset.reading) choose('reading', button.dataset.reading);
     showReading();
-    $('text').value = button.dataset.try;
-    state.cut = null;
-    setBytes(readField());
+    showExample(button.dataset.try);
   });
 }
 $('cut').addEventListener('input', () => {
@@ -810,10 +999,14 @@ $('cut').addEventListener('input', () => {
 $('copy').addEventListener('click', () => copy(link(), 'The link'));
 $('copy-report').addEventListener('click', () => copy(report(), 'The report'));
 for (const id of MODES) $(id).addEventListener('change', () => { if (state.sent) showSent(state.sent); });
-$('key').addEventListener('input', delayed(300, showKey));
-$('modifiers').addEventListener('change', showKey);
+$('key').addEventListener('input', delayed(300, nameKey));
+$('keyboard').addEventListener('change', pickKey);
+$('keyboard').addEventListener('keydown', goToRow);
 $('find').addEventListener('input', delayed(40, showFound));
-window.addEventListener('hashchange', () => follow(location.hash));
+window.addEventListener('hashchange', () => {
+  follow(location.hash);
+  loadKey(location.hash);
+});
 document.addEventListener('click', (event) => {
   const clicked = event.target.closest('a[data-hex]');
   if (!clicked || event.ctrlKey || event.metaKey || event.shiftKey || event.altKey) return;
@@ -822,8 +1015,5 @@ document.addEventListener('click', (event) => {
 });
 
 showReading();
-if (!loadLink(location.hash)) {
-  $('text').value = '\\e[1;5Aq\\e';
-  setBytes(readField());
-}
+if (!loadLink(location.hash)) showExample('\\e[1;5Aq\\e');
 ask('table', {}).then(start).catch(failed);
