@@ -4,10 +4,9 @@
     python3 backend.py FOLDER      writes the wheel to a folder
 
 The wheel has the shared library: what HEDRUGAL_LIBRARY names, a file or a folder, or else what make
-built in out/lib, or else the installed one, or else the prebuilt one, which a C compiler links.
+built in out/lib, or else the installed one, or else the prebuilt one of this folder.
 `pip install -v` says which it is. The same files make the same bytes, of the time that
-SOURCE_DATE_EPOCH names, or of 1980."""
-import ast
+SOURCE_DATE_EPOCH names, or of 1980. HEDRUGAL_URL is the address of the project for its metadata."""
 import base64
 import ctypes
 import ctypes.util
@@ -17,12 +16,8 @@ import io
 import os
 import platform
 import re
-import shlex
-import shutil
-import subprocess
 import sys
 import tarfile
-import tempfile
 import time
 import zipfile
 from pathlib import Path
@@ -34,25 +29,34 @@ NAME = f"hedrugal-{VERSION}"
 # The earliest time that a zip file can tell.
 SECONDS = max(int(os.environ.get("SOURCE_DATE_EPOCH", 0)), 315532800)
 # The processors by their numbers in the header of an ELF file: the name, which of them the library
-# needs, and the oldest C library for which pip knows wheels.
+# needs, and the oldest glibc for which pip knows wheels.
 PROCESSORS = {
     62: ("x86_64", "processors of the level x86-64-v2, with SSE4.2 and POPCNT", (2, 5)),
     183: ("aarch64", "64-bit ARM processors", (2, 17)),
 }
+# The musl on which it was tried.
+MUSL = (1, 2)
+URL = os.environ.get("HEDRUGAL_URL")
+PROJECT_URL = f"Project-URL: Source, {URL}\n" if URL else ""
+# The page, without the comments that say how its listings are tested.
+PAGE = re.sub("<!-- .* -->\n", "", (HERE / "README.md").read_text(encoding="utf-8"))
 METADATA = f"""\
 Metadata-Version: 2.1
 Name: hedrugal
 Version: {VERSION}
 Summary: Key, mouse and paste events from the bytes that a terminal sends
+Keywords: terminal,tty,keyboard,keys,mouse,paste,input,escape sequences,xterm,kitty
 License: MIT
+{PROJECT_URL}Classifier: Environment :: Console
 Classifier: License :: OSI Approved :: MIT License
 Classifier: Operating System :: POSIX :: Linux
 Classifier: Programming Language :: Python :: 3
+Classifier: Topic :: Terminals
+Classifier: Typing :: Typed
 Requires-Python: >=3.9
-Description-Content-Type: text/plain
+Description-Content-Type: text/markdown
 
-{ast.get_docstring(ast.parse(MODULE))}
-"""
+{PAGE}"""
 
 
 def stop(fault):
@@ -60,11 +64,13 @@ def stop(fault):
 
 
 def found(name):
-    """Returns the place of a file of the repository, of which a source distribution has a copy."""
-    return next((it for it in (HERE / name, HERE.parent / name) if it.exists()), None)
+    """Returns the place of a file of the repository, of which a source distribution has a copy. An
+    older pip copies this folder alone, to one in which others may write: nothing there is ours."""
+    folders = [HERE] if HERE.parent.stat().st_mode & 0o002 else [HERE, HERE.parent]
+    return next((it / name for it in folders if (it / name).exists()), None)
 
 
-def named_library(_):
+def named_library():
     named = os.environ.get("HEDRUGAL_LIBRARY")
     if not named:
         return None
@@ -74,11 +80,11 @@ def named_library(_):
     return file if file.is_file() else stop(f"there is no {file}, as HEDRUGAL_LIBRARY says")
 
 
-def built_library(_):
+def built_library():
     return found("out/lib/libhedrugal.so")
 
 
-def installed_library(_):
+def installed_library():
     name = ctypes.util.find_library("hedrugal")
     if not name:
         return None
@@ -91,24 +97,15 @@ def installed_library(_):
     return Path(re.search(r"/.*/libhedrugal\.so.*", loaded)[0])
 
 
-def prebuilt_library(work):
-    """Links the prebuilt archive, if it is what is noted beside it."""
-    folder = f"prebuilt/{platform.machine()}-{sys.platform}"
-    archive = found(f"{folder}/libhedrugal.a")
-    if not archive:
-        stop(f"there is no {folder}/libhedrugal.a: HEDRUGAL_LIBRARY can name a libhedrugal.so")
-    checksum = hashlib.sha256(archive.read_bytes()).hexdigest()
-    provenance = archive.with_name("PROVENANCE")
-    if f"sha256 libhedrugal.a: {checksum}\n" not in provenance.read_text(encoding="utf-8"):
-        stop(f"{archive} isn't what PROVENANCE beside it says: get that folder again")
-    compiler = shlex.split(os.environ.get("CC", "cc"))
-    if not shutil.which(compiler[0]):
-        stop(f"there is no compiler {compiler[0]!r}, to link the library: install gcc, or set CC")
-    file = Path(work, "libhedrugal.so")
-    command = [*compiler, "-shared", "-Wl,-z,now,-z,relro,-z,noexecstack", "-o", file]
-    whole = ["-Wl,--whole-archive", archive, "-Wl,--no-whole-archive"]
-    if subprocess.run([*command, *whole], check=False).returncode:
-        stop(f"the compiler {compiler[0]!r} can't link {archive}")
+def prebuilt_library():
+    """Returns the prebuilt library, if it is what is noted beside it."""
+    file = HERE / f"prebuilt/{platform.machine()}-{sys.platform}/libhedrugal.so"
+    if not file.exists():
+        stop(f"there is no {file}: HEDRUGAL_LIBRARY can name a libhedrugal.so")
+    checksum = hashlib.sha256(file.read_bytes()).hexdigest()
+    provenance = file.with_name("PROVENANCE").read_text(encoding="utf-8")
+    if f"sha256 libhedrugal.so: {checksum}\n" not in provenance:
+        stop(f"{file} isn't what PROVENANCE beside it says: get that folder again")
     return file
 
 
@@ -120,9 +117,9 @@ ORIGINS = {
 }
 
 
-def shared_library(work):
-    """Returns the file of the library, which may be made in a folder, and its row of PROCESSORS."""
-    files = ((find(work), origin) for origin, find in ORIGINS.items())
+def shared_library():
+    """Returns the file of the library, and its row of PROCESSORS."""
+    files = ((find(), origin) for origin, find in ORIGINS.items())
     file, origin = next((file, origin) for file, origin in files if file)
     print(f"hedrugal: the library is {origin}: {file}")
     header = file.read_bytes()[:20]
@@ -147,10 +144,14 @@ def check_version(file):
         )
 
 
-def tag_of(library, row):
-    """Returns the tag of a wheel: any Python 3 can use it, where the C library is as new as the
-    library needs."""
+def tags_of(library, row):
+    """Returns the tags of a wheel, with dots between them: any Python 3 can use it. A library that
+    names no C library, as the prebuilt one, runs on glibc and on musl. Another one needs a glibc as
+    new as its symbols."""
     machine, _, oldest = row
+    if not re.search(rb"\0libc\.", library):
+        tags = "manylinux_{}_{}".format(*oldest), "musllinux_{}_{}".format(*MUSL)
+        return "py3-none-" + ".".join(f"{it}_{machine}" for it in tags)
     versions = re.findall(rb"GLIBC_(\d+)\.(\d+)", library)
     if not versions:
         return f"py3-none-linux_{machine}"
@@ -172,31 +173,48 @@ def documents():
             yield name, path.read_bytes()
 
 
-def files_of_wheel(library, row, tag):
-    note = f"\nThe wheel has that library, for {row[1]}.\n"
+def files_of_wheel(library, row):
+    note = f"\nThe wheel has the library, for {row[1]}.\n"
     yield from files_of_module()
     yield "hedrugal/libhedrugal.so", library
     for name, data in documents():
         yield f"{NAME}.dist-info/{name}", data
     yield f"{NAME}.dist-info/METADATA", (METADATA + note).encode()
-    lines = ("Wheel-Version: 1.0", "Generator: hedrugal", "Root-Is-Purelib: false", f"Tag: {tag}")
-    yield f"{NAME}.dist-info/WHEEL", "".join(f"{line}\n" for line in lines).encode()
+
+
+def write_wheel(folder, files, tags):
+    """Writes a wheel of such files to a folder, and returns its name."""
+    python, abi, platforms = tags.split("-")
+    lines = ["Wheel-Version: 1.0", "Generator: hedrugal", "Root-Is-Purelib: false"]
+    lines += [f"Tag: {python}-{abi}-{it}" for it in platforms.split(".")]
+    info, record = f"{NAME}.dist-info", ""
+    added = {
+        f"{info}/entry_points.txt": "[console_scripts]\nhedrugal = hedrugal.__main__:main\n",
+        f"{info}/WHEEL": "".join(f"{line}\n" for line in lines),
+    }
+    with zipfile.ZipFile(Path(folder, f"{NAME}-{tags}.whl"), "w") as wheel:
+        for name, data in [*files, *((name, text.encode()) for name, text in added.items())]:
+            digest = base64.urlsafe_b64encode(hashlib.sha256(data).digest()).decode().rstrip("=")
+            record += f"{name},sha256={digest},{len(data)}\n"
+            add_to_wheel(wheel, name, data)
+        add_to_wheel(wheel, f"{info}/RECORD", f"{record}{info}/RECORD,,\n".encode())
+    return f"{NAME}-{tags}.whl"
 
 
 def build_wheel(wheel_directory, config_settings=None, metadata_directory=None):
     """Writes the wheel to a folder, and returns its name: a hook of PEP 517."""
-    with tempfile.TemporaryDirectory() as work:
-        file, row = shared_library(work)
-        library = file.read_bytes()
-    tag, record = tag_of(library, row), ""
-    with zipfile.ZipFile(Path(wheel_directory, f"{NAME}-{tag}.whl"), "w") as wheel:
-        for name, data in files_of_wheel(library, row, tag):
-            digest = base64.urlsafe_b64encode(hashlib.sha256(data).digest()).decode().rstrip("=")
-            record += f"{name},sha256={digest},{len(data)}\n"
-            add_to_wheel(wheel, name, data)
-        name = f"{NAME}.dist-info/RECORD"
-        add_to_wheel(wheel, name, f"{record}{name},,\n".encode())
-    return f"{NAME}-{tag}.whl"
+    file, row = shared_library()
+    library = file.read_bytes()
+    return write_wheel(wheel_directory, files_of_wheel(library, row), tags_of(library, row))
+
+
+def build_editable(wheel_directory, config_settings=None, metadata_directory=None):
+    """Writes a wheel that leads to this folder, whose module takes the prebuilt library: a hook of
+    PEP 660."""
+    print(f"hedrugal: the library is the prebuilt one: {prebuilt_library()}")
+    files = {"hedrugal.pth": f"{HERE}\n", f"{NAME}.dist-info/METADATA": METADATA}
+    data = ((name, text.encode()) for name, text in files.items())
+    return write_wheel(wheel_directory, data, "py3-none-any")
 
 
 def add_to_wheel(wheel, name, data):
@@ -209,12 +227,10 @@ def files_of_sdist():
     yield from files_of_module()
     yield from documents()
     yield "PKG-INFO", METADATA.encode()
-    for name in ("backend.py", "pyproject.toml"):
+    for name in ("README.md", "backend.py", "pyproject.toml"):
         yield name, (HERE / name).read_bytes()
-    prebuilt = found("prebuilt")
-    for path in sorted(prebuilt.glob("*/*")) if prebuilt else []:
-        if path.name in ("libhedrugal.a", "PROVENANCE"):
-            yield f"prebuilt/{path.relative_to(prebuilt)}", path.read_bytes()
+    for path in sorted((HERE / "prebuilt").glob("*/*")):
+        yield str(path.relative_to(HERE)), path.read_bytes()
 
 
 def build_sdist(sdist_directory, config_settings=None):

@@ -4,18 +4,15 @@ that HEDRUGAL_LIBRARY names, or the one that make built, or an installed or the 
     python3 -m pytest python"""
 import os
 import sys
-import tempfile
 
 import pytest
 
 sys.dont_write_bytecode = True
 pytest.register_assert_rewrite("cases", "helpers")
-# Where the prebuilt library is linked. The folder is removed as Python ends.
-WORK = tempfile.TemporaryDirectory()
 try:
     import backend
 
-    os.environ["HEDRUGAL_LIBRARY"] = str(backend.shared_library(WORK.name)[0])
+    os.environ["HEDRUGAL_LIBRARY"] = str(backend.shared_library()[0])
     import hedrugal
 except (ImportError, SystemExit) as error:
     pytest.exit(f"the tests can't start: {error}", returncode=2)

@@ -11,10 +11,10 @@ from pathlib import Path
 import pytest
 
 import hedrugal
-from helpers import HERE, LIBRARY, TOP, run_python, set_version
+from helpers import HERE, LIBRARY, TOP, read, run_python, set_version
 
 NAME = f"hedrugal-{hedrugal.__version__}"
-PREBUILT = f"prebuilt/{platform.machine()}-linux"
+PREBUILT = f"python/prebuilt/{platform.machine()}-linux"
 SAID = "hedrugal: the library is"
 # The test's machine may have the library installed.
 BUILD = """
@@ -28,11 +28,10 @@ print(backend.{hook}("{top}"))
 
 @pytest.fixture
 def tree(tmp_path):
-    """A copy of the sources and the prebuilt library, in a folder with a space in its name."""
+    """A copy of the sources, in a folder with a space in its name."""
     top = tmp_path / "a copy"
-    ignored = shutil.ignore_patterns("test_*", "__pycache__", "*.so")
+    ignored = shutil.ignore_patterns("test_*", "__pycache__")
     shutil.copytree(HERE, top / "python", ignore=ignored)
-    shutil.copytree(os.path.join(TOP, "prebuilt"), top / "prebuilt")
     (top / "docs").mkdir()
     for name in ("LICENSE", "THIRD-PARTY", "docs/EXTENDED.md"):
         shutil.copy(os.path.join(TOP, name), top / name)
@@ -70,6 +69,10 @@ def check_record(files):
     assert len(lines) == len(files) - 1
 
 
+def platforms_of(files):
+    return re.findall("^Tag: py3-none-(.*)$", files[f"{NAME}.dist-info/WHEEL"].decode(), re.M)
+
+
 def test_wheel(tree):
     wheel, said = build(tree, HEDRUGAL_LIBRARY=LIBRARY)
     assert said == [f"{SAID} that of HEDRUGAL_LIBRARY: {LIBRARY}"]
@@ -79,10 +82,12 @@ def test_wheel(tree):
         if path.is_file() and "__pycache__" not in path.parts and path.suffix != ".so":
             assert files[str(path.relative_to(HERE))] == path.read_bytes()
     assert files["hedrugal/libhedrugal.so"] == Path(LIBRARY).read_bytes()
-    tag = files[f"{NAME}.dist-info/WHEEL"].decode().split("Tag: ")[1].strip()
-    assert wheel.name == f"{NAME}-{tag}.whl"
-    assert tag.startswith("py3-none-manylinux_") and tag.endswith(platform.machine())
+    tags = platforms_of(files)
+    assert wheel.name == f"{NAME}-py3-none-{'.'.join(tags)}.whl"
+    assert tags[0].startswith("manylinux_") and tags[0].endswith(platform.machine())
     assert {f"{NAME}.dist-info/{it}" for it in ("LICENSE", "THIRD-PARTY", "METADATA")} <= {*files}
+    commands = files[f"{NAME}.dist-info/entry_points.txt"].decode()
+    assert commands == "[console_scripts]\nhedrugal = hedrugal.__main__:main\n"
     first = wheel.read_bytes()
     assert build(tree, HEDRUGAL_LIBRARY=os.path.dirname(LIBRARY))[0].read_bytes() == first
 
@@ -96,13 +101,61 @@ def test_documents(tree):
 
 
 def test_prebuilt(tree):
-    """It is linked, and loaded from the wheel."""
+    """It is loaded from the wheel, which is for any C library."""
     wheel, said = build(tree)
-    assert len(said) == 1 and said[0].startswith(f"{SAID} the prebuilt one: ")
+    assert said == [f"{SAID} the prebuilt one: {tree}/{PREBUILT}/libhedrugal.so"]
     shutil.unpack_archive(wheel, tree / "own", "zip")
     text = "import hedrugal\nprint(hedrugal.__file__, *hedrugal.Parser().feed(b'q'))\n"
     _, printed, _ = run_python(text, {"PYTHONPATH": str(tree / "own")})
     assert printed.startswith(f"{tree}/own/hedrugal/__init__.py KeyReport(key='q'")
+    platforms = platforms_of(files_of(wheel))
+    assert [it.partition("_")[0] for it in platforms] == ["manylinux", "musllinux"]
+
+
+@pytest.mark.parametrize("processor", ["x86_64", "aarch64"])
+def test_shared_libraries(processor):
+    """They are of the archives that lie in the folder prebuilt, and name no C library."""
+    noted = read(f"python/prebuilt/{processor}-linux/PROVENANCE")
+    folder = f"prebuilt/{processor}-linux"
+    (archive,) = re.findall("^sha256 libhedrugal.a: (.*)$", read(f"{folder}/PROVENANCE"), re.M)
+    assert f"of: {folder}/libhedrugal.a, sha256 {archive}\n" in noted
+    library = Path(HERE, folder, "libhedrugal.so").read_bytes()
+    assert f"sha256 libhedrugal.so: {hashlib.sha256(library).hexdigest()}\n" in noted
+    assert b"libc." not in library and b"GLIBC" not in library
+
+
+def test_metadata(tree):
+    """It has the page README.md, and the address that is named."""
+    fields, _, page = metadata_of(tree).partition("\n\n")
+    assert page.startswith(read("python/README.md").partition("\n<!--")[0]) and "<!--" not in page
+    assert {"Classifier: Typing :: Typed", "Requires-Python: >=3.9"} <= {*fields.splitlines()}
+    assert "\nKeywords: terminal," in fields and "URL" not in fields
+    url = "https://hedrugal.example"
+    assert f"\nProject-URL: Source, {url}\n" in metadata_of(tree, HEDRUGAL_URL=url)
+
+
+def metadata_of(tree, **env):
+    return files_of(build(tree, **env)[0])[f"{NAME}.dist-info/METADATA"].decode()
+
+
+def test_editable(tree):
+    """It leads to the sources, where the prebuilt library is found."""
+    wheel, said = build(tree, hook="build_editable")
+    assert said == [f"{SAID} the prebuilt one: {tree}/{PREBUILT}/libhedrugal.so"]
+    files = files_of(wheel)
+    check_record(files)
+    leading = files["hedrugal.pth"].decode().strip()
+    text = "import hedrugal\nprint(hedrugal._library.library._name)\n"
+    assert run_python(text, {"PYTHONPATH": leading})[1] == f"{tree}/{PREBUILT}/libhedrugal.so\n"
+
+
+def test_a_copy_of_the_folder(tree):
+    """An older pip copies this folder alone, to where others may put a library."""
+    built = tree / "out/lib/libhedrugal.so"
+    built.parent.mkdir(parents=True)
+    shutil.copy(LIBRARY, built)
+    tree.chmod(0o1777)
+    assert build(tree)[1] == [f"{SAID} the prebuilt one: {tree}/{PREBUILT}/libhedrugal.so"]
 
 
 def test_what_comes_first(tree):
@@ -113,8 +166,7 @@ def test_what_comes_first(tree):
     shutil.copy(LIBRARY, built)
     assert build(tree, installed=LIBRARY)[1] == [f"{SAID} what make built: {built}"]
     built.unlink()
-    (said,) = build(tree, installed="libhedrugal.so.none")[1]
-    assert said.startswith(f"{SAID} the prebuilt one: ")
+    assert "the prebuilt one" in build(tree, installed="libhedrugal.so.none")[1][0]
 
 
 def test_source_distribution(tree):
@@ -128,27 +180,23 @@ def test_source_distribution(tree):
     assert build(tree, folder=f"unpacked/{NAME}")[0].read_bytes() == wheel
 
 
-def refusal(tree, **env):
+def refusal(tree, **how):
     """The line with which the build of a wheel fails."""
-    status, _, errors = run_hook(tree, **env)
+    status, _, errors = run_hook(tree, **how)
     assert status == 1 and errors.startswith("hedrugal: ") and errors.count("\n") == 1
     return errors
 
 
 def test_damaged(tree):
-    archive = tree / PREBUILT / "libhedrugal.a"
-    archive.write_bytes(archive.read_bytes() + b"damage")
-    assert f"{archive} isn't what PROVENANCE beside it says" in refusal(tree)
+    file = tree / PREBUILT / "libhedrugal.so"
+    file.write_bytes(file.read_bytes() + b"damage")
+    for hook in ("build_wheel", "build_editable"):
+        assert f"{file} isn't what PROVENANCE beside it says" in refusal(tree, hook=hook)
 
 
 def test_no_prebuilt_library(tree):
-    shutil.rmtree(tree / "prebuilt")
-    assert f"there is no {PREBUILT}/libhedrugal.a: HEDRUGAL_LIBRARY" in refusal(tree)
-
-
-def test_no_compiler(tree):
-    assert "there is no compiler 'none'" in refusal(tree, CC="none")
-    assert "the compiler 'false' can't link" in refusal(tree, CC="false -x")
+    shutil.rmtree(tree / PREBUILT)
+    assert f"there is no {tree}/{PREBUILT}/libhedrugal.so: HEDRUGAL_LIBRARY" in refusal(tree)
 
 
 def test_named_library(tree):

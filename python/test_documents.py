@@ -103,7 +103,7 @@ def test_example_in_c(tmp_path):
 COMMANDS = (
     ["*.md", "Makefile", "*.mk", "docs/*.md", "docs/man/*", "crates/*/README.md", "c/*", "keys/*"]
     + ["tools/*.sh", "tools/*/*.sh", "tools/package/*", "debian/rules"]
-    + ["rust/build.rs", "rust/src/**/*.rs", "rust/examples/**/*.rs"]
+    + ["rust/build.rs", "rust/src/**/*.rs", "rust/examples/*.rs", "rust/plain/examples/**/*.rs"]
 )
 
 

@@ -2,6 +2,7 @@
 import ctypes
 import enum
 import os
+import platform
 import pydoc
 import re
 import shutil
@@ -135,17 +136,24 @@ def test_it_keeps_pythons_lock():
     assert isinstance(library, ctypes.PyDLL)
 
 
-def test_beside_the_module(tmp_path):
-    package = tmp_path / "hedrugal"
-    shutil.copytree(os.path.join(HERE, "hedrugal"), package)
-    shutil.copy(LIBRARY, package / "libhedrugal.so")
-    for named in ({}, {"HEDRUGAL_LIBRARY": ""}):
-        found = import_it({"PYTHONPATH": str(tmp_path), **named}, cwd="/")
-        assert found == f"{package}/libhedrugal.so\n"
+@pytest.fixture
+def package(tmp_path):
+    """A copy of the package alone, on Python's path."""
+    return shutil.copytree(os.path.join(HERE, "hedrugal"), tmp_path / "hedrugal")
 
 
-def test_in_the_systems_folders():
-    assert import_it({}, before=find_library({"hedrugal": LIBRARY})) == f"{LIBRARY}\n"
+def test_where_it_is_found(package):
+    """In the package's folder, or else beside it as in a clone, or else where the system has it."""
+    folder = package.parent
+    beside = folder / f"prebuilt/{platform.machine()}-linux/libhedrugal.so"
+    beside.parent.mkdir(parents=True)
+    within = package / "libhedrugal.so"
+    before, env = find_library({"hedrugal": LIBRARY}), {"PYTHONPATH": str(folder)}
+    assert import_it(env, before, "/") == f"{LIBRARY}\n"
+    for file in (beside, within):
+        shutil.copy(LIBRARY, file)
+        for named in ({}, {"HEDRUGAL_LIBRARY": ""}):
+            assert import_it({**env, **named}, before, "/") == f"{file}\n"
 
 
 def assert_message(printed, *words):
@@ -155,13 +163,14 @@ def assert_message(printed, *words):
         assert word in printed
 
 
-def test_not_found(tmp_path):
+def test_not_found(package, tmp_path):
     missing, text = str(tmp_path / "none.so"), str(tmp_path / "text.so")
     (tmp_path / "text.so").write_text("text")
     assert_message(import_it({"HEDRUGAL_LIBRARY": missing}), missing)
     assert_message(import_it({"HEDRUGAL_LIBRARY": "none.so"}, cwd=tmp_path), missing)
     assert_message(import_it({"HEDRUGAL_LIBRARY": text}), text)
-    assert_message(import_it({}, before=find_library({})), HERE)
+    env = {"PYTHONPATH": str(tmp_path)}
+    assert_message(import_it(env, before=find_library({})), str(package))
 
 
 def test_another_library():

@@ -1,5 +1,5 @@
 """The recorded answers of termwiz 0.23.3, fed in every way that was recorded.
-rust/tests/recorded/README.md has their form."""
+rust/plain/tests/recorded/README.md has their form."""
 import functools
 import re
 
@@ -24,7 +24,7 @@ def recorded(event):
 def check_file(file, check_line):
     """Checks each line by a call that returns how many comparisons it made. A second count tells
     that no line was left out."""
-    text = read(f"rust/tests/recorded/{file}")
+    text = read(f"rust/plain/tests/recorded/{file}")
     lines = [line for line in text.split("\n") if line and not line.startswith("#")]
     for line in lines:
         assert check_line(line) > 0, line

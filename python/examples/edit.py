@@ -30,6 +30,7 @@ from hedrugal import (
     PastePart,
     Timer,
     Unbound,
+    paste_lines,
     typed_text,
 )
 from hedrugal.terminal import Terminal, TerminalEvent
@@ -123,7 +124,7 @@ class Edit:
 
     def handle(self, event: TerminalEvent) -> None:
         if isinstance(event, (Paste, PastePart)):
-            self.insert_text(event.text)
+            self.insert_text(paste_lines(event.text))
         elif isinstance(event, KeyReport):
             self.handle_key(event)
 

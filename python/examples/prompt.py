@@ -6,7 +6,7 @@ import signal
 import sys
 from typing import Optional
 
-from hedrugal import KeyPress, Paste, PastePart
+from hedrugal import KeyPress, Paste, PastePart, paste_lines
 from hedrugal.terminal import Terminal, TerminalEvent
 
 ROOM, MOST = 4096, 100
@@ -27,9 +27,9 @@ class Prompt:
         name, shown = str(press), self.shown
         if shown == last:
             self.lines[last] = line
-        text = event.text if isinstance(event, (Paste, PastePart)) else press and press.text
+        pasted = paste_lines(event.text) if isinstance(event, (Paste, PastePart)) else ""
         # Characters while there is room. A control character becomes a space.
-        for it in (text or "")[:ROOM].translate(CONTROLS):
+        for it in (pasted or press and press.text or "")[:ROOM].translate(CONTROLS):
             if len((self.before + self.behind).encode()) + 4 < ROOM:
                 self.before += it
         if name == "left":

@@ -41,8 +41,9 @@ was pressed, a Chord is the name of keys, and Bindings tell what a program does 
 The module calls the shared library libhedrugal.so by ctypes. The environment variable
 HEDRUGAL_LIBRARY names the library's file, or the folder that has it. Both must belong to you or to
 root, and not be writable by all users. If the variable isn't set, the library is looked for in this
-package's folder, and then where the system has its libraries. The import raises ImportError if no
-library is found, or if it is older than the module, or of another major version."""
+package's folder, then in the folder prebuilt beside that, as a clone has it, and then where the
+system has its libraries. The import raises ImportError if no library is found, or if it is older
+than the module, or of another major version."""
 __version__ = "0.1.0"
 
 import typing as _typing

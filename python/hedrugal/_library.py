@@ -26,9 +26,11 @@ def _library_file() -> str:
                 raise _not_loaded(f"another user may write to {path}")
         return file
     folder = os.path.dirname(os.path.abspath(__file__))
-    beside = os.path.join(folder, "libhedrugal.so")
-    if os.path.exists(beside):
-        return beside
+    # A wheel has it in this folder, and a clone the prebuilt one beside the folder.
+    for below in ("", f"../prebuilt/{platform.machine()}-linux"):
+        file = os.path.join(folder, below, "libhedrugal.so")
+        if os.path.exists(file):
+            return os.path.normpath(file)
     found = ctypes.util.find_library("hedrugal")
     if found:
         return found

@@ -121,6 +121,13 @@ def raw_settings(of: List[Any]) -> List[Any]:
     return [iflag, oflag, cflag, lflag, *speeds, characters]
 
 
+def replace_wakeup_fd(old: int, new: int) -> None:
+    """Has Python write to another descriptor as a signal comes, unless somebody else set one."""
+    before = signal.set_wakeup_fd(new, warn_on_full_buffer=False)
+    if before != old:
+        signal.set_wakeup_fd(before)
+
+
 class Signals:
     """The signals of a program on a terminal.
 
@@ -136,17 +143,22 @@ class Signals:
         self._held: FrozenSet[int] = frozenset()
         self._handled: List[int] = []
 
-    def handle(self) -> None:
-        """Handles those that nobody else handles, if this is the main thread."""
+    def handle(self, wakes: int) -> None:
+        """Handles those that nobody else handles, if this is the main thread. A byte is written to
+        this descriptor as one comes, so that it ends a wait that is just about to begin."""
         if threading.current_thread() is not threading.main_thread():
             return
         for number in ENDING | OTHERS:
             if signal.getsignal(number) is signal.SIG_DFL:
                 self._handled.append(number)
                 signal.signal(number, self._note)
+        self._wakes = wakes
+        replace_wakeup_fd(-1, wakes)
 
     def release(self) -> None:
         """Leaves to the system those that are still handled here."""
+        if self._handled:
+            replace_wakeup_fd(self._wakes, -1)
         for number in self._handled:
             if signal.getsignal(number) == self._note:
                 signal.signal(number, signal.SIG_DFL)

@@ -181,7 +181,7 @@ class Terminal:
             _entered = self
             atexit.register(self._restore)
             stack.callback(self._restore)
-            self._signals.handle()
+            self._signals.handle(self._wakes)
             self._enter()
             self._stack = stack.pop_all()
         return self
