@@ -217,14 +217,13 @@ fn installed_library(version: &str) -> Result<Library, String> {
         .ok_or_else(|| "pkg-config names a folder for hedrugal without a libhedrugal.a".to_string())
 }
 
-// The library of the folder of prebuilt files, or why it isn't taken. The package is a folder of the
-// repository, or one in that.
+// The library of the folder of prebuilt files, or why it isn't taken. That lies in the package, or
+// beside it in the repository.
 fn prebuilt_library(processor: Processor) -> Result<Library, String> {
     let package = PathBuf::from(env::var_os("CARGO_MANIFEST_DIR").unwrap_or_default());
     let name = format!("prebuilt/{}-linux", processor.name);
     let library = package
         .ancestors()
-        .skip(1)
         .take(2)
         .find_map(|folder| library_in(&folder.join(&name)));
     let Some(library) = library else {

@@ -4,7 +4,7 @@ use crate::{raw, KeyCode, KeyPress, KittyKeyboardFlags, KittyModifiers, Modifier
 
 /// What happened to a key.
 #[derive(Debug, Clone, Copy, PartialEq, Eq, Hash)]
-#[cfg_attr(feature = "use_serde", derive(serde::Serialize, serde::Deserialize))]
+#[cfg_attr(feature = "serde", derive(serde::Serialize, serde::Deserialize))]
 pub enum KeyEventKind {
     /// It was pressed.
     Press,
@@ -16,7 +16,7 @@ pub enum KeyEventKind {
 
 /// The key of a report.
 #[derive(Debug, Clone, Copy, PartialEq, Eq, Hash)]
-#[cfg_attr(feature = "use_serde", derive(serde::Serialize, serde::Deserialize))]
+#[cfg_attr(feature = "serde", derive(serde::Serialize, serde::Deserialize))]
 pub enum ReportedKey {
     /// A key that has a name or types a character.
     Named(KeyCode),
@@ -40,7 +40,7 @@ pub enum ReportedKey {
 /// assert_eq!((report.kind, report.shifted), (KeyEventKind::Release, Some('A')));
 /// ```
 #[derive(Debug, Clone, PartialEq, Eq)]
-#[cfg_attr(feature = "use_serde", derive(serde::Serialize, serde::Deserialize))]
+#[cfg_attr(feature = "serde", derive(serde::Serialize, serde::Deserialize))]
 pub struct KeyReport {
     /// The key.
     pub key: ReportedKey,
@@ -59,7 +59,7 @@ pub struct KeyReport {
 
 /// The kind of a string, by what introduces it.
 #[derive(Debug, Clone, Copy, PartialEq, Eq, Hash)]
-#[cfg_attr(feature = "use_serde", derive(serde::Serialize, serde::Deserialize))]
+#[cfg_attr(feature = "serde", derive(serde::Serialize, serde::Deserialize))]
 pub enum StringKind {
     /// An operating system command, after ESC `]`.
     Osc,
@@ -71,7 +71,7 @@ pub enum StringKind {
 
 /// What happened to the mouse.
 #[derive(Debug, Clone, Copy, PartialEq, Eq, Hash)]
-#[cfg_attr(feature = "use_serde", derive(serde::Serialize, serde::Deserialize))]
+#[cfg_attr(feature = "serde", derive(serde::Serialize, serde::Deserialize))]
 pub enum MouseKind {
     /// A button was pressed.
     Press,
@@ -87,7 +87,7 @@ pub enum MouseKind {
 
 /// A mouse report, with the position in cells, or in pixels with mode 1016.
 #[derive(Debug, Clone, Copy, PartialEq, Eq)]
-#[cfg_attr(feature = "use_serde", derive(serde::Serialize, serde::Deserialize))]
+#[cfg_attr(feature = "serde", derive(serde::Serialize, serde::Deserialize))]
 pub struct MouseReport {
     /// The column, as the terminal sent it: the leftmost is 1.
     pub x: u16,
@@ -109,7 +109,7 @@ pub struct MouseReport {
 
 /// The size of a terminal.
 #[derive(Debug, Clone, Copy, PartialEq, Eq, Hash, Default)]
-#[cfg_attr(feature = "use_serde", derive(serde::Serialize, serde::Deserialize))]
+#[cfg_attr(feature = "serde", derive(serde::Serialize, serde::Deserialize))]
 pub struct Size {
     /// The number of columns.
     pub columns: u16,
@@ -132,7 +132,7 @@ pub struct Size {
 /// assert!(parser.eq([Event::FocusGained, Event::Csi(b"?62;22c".to_vec())]));
 /// ```
 #[derive(Debug, Clone, PartialEq, Eq)]
-#[cfg_attr(feature = "use_serde", derive(serde::Serialize, serde::Deserialize))]
+#[cfg_attr(feature = "serde", derive(serde::Serialize, serde::Deserialize))]
 pub enum Event {
     /// A key, typed or reported.
     Key(KeyReport),

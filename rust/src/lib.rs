@@ -54,9 +54,8 @@
 //! docs/rust.md of the repository says which library a build finds. It is for Linux on x86-64 and on
 //! 64-bit ARM.
 //!
-//! What names other crates are the features of the manifest in `rust/with`, which has these sources:
-//! `use_serde`, serde's derives for keys, events and flags; `tokio`, `mio` and `crossterm`. So a
-//! build without them asks for no other crate.
+//! What names other crates is behind features: `serde`, its derives for keys, events and flags;
+//! `tokio`, `mio` and `crossterm`. A program without them needs no registry.
 //!
 //! # If memory is refused
 //!
@@ -103,6 +102,7 @@ mod raw;
 mod reading;
 mod replies;
 mod sending;
+mod sent_names;
 mod table;
 pub mod terminal;
 mod timer;
@@ -125,5 +125,6 @@ pub use press::*;
 pub use reading::*;
 pub use replies::*;
 pub use sending::*;
+pub use sent_names::*;
 pub use timer::*;
 pub use written::*;

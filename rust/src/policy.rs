@@ -8,7 +8,7 @@ use std::time::Duration;
 ///
 /// Of a limit whole milliseconds count: at least one, and at most 2147418111 of them.
 #[derive(Debug, Clone, Copy, PartialEq, Eq, Hash)]
-#[cfg_attr(feature = "use_serde", derive(serde::Serialize, serde::Deserialize))]
+#[cfg_attr(feature = "serde", derive(serde::Serialize, serde::Deserialize))]
 pub struct Policy {
     /// ESC or ESC ESC, since bytes last came. Then it is the Escape key.
     pub escape: Option<Duration>,

@@ -5,7 +5,7 @@ use std::str;
 
 /// Which report of a terminal's attributes it is.
 #[derive(Debug, Clone, Copy, PartialEq, Eq, Hash)]
-#[cfg_attr(feature = "use_serde", derive(serde::Serialize, serde::Deserialize))]
+#[cfg_attr(feature = "serde", derive(serde::Serialize, serde::Deserialize))]
 pub enum DeviceAttributes {
     /// DA1, asked for by ESC `[c`: the class of the terminal, such as 62 for a VT220, and what it
     /// can do, such as 4 for sixels.
@@ -18,7 +18,7 @@ pub enum DeviceAttributes {
 
 /// The state of a mode.
 #[derive(Debug, Clone, Copy, PartialEq, Eq, Hash)]
-#[cfg_attr(feature = "use_serde", derive(serde::Serialize, serde::Deserialize))]
+#[cfg_attr(feature = "serde", derive(serde::Serialize, serde::Deserialize))]
 pub enum ModeState {
     /// The terminal doesn't know the mode.
     NotRecognized,
@@ -34,7 +34,7 @@ pub enum ModeState {
 
 /// Which colour a reply is about.
 #[derive(Debug, Clone, Copy, PartialEq, Eq, Hash)]
-#[cfg_attr(feature = "use_serde", derive(serde::Serialize, serde::Deserialize))]
+#[cfg_attr(feature = "serde", derive(serde::Serialize, serde::Deserialize))]
 pub enum ColourName {
     /// A colour of the palette, by its index (OSC 4).
     Palette(u16),
@@ -48,7 +48,7 @@ pub enum ColourName {
 
 /// A colour. Each part is from 0 to 65535, however many digits the terminal wrote.
 #[derive(Debug, Clone, Copy, PartialEq, Eq, Hash)]
-#[cfg_attr(feature = "use_serde", derive(serde::Serialize, serde::Deserialize))]
+#[cfg_attr(feature = "serde", derive(serde::Serialize, serde::Deserialize))]
 pub struct Colour {
     /// How red it is.
     pub red: u16,
@@ -60,7 +60,7 @@ pub struct Colour {
 
 /// The colour scheme that the terminal's user prefers.
 #[derive(Debug, Clone, Copy, PartialEq, Eq, Hash)]
-#[cfg_attr(feature = "use_serde", derive(serde::Serialize, serde::Deserialize))]
+#[cfg_attr(feature = "serde", derive(serde::Serialize, serde::Deserialize))]
 pub enum ColourScheme {
     /// Bright text on a dark background.
     Dark,
@@ -71,7 +71,7 @@ pub enum ColourScheme {
 /// What a terminal replied to a question, in values. The position of the cursor, a new size and the
 /// flags of Kitty's keyboard protocol are events of their own.
 #[derive(Debug, Clone, PartialEq, Eq)]
-#[cfg_attr(feature = "use_serde", derive(serde::Serialize, serde::Deserialize))]
+#[cfg_attr(feature = "serde", derive(serde::Serialize, serde::Deserialize))]
 pub enum Reply {
     /// The terminal's attributes (DA1, DA2, DA3).
     DeviceAttributes {

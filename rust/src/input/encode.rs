@@ -70,7 +70,7 @@ pub struct KeyCodeEncodeModes {
 }
 
 impl KeyCodeEncodeModes {
-    fn raw(self) -> Result<raw::Modes, EncodeError> {
+    pub(crate) fn raw(self) -> Result<raw::Modes, EncodeError> {
         let (encoding, kitty) = match self.encoding {
             KeyboardEncoding::Xterm => (raw::ENCODING_XTERM, KittyKeyboardFlags::NONE),
             KeyboardEncoding::CsiU => (raw::ENCODING_CSI_U, KittyKeyboardFlags::NONE),

@@ -27,7 +27,7 @@ use crate::raw;
 /// assert_eq!(event.to_string(), "ctrl+shift+a");
 /// ```
 #[derive(Debug, Clone, PartialEq, Eq, Hash)]
-#[cfg_attr(feature = "use_serde", derive(serde::Serialize, serde::Deserialize))]
+#[cfg_attr(feature = "serde", derive(serde::Serialize, serde::Deserialize))]
 pub struct KeyEvent {
     /// The key that was pressed.
     pub key: KeyCode,
@@ -49,7 +49,7 @@ pub struct KeyEvent {
 /// assert_eq!(InputParser::new().parse_as_vec(b"\x1b[<0;3;4M", true), [InputEvent::Mouse(event)]);
 /// ```
 #[derive(Debug, Clone, PartialEq, Eq)]
-#[cfg_attr(feature = "use_serde", derive(serde::Serialize, serde::Deserialize))]
+#[cfg_attr(feature = "serde", derive(serde::Serialize, serde::Deserialize))]
 pub struct MouseEvent {
     /// The column, as the terminal sent it: the leftmost is 1.
     pub x: u16,
@@ -76,7 +76,7 @@ pub struct MouseEvent {
 /// assert!(event.mouse_buttons.contains(MouseButtons::RIGHT));
 /// ```
 #[derive(Debug, Clone, PartialEq, Eq)]
-#[cfg_attr(feature = "use_serde", derive(serde::Serialize, serde::Deserialize))]
+#[cfg_attr(feature = "serde", derive(serde::Serialize, serde::Deserialize))]
 pub struct PixelMouseEvent {
     /// The distance from the left, in pixels.
     pub x_pixels: u16,
@@ -99,7 +99,7 @@ pub struct PixelMouseEvent {
 /// assert_eq!(events, [InputEvent::Paste("text".to_string())]);
 /// ```
 #[derive(Debug, Clone, PartialEq, Eq)]
-#[cfg_attr(feature = "use_serde", derive(serde::Serialize, serde::Deserialize))]
+#[cfg_attr(feature = "serde", derive(serde::Serialize, serde::Deserialize))]
 pub enum InputEvent {
     /// A key was pressed.
     Key(KeyEvent),

@@ -427,7 +427,7 @@ macro_rules! flags {
         }
 
         // The names joined by ` | ` where people read the format, and the number elsewhere.
-        #[cfg(feature = "use_serde")]
+        #[cfg(feature = "serde")]
         impl serde::Serialize for $name {
             fn serialize<To: serde::Serializer>(&self, to: To) -> Result<To::Ok, To::Error> {
                 // A set as the names alone.
@@ -447,7 +447,7 @@ macro_rules! flags {
             }
         }
 
-        #[cfg(feature = "use_serde")]
+        #[cfg(feature = "serde")]
         impl<'de> serde::Deserialize<'de> for $name {
             fn deserialize<From>(from: From) -> Result<$name, From::Error>
             where

@@ -22,7 +22,7 @@
 /// assert_eq!("pgdn".parse(), Ok(KeyCode::PageDown));
 /// ```
 #[derive(Debug, Clone, Copy, PartialEq, Eq, PartialOrd, Ord, Hash)]
-#[cfg_attr(feature = "use_serde", derive(serde::Serialize, serde::Deserialize))]
+#[cfg_attr(feature = "serde", derive(serde::Serialize, serde::Deserialize))]
 pub enum KeyCode {
     // hedrugal.h: key variant
     /// A key that types a character: `A` is what Shift-A types, and Ctrl-C is `c` with CTRL.

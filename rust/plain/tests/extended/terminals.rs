@@ -27,7 +27,7 @@ const READINGS: [Reading; 5] = [
 
 // The byte strings of all lines of all files: of keys, the mouse, the focus, pastes and replies. None is left out.
 fn sent() -> BTreeSet<Vec<u8>> {
-    let folder = concat!(env!("CARGO_MANIFEST_DIR"), "/../tests/terminals");
+    let folder = concat!(env!("CARGO_MANIFEST_DIR"), "/../../tests/terminals");
     let paths = fs::read_dir(folder).expect(folder);
     let paths = paths.map(|entry| entry.expect(folder).path());
     let mut found = BTreeSet::new();

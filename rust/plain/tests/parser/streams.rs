@@ -29,7 +29,7 @@ const ALONE: usize = 100;
 fn keyshow() -> &'static Path {
     static PROGRAM: OnceLock<PathBuf> = OnceLock::new();
     PROGRAM.get_or_init(|| {
-        let top = Path::new(env!("CARGO_MANIFEST_DIR")).join("..");
+        let top = Path::new(env!("CARGO_MANIFEST_DIR")).join("../..");
         let built = top.join("crates/keyshow/out/keyshow");
         let named = env::var_os("KEYSHOW").map(PathBuf::from);
         let prebuilt = top.join(format!("prebuilt/{}-linux/keyshow.o", env::consts::ARCH));

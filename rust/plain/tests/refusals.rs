@@ -9,10 +9,10 @@ use hedrugal::input::{
 };
 use hedrugal::keymap::{Found, InsertError, KeyMap};
 use hedrugal::{
-    try_encode_paste, AllocError, BindErrorKind, Bindings, Chord, Dialect, EncodeEventError, Event,
-    FeedError, KeyCode, KittyEncodeError, KittyKeyboardFlags, Modifiers, MouseButton,
-    MouseEncoding, MouseError, MouseTracking, Parser, Policy, Reading, SentMouse, StringKind,
-    Waiting,
+    try_encode_paste, try_paste_lines, try_send_names, AllocError, BindErrorKind, Bindings, Chord,
+    Dialect, EncodeEventError, Event, FeedError, KeyCode, KittyEncodeError, KittyKeyboardFlags,
+    Modifiers, MouseButton, MouseEncoding, MouseError, MouseTracking, Parser, Policy, Reading,
+    SendNamesError, SentMouse, StringKind, Waiting,
 };
 use malloc::{in_use, refusing};
 use std::fmt::{Debug, Write};
@@ -460,6 +460,8 @@ fn encodes_after_a_refusal() {
     let encode = || KeyCode::LeftArrow.try_encode(Modifiers::ALT, modes, true);
     let wanted = "\x1b[1;3D".to_string();
     assert!(each_told(encode, &EncodeError::Memory, &wanted) > 1);
+    let send = || try_send_names("x alt+left", modes);
+    assert!(each_told(send, &SendNamesError::Memory, &format!("x{wanted}")) > 1);
 }
 
 #[test]
@@ -486,6 +488,8 @@ fn sends_pastes_and_mouse_reports_after_a_refusal() {
         let encode = || try_encode_paste(text.as_bytes(), true);
         assert!(each_told(encode, &AllocError, &wanted) > 1);
     }
+    let lines = || try_paste_lines("one\r\ntwo");
+    assert_eq!(each_told(lines, &AllocError, &"one\ntwo".to_string()), 1);
     let report = SentMouse {
         x: 1,
         y: 1,

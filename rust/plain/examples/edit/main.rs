@@ -16,7 +16,7 @@ mod text;
 use chords::Chords;
 use commands::{Command, FileError};
 use hedrugal::terminal::{Modes, Terminal};
-use hedrugal::{typed_text, Bindings, Event, KeyPress, KeyReport, KittyKeyboardFlags};
+use hedrugal::{paste_lines, typed_text, Bindings, Event, KeyPress, KeyReport, KittyKeyboardFlags};
 use screen::Screen;
 use std::io;
 use std::path::Path;
@@ -69,7 +69,7 @@ impl Edit {
     fn handle(&mut self, event: &Event) -> io::Result<bool> {
         match event {
             Event::Key(report) => self.handle_key(report),
-            Event::Paste(text) | Event::PastePart(text) => self.insert(text),
+            Event::Paste(text) | Event::PastePart(text) => self.insert(&paste_lines(text)),
             _ => Ok(true),
         }
     }

@@ -8,6 +8,7 @@ use crate::presses::check_presses;
 use hedrugal::input::{
     InputEvent, InputParser, KeyCodeEncodeModes, KeyboardEncoding, KittyKeyboardFlags,
 };
+use hedrugal::{send_names, try_send_names, SendNamesError};
 use hedrugal::{Chord, Dialect, Event, KeyPress, KittyModifiers, Parser, ReportedKey};
 
 // The key of a press, and what is held with it.
@@ -159,4 +160,23 @@ pub fn check_encoding(line: &str) {
         assert_eq!(sent.map_or_else(status, |it| quoted(it.as_bytes())), wanted);
     }
     assert_eq!(key.encode(held, modes, false), Ok(String::new()));
+}
+
+// `MODES "TEXT" = "BYTES"` or `.. = STATUS PLACE`.
+pub fn check_sent_names(line: &str) {
+    let (given, wanted) = sides(line);
+    let (words, text) = given.split_once(' ').expect("modes and a text");
+    let text = String::from_utf8(unquoted(text)).expect("a text is UTF-8");
+    for sent in [
+        send_names(&text, modes(words)),
+        try_send_names(&text, modes(words)),
+    ] {
+        let told = match sent {
+            Ok(bytes) => quoted(bytes.as_bytes()),
+            Err(SendNamesError::Name(error)) => format!("NAME_{} {}", status(error.kind), error.at),
+            Err(SendNamesError::RefusedKey { at }) => format!("REFUSED_KEY {at}"),
+            Err(error) => panic!("{error}"),
+        };
+        assert_eq!(told, wanted);
+    }
 }

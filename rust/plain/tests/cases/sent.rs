@@ -8,7 +8,7 @@ use crate::port::lines::modifiers_named;
 use crate::port::names::MODIFIERS;
 use crate::written::{is_written, refuses};
 use hedrugal::input::{InputEvent, InputParser};
-use hedrugal::{encode_paste, Event, SentMouse};
+use hedrugal::{encode_paste, paste_lines, Event, SentMouse};
 
 // `READING "BYTES" = "WRITTEN"` or `.. = STATUS`. What is written is read as the event.
 pub fn check_written(line: &str) {
@@ -44,6 +44,13 @@ pub fn is_one_paste(text: &[u8], safe: &[u8]) {
     assert_eq!(port.parser().waiting_len(), 0);
     let event = read_one(sent.as_bytes(), reading("extended"), true);
     assert_eq!(event, Event::Paste(safe.to_string()));
+}
+
+// `"TEXT" = "LINES"`.
+pub fn check_lines(line: &str) {
+    let (given, wanted) = sides(line);
+    let text = String::from_utf8(unquoted(given)).expect("a text is UTF-8");
+    assert_eq!(paste_lines(&text).as_bytes(), unquoted(wanted));
 }
 
 // `TRACKING ENCODING BUTTON X Y MODIFIERS = "BYTES" = EVENTS` or `.. = STATUS`.

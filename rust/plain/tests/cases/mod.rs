@@ -17,7 +17,7 @@ pub use runs::{each_rest, limit_named, LIMITS};
 pub use sent::is_one_paste;
 
 fn folder() -> PathBuf {
-    Path::new(env!("CARGO_MANIFEST_DIR")).join("../tests/cases")
+    Path::new(env!("CARGO_MANIFEST_DIR")).join("../../tests/cases")
 }
 
 // A line whose check may panic: then its place is told.
@@ -129,8 +129,10 @@ files! {
     bindings: check_commands,
     kitty: keys::check_report,
     encodings: keys::check_encoding,
+    sent_names: keys::check_sent_names,
     written: sent::check_written,
     pastes: sent::check_paste,
+    paste_lines: sent::check_lines,
     mouse: sent::check_mouse,
     replies: sent::check_reply,
 }

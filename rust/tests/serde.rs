@@ -1,4 +1,4 @@
-// The derives behind the feature `use_serde`, which rust/with builds.
+// The derives behind the feature `serde`.
 use hedrugal::input::{InputEvent, KeyEvent, MouseEvent, PixelMouseEvent};
 use hedrugal::{
     Event, KeyCode, KeyEventKind, KeyReport, KittyKeyboardFlags, KittyModifiers, Modifiers,

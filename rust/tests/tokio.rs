@@ -1,6 +1,6 @@
 // The decoder for the codecs of tokio-util, which the feature `tokio` has. The stream is tested on a
-// pseudo-terminal, by examples/with/stream.rs.
-#[path = "../malloc/mod.rs"]
+// pseudo-terminal, by examples/stream.rs.
+#[path = "../plain/tests/malloc/mod.rs"]
 #[allow(dead_code)] // the count of blocks
 mod malloc;
 

@@ -1,7 +1,7 @@
 //! The program of examples/live in a loop of mio.
 //!
-//!     HEDRUGAL_LIBRARY=DIR cargo run --manifest-path rust/with/Cargo.toml --features mio --example mio
-#[path = "../live/lines.rs"]
+//!     HEDRUGAL_LIBRARY=DIR cargo run --manifest-path rust/Cargo.toml --features mio --example mio
+#[path = "../plain/examples/live/lines.rs"]
 mod lines;
 
 use hedrugal::terminal::{Modes, Terminal};

@@ -1,8 +1,8 @@
 //! The program of examples/live on tokio's runtime. Beside the terminal it waits for a clock, and
 //! each tick drops the future of an event.
 //!
-//!     HEDRUGAL_LIBRARY=DIR cargo run --manifest-path rust/with/Cargo.toml --features tokio --example stream
-#[path = "../live/lines.rs"]
+//!     HEDRUGAL_LIBRARY=DIR cargo run --manifest-path rust/Cargo.toml --features tokio --example stream
+#[path = "../plain/examples/live/lines.rs"]
 mod lines;
 
 use hedrugal::terminal::{EventStream, Modes, Terminal};

@@ -3,7 +3,7 @@
 //!
 //!     cargo run --example prompt
 use hedrugal::terminal::Terminal;
-use hedrugal::{Event, KeyPress};
+use hedrugal::{paste_lines, Event, KeyPress};
 use std::io::{self, Write};
 
 const ROOM: usize = 4092; // a line of so many bytes takes no more
@@ -12,7 +12,7 @@ const MOST: usize = 100; // so many lines are kept
 /// Returns the text that an event types or pastes, with spaces for control characters.
 fn text_of(event: &Event) -> String {
     let text = match event {
-        Event::Paste(text) | Event::PastePart(text) => text.clone(),
+        Event::Paste(text) | Event::PastePart(text) => paste_lines(text),
         event => String::from_iter(event.press().and_then(KeyPress::text)),
     };
     let is_ascii = |c: char| c.is_ascii_control();
