@@ -25,42 +25,76 @@ call_pages := $(notdir $(wildcard docs/man/*.3))
 paged_calls := $(shell awk '/^\.Nm/ { for (i = 4; i <= NF; i += 2) print $$2 "/" $$i }' docs/man/*.3)
 SONAME := libhedrugal.so.$(firstword $(subst ., ,$(VERSION)))
 
-# The library is that of LIBRARY, else what rt makes of these sources, and without rt the prebuilt one for the processor of CC. keyshow
-# is likewise that of KEYSHOW, or what rt makes, or linked from a prebuilt object. The gate takes what is prebuilt too, and compares it with
-# what the sources make.
+# The library is that of LIBRARY, else the prebuilt one for the processor of CC, if it was made of the sources that lie here: PROVENANCE beside it
+# has their sum. Of other sources rt proves and builds it; without rt it is the prebuilt one, and a line says that the sources are others. keyshow is
+# likewise that of KEYSHOW, or linked from a prebuilt object, or what rt makes. The gate takes what is prebuilt, and compares it with what the sources
+# make.
 has_rt := $(shell command -v rt)
-takes_prebuilt := $(if $(has_rt),$(GATE),yes)
-platform := $(subst -, ,$(shell $(CC) -dumpmachine 2> /dev/null))
+target := $(shell $(CC) -dumpmachine 2> /dev/null)
+platform := $(subst -, ,$(target))
 prebuilt := prebuilt/$(firstword $(platform))-$(filter linux,$(platform))
-origin := $(if $(takes_prebuilt),the prebuilt one of $(prebuilt),what rt proved and built)
+processors := x86_64 aarch64
+# The crates that the two are made of. (In crates.txt a crate is below those that it stands on.)
+prebuilt_crates := $(shell tac crates.txt | awk -F '[: ]+' \
+	'BEGIN { below["hedrugal"]; below["keyshow"] } $$1 in below { print $$1; for (i = 2; i <= NF; i++) below[$$i] }')
+prebuilt_sources = $(if $(filter aarch64,$(1)),c/kit) $(wildcard $(foreach it,$(prebuilt_crates),$(addprefix crates/$(it)/,src specs proofs)))
+# Prints the sum of their sources, as PROVENANCE has it: PROCESSOR
+print_sum = { awk -F '[: ]' 'index(" $(prebuilt_crates) ", " " $$1 " ")' crates.txt | sort; \
+	find $(call prebuilt_sources,$(1)) -type f | sort | xargs sha256sum; } | sha256sum | cut -d ' ' -f 1
+takes_prebuilt := yes
+origin := the prebuilt one of $(prebuilt)
+reason :=
+ifeq ($(and $(LIBRARY),$(KEYSHOW))$(GATE)$(filter-out $(processors:%=prebuilt/%-linux),$(prebuilt)),)
+ifeq ($(shell $(call print_sum,$(firstword $(platform)))),$(shell sed -n 's/^sources: //p' $(prebuilt)/PROVENANCE 2> /dev/null))
+reason := , made of these sources
+else ifneq ($(and $(has_rt),$(filter x86_64,$(platform))),)
+takes_prebuilt :=
+origin := what rt proved and built
+reason := , since $(prebuilt) was made of other sources
+else
+reason := , made of other sources than these: to prove these needs rt of the Rattle kit
+endif
+endif
 lib := $(or $(LIBRARY),out/lib)
 keyshow := $(or $(KEYSHOW),out/bin/keyshow)
-library_files := $(addprefix $(lib)/,libhedrugal.a libhedrugal.so.$(VERSION) hedrugal.h hedrugal.pc hedrugal_terminal.h hedrugal_terminal.c)
+# What is copied beside the two libraries.
+copied := hedrugal.h hedrugal.pc hedrugal-config.cmake hedrugal-config-version.cmake hedrugal_terminal.h hedrugal_terminal.c
+library_files := $(addprefix $(lib)/,libhedrugal.a libhedrugal.so.$(VERSION) $(copied))
 
-.PHONY: all library keys flags clean help libdir install uninstall check lint numbers format gate gate-parts FORCE
-all: library $(keyshow) out/bin/hedrugal-keys ## builds the library and the programs, in out/lib and out/bin; what needs a proof is proved
+.PHONY: all library keys flags prove picture clean help libdir install uninstall test lint numbers format gate-parts FORCE
+all: library $(keyshow) out/bin/hedrugal-keys ## builds the library and the programs, in out/lib and out/bin
 
 library: $(library_files) ## builds the library alone
-	@$(if $(LIBRARY),,echo 'make: the library is $(origin)' >&2)
+	@$(if $(LIBRARY),,echo 'make: the library is $(origin)$(reason)' >&2)
 
 keys: library hedrugal-keys ## builds the program ./hedrugal-keys, which shows what the keys of a terminal send
 
+# (From another folder, as by make -C, the paths are whole.)
+flags: export caller = $(PWD)
 flags: library ## prints what to add to a command that compiles a program in C: cc program.c $(make -s flags)
-	@printf '%q %q\n' '-I$(abspath $(lib))' '$(abspath $(lib)/libhedrugal.a)'
+	@folder='$(lib)'; [ "$$caller" -ef . ] || folder=$$(realpath -- "$$folder"); printf '%q %q\n' "-I$$folder" "$$folder/libhedrugal.a"
+
+prove: | out/build ## proves every crate by rt, over what earlier runs kept: an hour and more at first
+	@tools/needs.sh ci
+	@echo 'make: proves every crate; out/build/prove.log has what rt prints' >&2
+	@rt all check $(call proving,prove)
+	@echo 'make: every crate is proved'
 
 clean: ## removes what was built, but for what the prover keeps in crates/*/out
-	rm -rf out hedrugal-keys rust/target rust/with/target rust/crossterm/target
+	rm -rf out hedrugal-keys rust/target rust/plain/target rust/crossterm/target
 
 help: ## prints this
 	@sed -nE 's/^([a-z0-9-]+):[^#]*## (.*)/make \1\t\2/p' Makefile $(wildcard *.mk) | expand -t 22
 	@echo
-	@echo 'LIBRARY=DIR    a folder with a library that was built from these sources before. Without it rt proves and builds the library,'
-	@echo '               and without rt it is the one that lies in the folder prebuilt'
+	@echo 'LIBRARY=DIR    a folder with a library that was built from these sources before. Without it it is the one in the folder prebuilt,'
+	@echo '               or, if that was made of other sources, what rt proves and builds'
 	@echo 'KEYSHOW=FILE   a program keyshow that was built before, in place of one that is built likewise'
 	@echo 'RLIBS=DIR      the libraries below the crates hedrugal and keyshow, NAME.rlib, as rt proved them, in place of crates/NAME/out/rlib'
 	@echo 'PREFIX=DIR     where make install puts its files: $(PREFIX)'
 	@echo 'LIBDIR=NAME    the folder of the libraries below the prefix, such as lib64: $(LIBDIR)'
 	@echo 'DESTDIR=DIR    a folder that is put before the prefix, as a package is made'
+	@echo 'PARTS="c rust" the parts that make test runs, of which make test-NAME is one alone'
+	@echo 'DOC=yes        with it the tests in Rust run the programs of the documentation too, which takes two minutes'
 	@echo 'CC, CFLAGS, CPPFLAGS, LDFLAGS, AR, OBJCOPY, PYTHON, as usual'
 
 out/build out/lib out/bin:
@@ -69,10 +103,12 @@ out/build out/lib out/bin:
 # What lies in the folder prebuilt, if it is what PROVENANCE there says.
 check_prebuilt = (cd $(<D) && sed -n 's/^sha256 $(<F): \(.*\)/\1  $(<F)/p' PROVENANCE | sha256sum --check --status) 2> /dev/null || \
 	{ echo "make: $< isn't what $(<D)/PROVENANCE says: get that folder again, as by git checkout $(<D)" >&2; exit 1; }
-ifdef platform
-lacking = there is no $@: name a library by LIBRARY, or put rt of the Rattle kit on the path
-else
+ifndef platform
 lacking = there is no compiler '$(CC)': install gcc, or name another by CC
+else ifneq ($(filter-out $(processors:%=prebuilt/%-linux),$(prebuilt)),)
+lacking = the library is for Linux on x86-64 and 64-bit ARM alone, and '$(CC)' compiles for $(target)
+else
+lacking = there is no $@: get that folder again, as by git checkout $(@D), or name a library by LIBRARY
 endif
 prebuilt/%:
 	@echo "make: $(lacking)" >&2; exit 1
@@ -98,7 +134,7 @@ logged = > $(abspath $(log_folder)/$(1).log) 2>&1 || { cat $(abspath $(log_folde
 log_folder = $(or $(dist_work),out/build)
 # Keeps what rt prints there. Each crate is shown as rt comes to it, and if rt fails, all but the lines of what is proved.
 proving = 2>&1 | tee $(abspath out/build/$(1).log) | awk '/: proved$$/ { split($$2, path, ":") } \
-	path[1] != crate { crate = path[1]; print "make: proves " crate; fflush() }' || \
+	path[1] != crate { crate = path[1]; print "make: proves " crate; fflush() }' >&2 || \
 	{ grep -v ': proved$$' $(abspath out/build/$(1).log) >&2; exit 1; }
 
 ifdef GATE
@@ -119,7 +155,7 @@ else
 proved_libraries := $(crate_files)
 out/build/libhedrugal.a: $(crate_files) | out/build
 	@tools/needs.sh library
-	@echo 'make: proves and builds the crate hedrugal and those below it; out/build/hedrugal.log has what rt prints'
+	@echo 'make: proves and builds the crate hedrugal and those below it, for minutes; out/build/hedrugal.log has what rt prints' >&2
 	@cd crates/hedrugal && $(if $(RLIBS),{ $(call static_library,hedrugal,$(call libraries_of,hedrugal),$@) $(call kept_by,hedrugal); },\
 		rt lib --list-axioms) \
 		$(call proving,hedrugal)
@@ -128,18 +164,19 @@ out/build/libhedrugal.a: $(crate_files) | out/build
 
 crates/keyshow/out/keyshow crates/test_calls/out/test_calls: $(crate_files) | out/build
 	@tools/needs.sh library
-	@echo 'make: proves and builds the crate $(@F) and those below it; out/build/$(@F).log has what rt prints'
+	@echo 'make: proves and builds the crate $(@F) and those below it, for minutes; out/build/$(@F).log has what rt prints' >&2
 	@cd crates/$(@F) && rm -f out/$(@F) && { rt run < /dev/null || [ -x out/$(@F) ]; } $(call proving,$(@F))
 	@touch $@
 endif
 
 # The library stands on the kit's heap, three functions over malloc, realloc and free. The two become one object, in which only the calls
-# of the header keep their names, so that no other library meets them.
+# of the header keep their names, so that no other library meets them. By its note glibc refuses a program on a processor below x86-64-v2.
 out/build/hedrugal.o: out/build/libhedrugal.a
 	rm -rf out/build/objects && mkdir -p out/build/objects
 	cd out/build/objects && $(AR) x ../libhedrugal.a && $(AR) x $(kit)/c/liblibc_c.a
-	$(CC) -nostdlib -r -o $@ out/build/objects/*.o
-	$(OBJCOPY) --wildcard --keep-global-symbol='hed_*' $@
+	$(CC) -nostdlib -r -o out/build/joined.o out/build/objects/*.o
+	$(OBJCOPY) --wildcard --keep-global-symbol='hed_*' out/build/joined.o
+	$(CC) -nostdlib -r -Wl,-z,x86-64-v2 -o $@ out/build/joined.o
 
 # Makes the shared library of an archive: COMPILER
 shared_library = $(1) -shared -Wl,-soname,$(SONAME) -Wl,--version-script=c/hedrugal.map -Wl,-z,now,-z,relro,-z,noexecstack -o $@ \
@@ -163,7 +200,7 @@ endif
 out/lib/libhedrugal.so.$(VERSION): out/lib/libhedrugal.a c/hedrugal.map | out/lib
 	$(call shared_library,$(CC))
 
-out/lib/hedrugal.h out/lib/hedrugal.pc out/lib/hedrugal_terminal.h out/lib/hedrugal_terminal.c: out/lib/%: c/% | out/lib
+$(copied:%=out/lib/%): out/lib/%: c/% | out/lib
 	cp $< $@
 else
 $(library_files):
@@ -192,9 +229,9 @@ ifdef KEYSHOW
 $(keyshow):
 	@echo "make: there is no $@, which KEYSHOW names" >&2; exit 1
 else ifdef takes_prebuilt
-out/bin/keyshow: $(prebuilt)/keyshow.o | out/bin
+out/bin/keyshow: $(prebuilt)/keyshow.o c/cpuid.c | out/bin
 	@$(check_prebuilt)
-	$(CC) $(LDFLAGS) -o $@ $<
+	$(CC) $(CPPFLAGS) $(CFLAGS) $(LDFLAGS) -o $@ $^
 else
 out/bin/keyshow: crates/keyshow/out/keyshow | out/bin
 	cp $< $@
@@ -206,15 +243,23 @@ hedrugal-keys: out/bin/hedrugal-keys
 out/bin/hedrugal-keys: $(wildcard keys/*.[ch] c/hedrugal_terminal.[ch] c/name_errors.h) $(lib)/libhedrugal.a | out/bin
 	$(CC) -std=c11 $(CPPFLAGS) $(CFLAGS) -fPIE -I$(lib) -Ic keys/*.c c/hedrugal_terminal.c $(lib)/libhedrugal.a $(LDFLAGS) -pie -o $@
 
+# The picture takes as long as the recording did. termtosvg ends where its input does, and sets the size of its terminal after the program's start.
+picture: out/bin/hedrugal-keys ## makes the moving picture of README.md from docs/pictures/keys.cast
+	@tools/needs.sh picture
+	sleep 15 | TERM=xterm NO_COLOR= termtosvg docs/pictures/keys.svg -g 80x13 -t window_frame -D 3000 \
+		-c "sh -c 'sleep 0.5; exec $< --real-time --replay docs/pictures/keys.cast'"
+	sed -i 's/ *$$//' docs/pictures/keys.svg
+
 # Install. Relative folders are those of the folder in which make runs.
 destdir = $(shell realpath -ms -- '$(DESTDIR)/')
 prefix = $(shell realpath -ms -- '$(PREFIX)')
 root = $(patsubst %/,%,$(if $(DESTDIR),$(destdir)))$(patsubst %/,%,$(prefix))
 installed = include/hedrugal.h include/hedrugal_terminal.h share/hedrugal/hedrugal_terminal.c \
-	$(addprefix $(LIBDIR)/,libhedrugal.a libhedrugal.so.$(VERSION) $(SONAME) libhedrugal.so pkgconfig/hedrugal.pc) \
+	$(addprefix $(LIBDIR)/,libhedrugal.a libhedrugal.so.$(VERSION) $(SONAME) libhedrugal.so pkgconfig/hedrugal.pc \
+	cmake/hedrugal/hedrugal-config.cmake cmake/hedrugal/hedrugal-config-version.cmake) \
 	bin/keyshow bin/hedrugal-keys share/man/man1/keyshow.1 share/man/man1/hedrugal-keys.1 \
 	$(addprefix share/man/man3/,$(call_pages) $(addsuffix .3,$(notdir $(paged_calls))))
-# hedrugal.pc names no folder but by where it lies itself, so the prefix may be moved as a whole.
+# hedrugal.pc and hedrugal-config.cmake name no folder but by where they lie themselves, so the prefix may be moved as a whole.
 up = $(shell realpath -ms --relative-to='/$(LIBDIR)/pkgconfig' /)
 
 libdir:
@@ -222,7 +267,7 @@ libdir:
 	{ echo "make: LIBDIR wants a folder's name below the prefix, and not '$(LIBDIR)'" >&2; exit 1; }
 
 install: libdir all ## puts the library, the programs and their manual pages below DESTDIR and PREFIX
-	install -d '$(root)'/{include,$(LIBDIR)/pkgconfig,bin,share/hedrugal,share/man/man1,share/man/man3}
+	install -d '$(root)'/{include,$(LIBDIR)/pkgconfig,$(LIBDIR)/cmake/hedrugal,bin,share/hedrugal,share/man/man1,share/man/man3}
 	install -m 644 $(lib)/hedrugal.h $(lib)/hedrugal_terminal.h '$(root)/include/'
 	install -m 644 $(lib)/hedrugal_terminal.c '$(root)/share/hedrugal/'
 	install -m 644 $(lib)/libhedrugal.a '$(root)/$(LIBDIR)/'
@@ -231,6 +276,11 @@ install: libdir all ## puts the library, the programs and their manual pages bel
 	sed -e '/^#/d' -e 's|^prefix=.*|prefix=$${pcfiledir}/$(up)|' -e 's|^includedir=.*|&/include|' -e 's|^libdir=.*|&/$(LIBDIR)|' \
 		-e 's|^terminal=.*/|terminal=$${prefix}/share/hedrugal/|' \
 		c/hedrugal.pc | install -m 644 /dev/stdin '$(root)/$(LIBDIR)/pkgconfig/hedrugal.pc'
+	sed -e '/^#/d' -e 's|^set(_hedrugal_prefix.*|get_filename_component(_hedrugal_prefix "$${_hedrugal_here}/../$(up)" ABSOLUTE)|' \
+		-e '/^set(_hedrugal_include/s|prefix}|&/include|' -e '/^set(_hedrugal_lib/s|prefix}|&/$(LIBDIR)|' \
+		-e '/^set(_hedrugal_terminal/s|prefix}|&/share/hedrugal|' \
+		c/hedrugal-config.cmake | install -m 644 /dev/stdin '$(root)/$(LIBDIR)/cmake/hedrugal/hedrugal-config.cmake'
+	install -m 644 c/hedrugal-config-version.cmake '$(root)/$(LIBDIR)/cmake/hedrugal/'
 	install -m 755 $(keyshow) '$(root)/bin/keyshow'
 	install -m 755 out/bin/hedrugal-keys '$(root)/bin/'
 	install -m 644 docs/man/*.1 '$(root)/share/man/man1/'
@@ -238,17 +288,18 @@ install: libdir all ## puts the library, the programs and their manual pages bel
 	@for it in $(paged_calls); do ln -sfn "$${it%/*}.3" "$(root)/share/man/man3/$${it#*/}.3"; done
 	@echo 'make: wrote $(words $(installed)) files below $(or $(root),/)'
 
-# The folders of the system stay, but in a DESTDIR. share/hedrugal is none of them.
+# The folders of the system stay, but in a DESTDIR. Those with our name are none of them.
 uninstall: libdir ## removes these files, and their folders that are left empty, but for those of /, /usr and /usr/local
 	@removed=0; for file in $(installed); do \
 	  if [ -e "$(root)/$$file" ] || [ -L "$(root)/$$file" ]; then rm "$(root)/$$file"; removed=$$((removed + 1)); \
 	  else echo "make: there was no $(root)/$$file" >&2; fi; \
 	done; \
-	rmdir '$(root)/share/hedrugal' 2> /dev/null || true; \
 	if [[ '$(DESTDIR)' || ! '$(prefix)' =~ ^/(usr(/local)?)?$$ ]] && cd "$(if $(DESTDIR),$(destdir),$$(dirname '$(root)'))" 2> /dev/null; then \
 	  for folder in $$(dirname $(installed) | sort -u); do \
 	    rmdir -p "$$(realpath -ms --relative-to="$$PWD" "$(root)/$$folder")" 2> /dev/null || true; \
 	  done; \
+	else \
+	  rmdir '$(root)'/{share,$(LIBDIR)/cmake}/hedrugal 2> /dev/null || true; \
 	fi; \
 	echo "make: removed $$removed files below $(or $(root),/)"; \
 	[ $$removed -gt 0 ]
@@ -256,59 +307,51 @@ uninstall: libdir ## removes these files, and their folders that are left empty,
 # Packages.
 include $(wildcard *.mk)
 
-# Tests. Each part by itself is `make check-NAME`; the last line of what it prints counts its cases.
+# Tests. Each part by itself is `make test-NAME`; the last line of what it prints counts its cases.
 test_calls := crates/test_calls/out/test_calls
 rattle_tests := tests/test_rattle.py tests/test_timed.py
-kit_checks := axioms growth refusals rattle listings prebuilt
-every_check := lint numbers c c-arm64 tests-arm64 rust python programs scenarios page install packages clone docs fuzz $(kit_checks)
+gate_parts := ci library lint numbers c-arm64 tests-arm64 clone rust programs scenarios page packages c python docs install fuzz \
+	prebuilt growth refusals rattle listings axioms
+gate_tests := $(filter-out ci library,$(gate_parts))
 # What the tests of a part read.
 export HEDRUGAL_LIBRARY := $(abspath $(lib))
 export HEDRUGAL_KEYS := $(abspath out/bin/hedrugal-keys)
 
-check-lint := pre-commit run --all-files
-check-numbers := $(PYTHON) tools/interface --check
-check-c := tools/c_test.sh
-check-c-arm64 := CC=aarch64-linux-gnu-gcc CXX=aarch64-linux-gnu-g++ EMULATOR='qemu-aarch64-static -L /usr/aarch64-linux-gnu' \
+test-lint := pre-commit run --all-files
+test-numbers := $(PYTHON) tools/interface --check
+test-c := tools/c_test.sh
+test-c-arm64 := CC=aarch64-linux-gnu-gcc CXX=aarch64-linux-gnu-g++ EMULATOR='qemu-aarch64-static -L /usr/aarch64-linux-gnu' \
 	HEDRUGAL_LIBRARY=$(arm64)/lib tools/c_test.sh
-check-rust := tools/rust_test.sh
-check-python := $(PYTHON) -m pytest python
-check-programs := $(PYTHON) -m pytest $(filter-out tests/test_page% tests/test_scenarios.py $(rattle_tests),$(wildcard tests/test_*.py))
-check-scenarios := $(PYTHON) -m pytest tests/test_scenarios.py
-check-page := $(PYTHON) -m pytest $(wildcard tests/test_page*.py)
-check-install := tools/install_test.sh
-check-packages := tools/package_test.sh
-check-clone := tools/clone_test.sh
-check-tests-arm64 := tools/clone_test.sh arm64 tests
-check-docs := tools/docs.sh --library $(lib) --only links,table,c,rust,python,rattle,lines
-check-fuzz := tools/fuzz.sh 30
-check-axioms := tools/axioms.sh keyshow $(processors:%=out/build/keyshow-%.log)
-check-growth := tools/growth.sh out/build/libfeed.a
-check-refusals := tools/refusals.sh
-check-rattle := TEST_CALLS=$(abspath $(test_calls)) $(PYTHON) -m pytest $(rattle_tests)
-check-prebuilt := $(MAKE) --silent prebuilt-check
-check-listings := tools/docs.sh --library $(lib) --built --only sh,keyshow
+test-rust := tools/rust_test.sh $(if $(DOC),--doc)
+test-python := $(PYTHON) -m pytest python
+test-programs := $(PYTHON) -m pytest $(filter-out tests/test_page% tests/test_scenarios.py $(rattle_tests),$(wildcard tests/test_*.py))
+test-scenarios := $(PYTHON) -m pytest tests/test_scenarios.py
+test-page := $(PYTHON) -m pytest $(wildcard tests/test_page*.py)
+test-install := tools/install_test.sh
+test-packages := tools/package_test.sh
+test-clone := tools/clone_test.sh
+test-tests-arm64 := tools/clone_test.sh arm64 tests
+test-docs := tools/docs.sh --library $(lib) --only links,table,c,rust,python,rattle,lines
+test-fuzz := tools/fuzz.sh 30
+test-axioms := tools/axioms.sh keyshow $(processors:%=out/build/keyshow-%.log)
+test-growth := tools/growth.sh out/build/libfeed.a
+test-refusals := tools/refusals.sh
+test-rattle := TEST_CALLS=$(abspath $(test_calls)) $(PYTHON) -m pytest $(rattle_tests)
+test-prebuilt := $(MAKE) --silent prebuilt-check
+test-listings := tools/docs.sh --library $(lib) --built --only sh,keyshow
 
-.PHONY: gate-ci gate-library $(foreach it,$(every_check),check-$(it) gate-$(it))
-$(foreach it,$(filter-out lint numbers axioms clone c-arm64 tests-arm64 prebuilt,$(every_check)),check-$(it) gate-$(it)): all
-check-growth gate-growth: out/build/libfeed.a
-check-refusals gate-refusals check-rattle gate-rattle: $(test_calls)
-check-axioms gate-axioms: $(processors:%=out/build/%/keyshow.o)
-check-c-arm64 gate-c-arm64: arm64-library
+.PHONY: gate-ci gate-library $(foreach it,$(gate_tests),test-$(it) gate-$(it))
+$(foreach it,$(filter-out lint numbers axioms clone c-arm64 tests-arm64 prebuilt,$(gate_tests)),test-$(it) gate-$(it)): all
+test-growth gate-growth: out/build/libfeed.a
+test-refusals gate-refusals test-rattle gate-rattle: $(test_calls)
+test-axioms gate-axioms: $(processors:%=out/build/%/keyshow.o)
+test-c-arm64 gate-c-arm64: arm64-library
 gate-prebuilt: $(processors:%=out/prebuilt/%-linux/PROVENANCE)
-$(addprefix check-,$(every_check)): check-%:
+$(addprefix test-,$(gate_tests)): test-%:
 	@tools/needs.sh $*
 	@KEYSHOW=$(abspath $(keyshow)) $($@)
 
-# A part that was left out is named. Unless CHECKS names parts, those are left out too whose tools aren't there.
-check: all ## runs the tests that need no kit; CHECKS="c rust" names the parts, of which check-NAME is one alone
-	@rm -rf out/gate
-	@run=() left=(); \
-	for part in $(or $(CHECKS),$(every_check)); do \
-	  if $(if $(CHECKS),true,[[ ' $(kit_checks) ' != *" $$part "* ]] && tools/needs.sh "$$part"); then run+=("$$part"); else left+=("$$part"); fi; \
-	done; \
-	exec tools/gate.sh check "make -s check-% LIBRARY='$(lib)' KEYSHOW='$(keyshow)'" "$${run[*]}" "$${left[*]}"
-
-lint: check-lint ## checks the layout of the sources in C, Rust and Python, and runs flake8 and shellcheck
+lint: test-lint ## checks the layout of the sources in C, Rust and Python, and runs flake8 and shellcheck
 
 numbers: ## writes what is made of c/hedrugal.h: declarations and numbers in Rust and Python, lists of calls and manual pages
 	$(PYTHON) tools/interface
@@ -318,7 +361,8 @@ format: ## lays out the sources in C, Rust and Python
 	git ls-files -z '*.rs' | xargs -0 rustfmt --edition 2021
 	git ls-files -z '*.py' | xargs -0 black --quiet --line-length 100
 
-# The gate. Each part runs `make check-NAME` once what it needs is there; out/gate/NAME.log keeps what it printed.
+# `make test`. With the kit on the path it is the gate: each part runs `make test-NAME` once what it needs is there, and out/gate/NAME.log keeps
+# what it printed.
 #
 # `rt ci` is the first part: it proves each crate from nothing, or takes what an earlier run on this machine proved of the same files. The
 # tests run beside it from the start, over what the folder prebuilt has, and are preferred to it. The part prebuilt shows that these are the
@@ -327,19 +371,27 @@ format: ## lays out the sources in C, Rust and Python
 # it is proved twice. It comes early, since it takes longest where the rest is kept. Other parts that wait for a proof come last, as a wait is
 # one of the JOBS.
 JOBS ?= 7
-gate_parts := ci library lint numbers c-arm64 tests-arm64 clone rust programs scenarios page packages c python docs install fuzz \
-	prebuilt growth refusals rattle listings axioms
-gate_checks := $(filter-out ci library,$(gate_parts))
 
-gate: ## proves everything from nothing, tries the must-fail edits, and runs every test
+ifneq ($(if $(PARTS),,$(has_rt)),)
+test: ## runs the gate, which is every proof and every test; without the kit the tests in C, Rust and Python whose tools are there
 	@tools/needs.sh all
 	@rm -rf out crates/*/out/rlib
 	@exec tools/gate.sh gate '$(MAKE) --no-print-directory -k -j$(JOBS) gate-parts GATE=yes LIBRARY= KEYSHOW= RLIBS=' $(gate_parts)
+else
+# (What PARTS names is run, or fails for want of its tools.)
+without_kit := c rust python
+test: all
+	@rm -rf out/gate
+	@run=($(PARTS)) left=(); \
+	for part in $(if $(PARTS),,$(without_kit)); do if tools/needs.sh $$part; then run+=($$part); else left+=($$part); fi; done; \
+	left+=($(if $(PARTS),,$(filter-out $(without_kit),$(gate_parts)))); \
+	exec tools/gate.sh test "make -s test-% LIBRARY='$(lib)' KEYSHOW='$(keyshow)' DOC=$(DOC)" "$${run[*]}" "$${left[*]}"
+endif
 
 gate-parts: $(addprefix gate-,$(gate_parts))
 gate-ci:
 	@tools/gate.sh part ci 'nice -n 5 rt ci'
 gate-library: out/build/libhedrugal.a
 gate-listings: out/gate/example.proved
-$(addprefix gate-,$(gate_checks)): gate-%:
-	@tools/gate.sh part $* 'make -s check-$* LIBRARY=out/lib KEYSHOW=out/bin/keyshow'
+$(addprefix gate-,$(gate_tests)): gate-%:
+	@tools/gate.sh part $* 'make -s test-$* LIBRARY=out/lib KEYSHOW=out/bin/keyshow DOC=yes'

@@ -1,6 +1,8 @@
 # `make dist`: what a machine without the kit installs; docs/packages.md says how each file is used. The same sources, library and programs
 # make the same bytes, in any folder. All dates are SOURCE_DATE_EPOCH, or that of the newest entry of debian/changelog.
 DIST ?= out/dist
+# The address of the project, in the wheels and the crate: none yet.
+URL ?=
 
 .PHONY: dist dist-needs dist-processor dist-files dist-source dist-tree dist-tarball dist-wheel dist-debs
 dist: dist-needs all arm64-library ## makes the Debian packages, tarballs, Python wheels and their checksums, for both processors, in the folder DIST
@@ -34,14 +36,13 @@ dist-processor: dist-tarball dist-wheel dist-debs
 # A copy without what was built here, which everyone may read.
 dist-source:
 	mkdir $(source)
-	tar -c --exclude={.git,out,target,__pycache__} --mode=u=rwX,go=rX . | tar -C $(source) -xm
+	tar -c --exclude={.git,out,target,__pycache__,rust/Cargo.lock,rust/crossterm/Cargo.lock} --mode=u=rwX,go=rX . | tar -C $(source) -xm
 	$(PYTHON) tools/package/sbom.py > $(source)/python/hedrugal.spdx.json
 
 # What the tarball has. The library and the programs are stripped of what they don't need to be linked or run.
 dist-tree: dist-source
 	mkdir $(source)/built
-	cp '$(dist_library)'/{libhedrugal.a,libhedrugal.so.$(VERSION),hedrugal.h,hedrugal.pc} c/hedrugal_terminal.[ch] '$(dist_keyshow)' \
-		$(source)/built/
+	cp '$(dist_library)'/{libhedrugal.a,libhedrugal.so.$(VERSION)} $(copied:%=c/%) '$(dist_keyshow)' $(source)/built/
 	$(MAKE) --silent -C $(source) install DESTDIR=$(tree) PREFIX=/ LIBDIR=lib LIBRARY=built KEYSHOW=built/keyshow CC='$(dist_cc)' \
 		$(call logged,install)
 	$(processor)-linux-gnu-strip -D --strip-debug --remove-section=.comment $(tree)/lib/libhedrugal.a
@@ -57,9 +58,13 @@ dist-tarball: dist-tree
 	tar -C $(dist_work) --sort=name --format=gnu --owner=root:0 --group=root:0 --mtime=@$(SOURCE_DATE_EPOCH) -c $(tarball) | \
 		gzip -9n > $(dist_made)/$(tarball).tar.gz
 
-dist-wheel: dist-tree
+$(dist_work)/python/libhedrugal.so: $(dist_library)/libhedrugal.a
+	@mkdir -p $(@D)
+	$(call python_library,$(processor),$<)
+
+dist-wheel: dist-source $(dist_work)/python/libhedrugal.so
 	echo 'make: makes the wheel for $(processor)'
-	HEDRUGAL_LIBRARY=$(tree)/lib $(PYTHON) $(source)/python/backend.py $(dist_made) $(call logged,wheel)
+	HEDRUGAL_URL='$(URL)' HEDRUGAL_LIBRARY=$(dist_work)/python $(PYTHON) $(source)/python/backend.py $(dist_made) $(call logged,wheel)
 
 # (The variables of this make aren't those of the one in the copy.)
 dist-debs: dist-tree
@@ -69,3 +74,16 @@ dist-debs: dist-tree
 		--host-arch=$(if $(filter aarch64,$(processor)),arm64,amd64) --build=binary --no-sign $(call logged,debs)
 	mv $(dist_work)/*.deb $(dist_made)/
 endif
+
+# The crate as a folder: the Rust package with the prebuilt libraries in it. Its README is docs/rust.md, whose links lead to other documents.
+.PHONY: crate
+CRATE ?= out/crate
+crate_folder = $(CRATE)/hedrugal-$(VERSION)
+crate: ## assembles the Rust package with the prebuilt libraries, for cargo package, in the folder CRATE
+	@rm -rf '$(crate_folder)' && mkdir -p '$(crate_folder)'
+	@sed '/^publish = false$$/d; /^# What the crate of/,$$d$(if $(URL),; s|^license.*|&\nrepository = "$(URL)"|)' rust/Cargo.toml > '$(crate_folder)/Cargo.toml'
+	@sed -zE 's/<!-- [^>]*-->\n//g; s/\[([^]]*)\]\([^)]*\)/\1/g' docs/rust.md > '$(crate_folder)/README.md'
+	@cp -r rust/build.rs rust/src LICENSE THIRD-PARTY '$(crate_folder)/'
+	@for it in prebuilt/*-linux; do install -D -m 644 -t "$(crate_folder)/$$it" $$it/{libhedrugal.a,PROVENANCE}; done
+	@echo 'make: assembled $(crate_folder),' \
+		"$$(tar -c -C '$(CRATE)' hedrugal-$(VERSION) | gzip | wc -c | numfmt --to=iec) packed, of the 10M that crates.io takes"

@@ -1,18 +1,24 @@
-# prebuilt/: for who has no kit, the archive of the library and the program keyshow as an object, for two processors. PROVENANCE beside them
-# says of what they were made, and by which proofs. What is built again has to be the same bytes: make prebuilt-check.
-.PHONY: prebuilt prebuilt-check
-processors := x86_64 aarch64
+# prebuilt/: for machines without the kit, the archive of the library and the program keyshow as an object, for two processors; python/prebuilt/:
+# the shared library for Python, made of that archive. PROVENANCE beside them says of what they were made, and by which proofs. What is built again
+# has to be the same bytes: make prebuilt-check.
+.PHONY: prebuilt prebuilt-check python-prebuilt
+prebuilt_folders := $(processors:%=prebuilt/%-linux)
+python_folders := $(processors:%=python/prebuilt/%-linux)
 
-prebuilt: $(processors:%=out/prebuilt/%-linux/PROVENANCE) ## proves and builds what the folder prebuilt has, and writes it there
+prebuilt: $(prebuilt_folders:%=out/%/PROVENANCE) ## proves and builds what the folders prebuilt and python/prebuilt have, and writes it there
 	@mkdir -p prebuilt && cp -r out/prebuilt/. prebuilt/
+	@$(MAKE) --silent python-prebuilt
 	@echo 'make: wrote $(words $(processors)) folders of prebuilt'
 
-prebuilt-check: $(processors:%=out/prebuilt/%-linux/PROVENANCE) ## does the same, and says whether that folder has the same bytes
-	@$(foreach it,$(processors),$(call is_prebuilt,$(it)) &&) echo 'make: prebuilt has what these sources make'
+python-prebuilt: $(python_folders:%=out/%/PROVENANCE) ## makes the libraries of python/prebuilt of what the folder prebuilt has, without the kit
+	@mkdir -p python/prebuilt && cp -r out/python/prebuilt/. python/prebuilt/
 
-# Whether a processor's folder has what was built again. The same bytes may come of a kit of another name.
-is_prebuilt = { diff -r -I '^kit: ' prebuilt/$(1)-linux out/prebuilt/$(1)-linux || \
-	{ echo "make: prebuilt/$(1)-linux isn't what these sources make: make prebuilt writes it anew" >&2; false; }; }
+prebuilt-check: $(prebuilt_folders:%=out/%/PROVENANCE) $(python_folders:%=out/%/PROVENANCE) ## says whether both have the bytes that are built again
+	@$(foreach it,$(prebuilt_folders) $(python_folders),$(call is_prebuilt,$(it)) &&) echo 'make: prebuilt has what these sources make'
+
+# Whether a folder has what was built again. The same bytes may come of a kit of another name.
+is_prebuilt = { diff -r -I '^kit: ' $(1) out/$(1) || \
+	{ echo "make: $(1) isn't what these sources make: make prebuilt writes it anew" >&2; false; }; }
 
 # All proofs are over the same libraries: those of RLIBS, or those that `rt ci` or, for the library, `rt lib` proved. The proof of a crate for
 # ARM takes from that for x86-64 what is the same in both.
@@ -29,7 +35,7 @@ out/build/%/keyshow.o: $(proved_libraries) $(if $(RLIBS)$(GATE),,| out/build/lib
 		--toolchain $(kit)/toolchain --backend llvm --target $*-unknown-linux-gnu -o $(abspath $@) $(call logged,keyshow-$*)
 
 # Joins what rattle made with the C functions on which it stands to one object, in which only these names stay: PROCESSOR,SOURCES,NAMES
-joined = $(1)-linux-gnu-gcc -O2 -fPIC -nostdlib -r -o $@ -Wl,--whole-archive $< -Wl,--no-whole-archive $(2) && \
+joined = $(1)-linux-gnu-gcc -O2 -fPIC -fstack-protector-strong -nostdlib -r -o $@ -Wl,--whole-archive $< -Wl,--no-whole-archive $(2) && \
 	$(1)-linux-gnu-objcopy --wildcard --keep-global-symbol='$(3)' $@
 
 out/build/aarch64/hedrugal.o: out/build/aarch64/libhedrugal.a c/kit/heap.c
@@ -51,10 +57,6 @@ out/prebuilt/%-linux/libhedrugal.a: out/build/%/hedrugal.o
 	@mkdir -p $(@D)
 	rm -f $@ && $*-linux-gnu-ar rcsD $@ $<
 
-# The crates that the two are made of. (In crates.txt a crate is below those that it stands on.)
-prebuilt_crates = $(shell tac crates.txt | awk -F '[: ]+' \
-	'BEGIN { below["hedrugal"]; below["keyshow"] } $$1 in below { print $$1; for (i = 2; i <= NF; i++) below[$$i] }')
-prebuilt_sources = $(if $(filter aarch64,$(1)),c/kit) $(wildcard $(foreach it,$(prebuilt_crates),$(addprefix crates/$(it)/,src specs proofs)))
 # The line by which rattle ends a log, but for the words on what it reads without checking it again. A missing log has none.
 verdict = $$(sed -n 's/^\(logic=proved .* sum=[0-9a-f]*\).*/\1/p' $(1) 2> /dev/null | tail -n 1)
 library_logs = $(if $(filter x86_64,$*),out/gate/library.log out/build/hedrugal.log,out/build/hedrugal-$*.log)
@@ -65,13 +67,30 @@ out/prebuilt/%-linux/PROVENANCE: out/prebuilt/%-linux/libhedrugal.a out/prebuilt
 	  echo "proof of the crate hedrugal: $(call verdict,$(library_logs))"; \
 	  echo "proof of the crate keyshow: $(call verdict,out/build/keyshow-$*.log)"; \
 	  echo "joined by: $$($*-linux-gnu-gcc --version | head -n 1), $$($*-linux-gnu-ld --version | head -n 1)"; \
-	  echo "sources: $$({ awk -F '[: ]' 'index(" $(prebuilt_crates) ", " " $$1 " ")' crates.txt | sort; \
-	    find $(call prebuilt_sources,$*) -type f | sort | xargs sha256sum; } | sha256sum | cut -d ' ' -f 1)"; \
+	  echo "sources: $$($(call print_sum,$*))"; \
 	  for file in libhedrugal.a keyshow.o; do echo "sha256 $$file: $$(sha256sum < $(@D)/$$file | cut -d ' ' -f 1)"; done; \
 	  echo 'to check: make prebuilt-check, with the kit, builds the same bytes again'; \
 	  echo 'to refresh: make prebuilt, with the kit'; \
 	} > $@
 	@[ $$(grep -c ': logic=proved ' $@) = 2 ] || { echo 'make: out/build has no proof to name in $@' >&2; exit 1; }
+
+# The shared library for Python. It names no C library, and finds its six functions in that of the process: so one file will do for glibc
+# and for musl. PROCESSOR,ARCHIVE
+python_library = $(1)-linux-gnu-gcc -shared -nostdlib -s -Wl,--version-script=c/hedrugal.map -Wl,--build-id=none \
+	-Wl,-z,now,-z,relro,-z,noexecstack -o $@ -Wl,--whole-archive $(2) -Wl,--no-whole-archive
+
+out/python/prebuilt/%-linux/libhedrugal.so: prebuilt/%-linux/libhedrugal.a c/hedrugal.map
+	@$(check_prebuilt)
+	@mkdir -p $(@D)
+	$(call python_library,$*,$<)
+
+out/python/prebuilt/%-linux/PROVENANCE: out/python/prebuilt/%-linux/libhedrugal.so
+	@{ echo 'library: $(VERSION)'; \
+	  echo "linked by: $$($*-linux-gnu-ld --version | head -n 1)"; \
+	  echo "of: prebuilt/$*-linux/libhedrugal.a, sha256 $$(sha256sum < prebuilt/$*-linux/libhedrugal.a | cut -d ' ' -f 1)"; \
+	  echo "sha256 $(<F): $$(sha256sum < $< | cut -d ' ' -f 1)"; \
+	  echo 'to check: make python-prebuilt links the same bytes again'; \
+	} > $@
 
 # The prebuilt library and keyshow for 64-bit ARM, as make builds them for the processor of this machine.
 .PHONY: arm64-library

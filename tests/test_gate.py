@@ -57,11 +57,6 @@ def passing(count):
         "no floor": ("d", passing(1), "1 passed, 1 failed, tests/floor.txt doesn't name this part"),
         "failed": ("c", "echo '1 passed, 2 failed'; exit 1", "1 passed, 2 failed"),
         "ends badly": ("c", f"{passing(3)}; exit 1", "3 passed, 1 failed"),
-        "too few were skipped": (
-            "c",
-            "echo '1 passed, 1 skipped in 0.2s'",
-            f"1 passed, 1 failed, {FEWER}",
-        ),
         "pytest's": ("c", "echo '== 3 passed, 1 skipped in 0.2s =='", "3 passed, 0 failed"),
     }.values(),
 )
@@ -81,9 +76,9 @@ def test_cases_that_are_left_out(gate, left_out):
 @pytest.mark.parametrize(
     "words, last, status",
     [
-        (("check", "[ % = c ]; echo '3 passed, 0 failed'", "c rust", ""), "6 passed, 0 failed", 0),
-        (("check", passing(2), "c rust", ""), "4 passed, 1 failed", 1),
-        (("check", passing(2), "", "c rust"), "gate: no part was run", 1),
+        (("test", "[ % = c ]; echo '3 passed, 0 failed'", "c rust", ""), "6 passed, 0 failed", 0),
+        (("test", passing(2), "c rust", ""), "4 passed, 1 failed", 1),
+        (("test", passing(2), "", "c rust"), "0 passed, 0 failed", 1),
         (("gate", f'tools/gate.sh part c "{passing(3)}"', "c", "rust"), "3 passed, 1 failed", 1),
         (("gate", f'tools/gate.sh part c "{passing(3)}"', "c"), "3 passed, 1 failed", 1),
     ],
@@ -91,6 +86,14 @@ def test_cases_that_are_left_out(gate, left_out):
 def test_table(gate, words, last, status):
     """A part that isn't run has failed, and so have all that are none."""
     assert end_of(gate(*words)) == (last, status)
+
+
+def test_what_was_left_out(gate):
+    """One line says so, of parts and of cases."""
+    left = "echo left out: a case; echo '3 passed, 1 skipped in 0.2s'"
+    printed = gate("test", left, "c", "rust page").communicate()[0]
+    said = "make: left out: rust page; of c a case; of c 1 skipped\n"
+    assert [line for line in printed.splitlines(True) if "make:" in line] == [said]
 
 
 def test_floor_is_written(gate, tmp_path):
@@ -129,6 +132,23 @@ def test_signal(gate, words, sent):
         process.send_signal(signal.Signals[f"SIG{sent}"])
         assert ended.read() == b""
     assert process.returncode == -signal.Signals[f"SIG{sent}"]
+
+
+@pytest.mark.parametrize(
+    "version, is_there", [("1.63.0", False), ("1.77.0", True), ("1.100.1", True)]
+)
+def test_version_of_a_tool(tmp_path, version, is_there):
+    """One that is too old is as none."""
+    for name in ("needs.sh", "common.sh"):
+        shutil.copy(TOP / "tools" / name, tmp_path)
+    (tmp_path / "needs.txt").write_text("rustc>=1.77  rustc-web  rust\n")
+    rustc = tmp_path / "rustc"
+    rustc.write_text(f"#!/bin/sh\necho 'rustc {version} (of a day)'\n")
+    rustc.chmod(0o755)
+    env = {"PATH": f"{tmp_path}:{os.environ['PATH']}"}
+    done = subprocess.run([tmp_path / "needs.sh", "rust"], capture_output=True, text=True, env=env)
+    said = "" if is_there else "needs: not there: rustc>=1.77, install the packages rustc-web\n"
+    assert (done.returncode == 0, done.stderr) == (is_there, said)
 
 
 def test_two_empty_lists_of_functions(tmp_path):

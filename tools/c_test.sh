@@ -1,12 +1,12 @@
 #!/usr/bin/env bash
-# Tests the library from C: `make check-c`. HEDRUGAL_LIBRARY names its folder, else it is out/lib. CC and CXX compile, and EMULATOR has the
+# Tests the library from C: `make test-c`. HEDRUGAL_LIBRARY names its folder, else it is out/lib. CC and CXX compile, and EMULATOR has the
 # words that run a program of another processor.
 #
 # The example and the tests in c/ are built as C99, the example also as C++, and linked with the archive and with the shared library. One
 # test runs the cases of tests/cases, of which each file must be there and have a case. The tests also run under valgrind, which has to
 # find no error and no leak, and its helgrind no race in a test of four threads, whose parsers share a table. One test refuses every request
-# for memory in turn. Without valgrind and under an emulator, which can't run it, its cases are left out, and a line says so. The last line
-# is 'N passed, N failed', the status 1 if a case failed or none was run.
+# for memory in turn. The cases of a program that isn't there are left out, and those of valgrind under an emulator too, which can't run it. A
+# line says so. The last line is 'N passed, N failed', the status 1 if a case failed or none was run.
 . "$(dirname "$0")/common.sh"
 start_cases "$@"
 cc=${CC:-cc} cxx=${CXX:-c++}
@@ -50,9 +50,11 @@ memcheck() { # words..
 check 'names in the archive' check_names
 check 'example as C99' build events events
 check 'example' check_example "$work/events"
-check 'example as C++' "$cxx" -std=c++11 "${strict[@]}" -I"$library" -xc++ c/events.c -xnone "${shared[@]}" -o "$work/events_cpp"
-check 'example with the shared library' check_example "$work/events_cpp"
-check 'example by pkg-config' example_by_pkg_config
+if has "$cxx" 'the example as C++'; then
+    check 'example as C++' "$cxx" -std=c++11 "${strict[@]}" -I"$library" -xc++ c/events.c -xnone "${shared[@]}" -o "$work/events_cpp"
+    check 'example with the shared library' check_example "$work/events_cpp"
+fi
+has pkg-config 'the example by pkg-config' && check 'example by pkg-config' example_by_pkg_config
 for name in cases parser encode presses press_to_press bindings keymap questions; do check "build of test_$name" build test_$name $name; done
 for name in cases parser; do
     check "build of test_$name with the shared library" \
@@ -66,11 +68,12 @@ for name in parser encode press_to_press bindings keymap questions sharing refus
 check 'test_presses' run "$work/presses" c/hedrugal.h
 for name in cases cases_shared; do check "test_$name" run "$work/$name" tests/cases; done
 check "the kit's functions" run "$work/kit" one ''
-if [ ${#emulator[@]} -gt 0 ] || ! command -v valgrind > /dev/null; then
-    echo 'left out: the cases under valgrind'
+if [ ${#emulator[@]} -gt 0 ]; then
+    echo 'left out: the cases under valgrind, which no emulator runs'
     print_counts
     exit
 fi
+has valgrind 'the cases under valgrind' || { print_counts; exit; }
 for name in parser encode press_to_press bindings keymap questions sharing; do check "test_$name under valgrind" memcheck "$work/$name"; done
 check 'test_presses under valgrind' memcheck "$work/presses" c/hedrugal.h
 check 'test_cases under valgrind' memcheck "$work/cases" tests/cases

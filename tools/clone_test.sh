@@ -1,14 +1,14 @@
 #!/usr/bin/env bash
-# Runs the commands of README.md from a clone, as on a machine with a compiler and nothing of ours: `make check-clone`.
+# Runs the commands of README.md from a clone, as on a machine with a compiler and nothing of ours: `make test-clone`.
 #
 #     tools/clone_test.sh [amd64 | arm64 [tests]]
 #
 # The clone has the files that git knows or would add, as they lie here. The machine is the Debian that tools/root.sh makes, without the
 # kit, an installed library or a network. That for 64-bit ARM is run by qemu, which a namespace of its own calls, so that nothing is left
 # of it; only cargo and rustc need no qemu. There each command of README.md is run, and the tests that need no kit, for ARM also the
-# listings of docs/packages.md on the tarball and the wheel. Then faults are made: a damaged or a missing prebuilt library, one of another
-# version, and no compiler. Each gets one line that says what is wrong and what to do. The word tests runs the tests in Rust and Python
-# alone, but for the longest: `make check-tests-arm64`. The last line is 'N passed, N failed', the status 1 if a case failed.
+# listings of docs/packages.md on the tarball and the wheel. make has to ask rt only where the crates were changed. Then faults are made: a
+# damaged or a missing prebuilt library, one of another version or processor, and no compiler. Each gets one line that says what is wrong and what to do. The word tests runs the tests in Rust and Python
+# alone, but for the longest: `make test-tests-arm64`. The last line is 'N passed, N failed', the status 1 if a case failed.
 . "$(dirname "$0")/common.sh"
 set -u
 export LC_ALL=C.UTF-8 PATH=$PATH:/usr/sbin # has chroot
@@ -64,6 +64,9 @@ refused() { # text script commands..
 }
 
 taken="the library is the prebuilt one"
+# The commands at the head of README.md, and what it says that the first prints.
+mapfile -t first < <(awk '/^```/ { fences++; next } fences == 1' README.md)
+printed=$(awk '/^```/ { fences++; next } fences == 3' README.md)
 # What the example in C prints for its bytes.
 # shellcheck disable=SC2034
 events="<(printf '\\033[1;5Aq') | diff - <(printf '%s\\n' 'UpArrow ctrl' 'Char U+0071')"
@@ -106,9 +109,10 @@ run_listings() { # headings..
 # shellcheck disable=SC2016
 waits='waits() { timeout 1h bash -c "until grep -qs $1 $2; do sleep 0.2; done"; }'
 
-# Types keys once the example has begun, which is when it says how it ends.
-live="$waits; { waits ends ~/shown; printf '\\033[A'; printf q; } |
-    timeout 1h script -qefc '$(command_of 'cd rust && cargo run')' ~/shown && grep UpArrow ~/shown"
+# Types keys once a program has begun, which is when it says how it ends.
+types() { # command
+    printf %s "$waits; rm -f ~/shown; { waits ends ~/shown; printf '\\033[A'; printf q; } | timeout 1h script -qefc '$1' ~/shown && grep UpArrow ~/shown"
+}
 
 page="$waits; cd /root/own; $(command_of './v/bin/python -m') > /root/address & trap 'kill \$!' EXIT
     waits http /root/address
@@ -120,27 +124,28 @@ parsed="import hedrugal; print(*hedrugal.Parser().feed(b\"q\"))"
 check 'clone' make_clone
 check 'machine without the kit' on_machine '! command -v rt; [ -e README.md ]'
 if [ "$cases" = tests ]; then
-    check 'tests in Rust' on_machine "cd rust && CARGO_PROFILE_DEV_DEBUG=0 cargo test --tests -- ${longest_in_rust[*]} 2> ~/said || { cat ~/said; false; }"
-    check 'tests in Python' on_machine "$(command_of 'python3 -m pytest') -k 'not ($longest_in_python)'"
+    check 'tests in Rust' on_machine "cd rust/plain && CARGO_PROFILE_DEV_DEBUG=0 cargo test --tests -- ${longest_in_rust[*]} 2> ~/said || { cat ~/said; false; }"
+    check 'tests in Python' on_machine "python3 -m pytest python -k 'not ($longest_in_python)'"
     echo "left out: in Rust those of the documentation and ${longest_in_rust[*]#--skip}; in Python $longest_in_python"
     print_counts
     exit
 fi
-check 'hedrugal-keys' on_machine "{ $(command_of 'make keys') < <(printf '\\033[1;5Az'); } > ~/shown 2>&1 || { cat ~/shown; false; }
-    grep -F 'ESC [ 1 ; 5 A -> key UpArrow CTRL = ctrl+up' ~/shown && grep -xF 'make: $taken of $prebuilt' ~/shown"
-check 'a program in C' on_machine "cp c/events.c program.c; $(command_of 'cc program.c'); ./a.out < $events"
+check 'keyshow' on_machine "{ ${first[0]}; } > ~/shown 2> ~/said || { cat ~/said; false; }
+    tail -n 2 ~/shown | diff - <(echo '$printed') && grep -xF 'make: $taken of $prebuilt, made of these sources' ~/said"
+check 'hedrugal-keys' on_machine "${first[1]} < <(printf '\\033[1;5Az') | grep -xF 'ctrl+up   ESC [ 1 ; 5 A'"
+check 'example in C' on_machine "$(types "${first[2]}")"
+check 'a program in C' on_machine "git clone -q . '/root/a clone'; cd '/root/a clone'; cp c/events.c program.c; $(command_of 'cc program.c'); ./a.out < $events"
 check 'a program in Rust' on_machine "$program"
-check 'example in Rust' on_machine "$live"
+check 'example in Rust' on_machine "$(types "$(command_of 'cd rust/plain && cargo run')")"
 check 'Python module' on_machine "git clone -q . /root/own; cd /root/own; $(command_of 'python3 -m venv') -v > ~/said 2>&1 || { cat ~/said; false; }
-    grep -F 'hedrugal: $taken' ~/said; cd /; /root/own/v/bin/python -c '$parsed'"
+    grep -F 'hedrugal: $taken' ~/said; cd /; /root/own/v/bin/python -c '$parsed'; /root/own/v/bin/hedrugal --help | grep -F 'ctrl+d twice'"
+check 'editable Python module' on_machine "cd; python3 -m venv e; e/bin/pip install -q -e hedrugal/python; e/bin/python -c '$parsed'"
 check 'page' on_machine "$page"
-check 'cargo test' on_machine "$(command_of 'cd rust && cargo test') 2> ~/said || { cat ~/said; false; }"
-check 'pytest' on_machine "$(command_of 'python3 -m pytest')"
-check 'make check' on_machine "$(command_of 'make check')"
+check 'make test' on_machine "set +e; $(command_of 'tools/needs.sh')"
 check 'make install' on_machine "make install 2> ~/said; cd && cp ~/hedrugal/c/events.c program.c
     cc program.c \$(pkg-config --cflags --libs hedrugal) -o events && LD_LIBRARY_PATH=/usr/local/lib ./events < $events
     printf '\\033OA' | keyshow | grep -xF 'key ApplicationUpArrow NONE'"
-check 'installed library in Rust' on_machine "cd rust && CARGO_TARGET_DIR=~/installed cargo build 2> ~/said && ! grep '$taken' ~/said"
+check 'installed library in Rust' on_machine "cd rust/plain && CARGO_TARGET_DIR=~/installed cargo build -p hedrugal 2> ~/said && ! grep '$taken' ~/said"
 check 'installed library in Python' on_machine "cd /root/own && LD_LIBRARY_PATH=/usr/local/lib v/bin/pip wheel -v -w ~ ./python 2>&1 | grep 'the installed one: /usr/local'"
 check 'make uninstall' on_machine "make uninstall && find /usr/local -type f -exec false '{}' +"
 if [ "$processor" = arm64 ]; then
@@ -148,14 +153,21 @@ if [ "$processor" = arm64 ]; then
     check 'listings of the tarball' run_listings Tarball Rust
     check 'listings of the wheel' run_listings 'Python wheel'
 fi
+# With an rt that only says what it was asked.
+rt="mkdir ~/bin; printf '#!/bin/sh\\necho asked \$*' > ~/bin/rt; chmod +x ~/bin/rt; PATH=~/bin:\$PATH; git clone -q . ~/kit; cd ~/kit"
+check 'rt on the path' on_machine "$rt; make flags 2>&1 | tee ~/said; ! grep asked ~/said; make prove; grep -xF 'asked all check' out/build/prove.log"
+check 'changed crates' on_machine "cd ~/kit; echo >> crates/hedrugal/src/lib.rt; make flags 2>&1 | grep '$taken of $prebuilt, made of other sources'"
 archive=$prebuilt/libhedrugal.a
 pip='/root/own/v/bin/pip install ./python'
-check 'damaged library' refused "$archive isn't what" "echo damage >> $archive" 'make keys' 'cd rust; cargo build' "$pip"
-check 'no library' refused "there is no $prebuilt" "rm -r $prebuilt" 'make flags' "$pip"
+check 'damaged library' refused "$archive isn't what" "echo damage >> $archive" 'make keys' 'cd rust/plain; cargo build -p hedrugal'
+check 'damaged library in Python' refused "python/$prebuilt/libhedrugal.so isn't what" "echo damage >> python/$prebuilt/libhedrugal.so" "$pip"
+check 'no library' refused "there is no $prebuilt" "rm -r $prebuilt" 'make flags'
+check 'no library in Python' refused "python/$prebuilt/libhedrugal.so: HEDRUGAL_LIBRARY" "rm -r python/$prebuilt" "$pip"
 # Without a library cargo builds the package, and no program.
-check 'no library in Rust' on_machine "rm -rf ~/clone; git clone -q . ~/clone; cd ~/clone/rust; rm -r ../$prebuilt
+check 'no library in Rust' on_machine "rm -rf ~/clone; git clone -q . ~/clone; cd ~/clone/rust/plain; rm -r ../../$prebuilt
     if cargo build --example live 2> ~/said; then exit 1; fi; grep -F 'there is no $prebuilt' ~/said"
-check 'no compiler' refused "there is no compiler 'none'" 'export CC=none' 'make -e' "$pip"
+check 'no compiler' refused "there is no compiler 'none'" 'export CC=none' 'make -e'
+check 'another processor' refused 'Linux on x86-64 and 64-bit ARM alone' "printf '#!/bin/sh\necho riscv64-linux-gnu' > ~/cc; chmod +x ~/cc; export CC=~/cc" 'make -e'
 check 'another version' refused 'of version 9.8.7' "sed -i '/^__version__/s/\".*\"/\"9.8.7\"/' python/hedrugal/__init__.py
-    sed -i '/^version/s/\".*\"/\"9.8.7\"/' rust/Cargo.*" 'cd rust; cargo build' "$pip"
+    sed -i '/^version/s/\".*\"/\"9.8.7\"/' rust/Cargo.toml rust/plain/Cargo.lock" 'cd rust/plain; cargo build -p hedrugal' "$pip"
 print_counts

@@ -40,6 +40,11 @@ need() { # program package ..
     [ -z "$missing" ] || { echo "$script: not run, not there:$missing: install$packages" >&2; exit 1; }
 }
 
+# Whether a program is there. If not, a line says which cases are left out.
+has() { # program cases
+    command -v "$1" > /dev/null || { echo "left out: $2, since there is no $1"; false; }
+}
+
 # Prints the path without the folders that have rt.
 path_without_rt() {
     tr : '\n' <<< "$PATH" | while read -r folder; do [ -e "$folder/rt" ] || printf '%s:' "$folder"; done
@@ -110,8 +115,11 @@ needed() { # file
 
 # Whether a shared library has the name by which programs ask for it, and exports the calls of the header alone.
 check_exports() { # file
-    readelf -dW "$1" | grep -F "soname: [libhedrugal.so.$major]" &&
-        same <(nm -D --defined-only "$1" | awk '{ print $3 }' | sort) <(library_calls | sort)
+    readelf -dW "$1" | grep -F "soname: [libhedrugal.so.$major]" && same <(exports_of "$1") <(library_calls | sort)
+}
+
+exports_of() { # file
+    nm -D --defined-only "$1" | awk '{ print $3 }' | sort
 }
 
 # Sets $view to the words before a command by which it finds these folders empty, or to none if the system lets no program hide folders.

@@ -1,8 +1,9 @@
 #!/usr/bin/env bash
-# Runs the parts of `make gate` and `make check`, and counts what passed.
+# Runs the parts of `make test`, and counts what passed.
 #
 #     tools/gate.sh gate COMMAND NAME..      runs a command, which runs these parts, and prints the table
-#     tools/gate.sh check COMMAND RUN LEFT   runs each of the parts RUN by the command, in which % is its name, and prints the table
+#     tools/gate.sh test COMMAND RUN LEFT    runs each of the parts RUN by the command, in which % is its name, prints the table, and says
+#                                            which parts, of these LEFT, and cases were left out
 #     tools/gate.sh part NAME COMMAND        runs a command of the shell. out/gate/NAME.log is what it printed, and out/gate/NAME.count has
 #                                            how many cases passed and failed, when it began and ended, and its processor time, in seconds
 #     tools/gate.sh wait CRATE..             waits until the part ci, which is `rt ci`, has proved these crates
@@ -11,7 +12,7 @@
 #
 # The counts of a part are those of its last line 'N passed, N failed', or of pytest's. Without one they are those of pre-commit's hooks, or it
 # is one case. Each must-fail edit that `rt ci` calls a BAD EDIT or NOT TRIED is a failed one. tests/floor.txt says how many cases a part has: one
-# that passed with fewer or more fails. In `make check` it may have left some out.
+# that passed with fewer or more fails. Outside the gate it may have left some out.
 #
 # INT, TERM or HUP ends what the script has started, and what that started.
 set -uo pipefail
@@ -88,15 +89,14 @@ count() { # status log
 
 # Prints what is wrong with how many cases of a part have passed, if none failed.
 misses() { # name passed log
-    local floor skipped
+    local floor
     floor=$(sed -nE "s/^$1 +([0-9]+\+?).*/\1/p" "$floors")
-    skipped=$(sed -nE 's/.* ([0-9]+) skipped.*/\1/p' "$3" | tail -n 1)
     if [ "$2" = 0 ]; then
         echo 'no case was run'
     elif [ -z "$floor" ]; then
         echo "$floors doesn't name this part"
     elif [ "$2" -lt "${floor%+}" ]; then
-        [ -z "$is_gate" ] && { grep -q '^left out: ' "$3" || [ $(($2 + skipped)) -ge "${floor%+}" ]; } || echo "fewer than the $floor of $floors"
+        [ -z "$is_gate" ] && grep -qE '^left out: | [0-9]+ skipped' "$3" || echo "fewer than the $floor of $floors"
     elif [[ "$floor" != *+ && "$2" -gt "$floor" ]]; then
         echo "more than the $floor of $floors, which \`tools/gate.sh floor $1\` mends"
     fi
@@ -143,7 +143,7 @@ wait_for() { # crates..
 
 table() { # names..
     local name
-    [ $# != 0 ] || { echo 'gate: no part was run' >&2; return 1; }
+    [ $# != 0 ] || { echo 'gate: no part was run' >&2; echo '0 passed, 0 failed'; return 1; }
     mkdir -p $gate && cd $gate || return
     for name; do
         echo "$name $(cat "$name.count" 2> /dev/null)"
@@ -173,11 +173,22 @@ gate() { # command names..
     table "${@:2}" "${left[@]}"
 }
 
-check_parts() { # command run left
+# Says in one line which parts were left out, and what those that were run say that they left out.
+tell_left() { # parts names..
+    local name cases all=$1
+    for name in "${@:2}"; do
+        while read -r cases; do
+            all+="${all:+; }of $name $cases"
+        done < <(sed -nE 's/^left out: //p; s/.* ([0-9]+ skipped).*/\1/p' "$gate/$name.log")
+    done
+    [ -z "$all" ] || echo "make: left out: $all"
+}
+
+test_parts() { # command run left
     local name names
     read -ra names <<< "$2"
     for name in "${names[@]}"; do part "$name" "${1//%/$name}"; done
-    [ -z "$3" ] || echo "check: left out: $3"
+    tell_left "$3" "${names[@]}"
     table "${names[@]}"
 }
 
@@ -191,7 +202,7 @@ floor() { # names..
 
 case ${1-} in
     gate | part | floor | run) "$@" ;;
-    check) check_parts "${@:2}" ;;
+    test) test_parts "${@:2}" ;;
     wait) wait_for "${@:2}" ;;
     *) refuse_word "${1-}" ;;
 esac

@@ -2,7 +2,7 @@
 # Counts the instructions and the memory of the parser, of bindings and of pastes that are sent, and checks that neither grows faster than what
 # they read and have.
 #
-#     tools/growth.sh FEED          (make check-growth)
+#     tools/growth.sh FEED          (make test-growth)
 #
 # tools/growth/growth.c reads texts in several ways, and tools/growth/judge.awk has the bounds. tools/growth/tasks.c reads and prints names, binds
 # chords, looks them up and sends pasted texts: tools/growth/tasks.awk has the bounds. callgrind counts the instructions and a wrapped malloc

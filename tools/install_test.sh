@@ -1,5 +1,5 @@
 #!/usr/bin/env bash
-# Installs the library, keyshow and hedrugal-keys in temporary folders by `make install`, and tests what lies there: `make check-install`.
+# Installs the library, keyshow and hedrugal-keys in temporary folders by `make install`, and tests what lies there: `make test-install`.
 # HEDRUGAL_LIBRARY names the library's folder, else it is out/lib; KEYSHOW names the program, else it is out/bin/keyshow.
 #
 # Programs are built by pkg-config, with the shared library and with the archive, where the files were installed and after the prefix was
@@ -27,6 +27,8 @@ bin/hedrugal-keys 755
 bin/keyshow 755
 include/hedrugal.h 644
 include/hedrugal_terminal.h 644
+lib/cmake/hedrugal/hedrugal-config-version.cmake 644
+lib/cmake/hedrugal/hedrugal-config.cmake 644
 lib/libhedrugal.a 644
 lib/libhedrugal.so -> libhedrugal.so.$version
 lib/libhedrugal.so.$major -> libhedrugal.so.$version
@@ -80,6 +82,15 @@ check_static() { # prefix libdir
     build "$work/events.c" "$@" -Wl,-Bstatic && ! needed "$work/events" | grep hedrugal && runs && ! readelf -lW "$work/events" | grep RWE
 }
 
+# CMake finds the same by the listing of docs/c.md: the shared library, the archive, and the file for a terminal.
+check_cmake() { # prefix libdir
+    rm -rf "$work/cmake" && mkdir "$work/cmake" && cp "$work"/{events,live}.c "$work/cmake/" &&
+        awk '/^```cmake$/ { inside = 1; next } /^```$/ { inside = 0 } inside' docs/c.md > "$work/cmake/CMakeLists.txt" &&
+        cmake -S "$work/cmake" -B "$work/cmake/built" -D CMAKE_PREFIX_PATH="$1" && cmake --build "$work/cmake/built" || return
+    mv "$work/cmake/built/events" "$work/events" && needed "$work/events" | grep -F "[libhedrugal.so.$major]" && runs "$1/$2" &&
+        ! needed "$work/cmake/built/live" | grep hedrugal && ! "$work/cmake/built/live" < /dev/null
+}
+
 # A program on a terminal is compiled with the file that pkg-config names.
 check_terminal() { # prefix libdir
     build "$work/live.c" "$@" "$(asked "$@" --variable=terminal)" && ! LD_LIBRARY_PATH=$1/$2 "$work/events" < /dev/null 2> "$work/words" &&
@@ -96,6 +107,14 @@ check_program() { # name bytes
 check_keys() {
     [ "$(needed "$stage/bin/hedrugal-keys")" = 'Shared library: [libc.so.6]' ] &&
         "$stage/bin/hedrugal-keys" --version | grep -xF "hedrugal-keys $version" && check_program hedrugal-keys 'z\033[1;5A\033'
+}
+
+# On a processor below x86-64-v2 each program is refused in words, and not by SIGILL.
+check_old_processor() {
+    local program
+    for program in keyshow hedrugal-keys; do
+        ! qemu-x86_64-static -cpu qemu64 "$stage/bin/$program" < /dev/null 2> "$work/words" && grep -E 'ISA level|x86-64-v2' "$work/words" || return
+    done
 }
 
 # For another target the compiler says what the library is built for.
@@ -202,7 +221,7 @@ check_system_folders() {
     # shellcheck disable=SC2016
     "${view[@]}" bash -ec 'make -s install "$@" && [ -f /usr/local/include/hedrugal.h ] && make -s uninstall &&
         find /usr/local -mindepth 1 -printf "%P\n" | sort' bash LIBRARY="$library" KEYSHOW="$keyshow" > "$work/lines" &&
-        diff <(grep -v '^make: ' "$work/lines") <(printf '%s\n' bin include lib lib/pkgconfig share share/man share/man/man1 share/man/man3)
+        diff <(grep -v '^make: ' "$work/lines") <(printf '%s\n' bin include lib lib/cmake lib/pkgconfig share share/man share/man/man1 share/man/man3)
 }
 
 # A library of other sources isn't installed.
@@ -227,8 +246,10 @@ check 'hardening of the shared library' check_hardening
 check 'program with the shared library' check_shared "$stage" lib
 check 'program with the archive' check_static "$stage" lib
 check 'program on a terminal' check_terminal "$stage" lib
+check 'programs by CMake' check_cmake "$stage" lib
 check 'keyshow, as its manual page shows it' check_program keyshow '\033[1;5Az\033'
 check 'hedrugal-keys, as its manual page shows it' check_keys
+check 'processor below x86-64-v2' check_old_processor
 for option in -m32 -mx32 -U__linux__ -D__AARCH64EB__; do check "header with $option" check_refused $option; done
 check 'calls in the manual pages' check_calls_pages
 check 'example of the manual page' check_example
@@ -239,6 +260,7 @@ mkdir "$work/elsewhere"
 check 'move of the prefix' mv "$stage" "$work/elsewhere/moved"
 check 'program with the shared library, moved' check_shared "$work/elsewhere/moved" lib
 check 'program with the archive, moved' check_static "$work/elsewhere/moved" lib
+check 'programs by CMake, moved' check_cmake "$work/elsewhere/moved" lib
 check 'uninstall, moved' check_moved_away
 check 'install below a relative prefix' over_built install "${own[@]}"
 check 'program with the shared library, there' check_shared "$work/own" lib/x86_64-linux-gnu

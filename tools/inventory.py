@@ -170,7 +170,7 @@ def python_tests(node: ast.Module | ast.ClassDef, owner: str = "") -> Iterator[s
 
 
 def of_recorded(name: str, line: str) -> Iterator[bytes]:
-    """The bytes of a line of rust/tests/recorded that are given, or written by an encoder."""
+    """The bytes of a line of rust/plain/tests/recorded that are given, or written by an encoder."""
     fields = line.split(" = ")
     given = fields if name.endswith("/encode.txt") else fields[: 2 if len(fields) == 5 else 1]
     for word in re.split("[ ,]", " ".join(given)):
@@ -227,10 +227,10 @@ def lines_of(tree: Path) -> Iterator[tuple[str, str]]:
         yield from ((f"test {name}::{it}", name) for it in re.findall(r" (\w+)\(\);", main))
         yield from cases(name, of_c(text, macros))
 
-    for name, text in files("rust/tests/**/*.rs", "rust/examples/**/*.rs"):
+    for name, text in files("rust/**/*.rs"):
         tests = RUST_TEST.findall(text)
         yield from ((f"test {name}::{it}", name) for it in tests)
-        if tests or name.startswith("rust/tests/"):
+        if tests or "/tests/" in name:
             yield from cases(name, of_rust(text))
 
     modules = [(name, ast.parse(text)) for name, text in files("python/*.py", "tests/*.py")]
@@ -239,7 +239,7 @@ def lines_of(tree: Path) -> Iterator[tuple[str, str]]:
         yield from ((f"test {name}::{it}", name) for it in python_tests(module))
         yield from cases(name, of_python(module, names))
 
-    recorded = ("rust/tests/**/*.t[xs][tv]", "tests/*/*.t[xs][tv]")
+    recorded = ("rust/**/*.t[xs][tv]", "tests/*/*.t[xs][tv]")
     for name, text in files(*recorded):
         yield from cases(name, of_data(name, text))
     programs = (f"crates/*/{it}" for it in ("args", "stdin", "stdout"))

@@ -3,7 +3,8 @@
 #
 #     tools/needs.sh [--install] PART..
 #
-# The part all stands for each of them but performance, terminals and arm64. With --install it first installs what Debian has of it, where this user can.
+# The part all stands for each of them but performance, picture, terminals and arm64. With --install it first installs what Debian has of it, where
+# this user can, and removes nothing for it.
 set -eu
 . "$(dirname "$0")/common.sh"
 installs=no
@@ -15,7 +16,7 @@ look() { # parts..
     local thing package parts part
     lacking='' packages=''
     while read -r thing package parts; do
-        [[ $parts =~ ^(performance|terminals|arm64)$ ]] || parts+=' all'
+        [[ $parts =~ ^(performance|picture|terminals|arm64)$ ]] || parts+=' all'
         for part; do
             [[ $thing != '#' && " $parts " == *" $part "* ]] && ! is_there "$thing" || continue
             lacking+=" ${thing##*/}"
@@ -25,20 +26,28 @@ look() { # parts..
     done < "$(dirname "$0")/needs.txt"
 }
 
-is_there() { # program, or a pattern of files
-    { [[ $1 == /* ]] && compgen -G "$1" || command -v "$1"; } > /dev/null
+is_there() { # program, program>=version, or a pattern of files
+    { [[ $1 == /* ]] && compgen -G "$1" || command -v "${1%>=*}"; } > /dev/null || return
+    [[ $1 != *'>='* ]] || { echo "${1#*>=}"; "${1%>=*}" --version | grep -Eo '[0-9]+(\.[0-9]+)+' | head -n 1; } | sort -VC
+}
+
+install() { # packages..
+    timeout 1h apt-get -q -y --no-remove --no-install-recommends install "$@" > /dev/null 2>&1
 }
 
 look "$@"
 if [ $installs = yes ] && [ -n "$packages" ] && [ "$(id -u)" = 0 ] && command -v apt-get > /dev/null; then
     echo "needs: installs$packages" >&2
     export DEBIAN_FRONTEND=noninteractive
+    timeout 1h apt-get -q update > /dev/null 2>&1 || true
+    # One that there isn't keeps apt-get from all of them.
     # shellcheck disable=SC2086
-    timeout 1h sh -c "apt-get -q update && apt-get -q -y --no-install-recommends install $packages" > /dev/null 2>&1 || true
+    install $packages || for package in $packages; do install "$package" || true; done
     look "$@"
 fi
 [ -n "$lacking" ] || exit 0
-hint=${packages:+", install the packages$packages"}
+[ $installs = yes ] && hint="can't install" || hint=install
+hint=${packages:+", $hint the packages$packages"}
 [[ "$lacking " != *' rt '* ]] || hint+=', put rt of the Rattle kit on the path'
 echo "needs: not there:$lacking$hint" >&2
 exit 1

@@ -1,5 +1,5 @@
 #!/usr/bin/env bash
-# Tests what `make dist` makes, as on a machine without the Rattle kit: `make check-packages`. HEDRUGAL_LIBRARY names the library's folder,
+# Tests what `make dist` makes, as on a machine without the Rattle kit: `make test-packages`. HEDRUGAL_LIBRARY names the library's folder,
 # else it is out/lib; KEYSHOW names the program, else it is out/bin/keyshow.
 #
 # The packages for both processors are made twice, from two folders, and have to be the same bytes. lintian has to find nothing in the
@@ -39,9 +39,9 @@ make_dist() { # folder of the sources, folder of the packages
 make_again() {
     local copy="$work/a copy" again="$work/over another"
     mkdir "$copy" "$again" && tar --exclude=.git --exclude=out --exclude=target -c . | tar -C "$copy" -x || return
-    mkdir -p "$copy"/python/hedrugal/{,page/}__pycache__ "$copy"/rust/{target/debug,with/target}
+    mkdir -p "$copy"/python/hedrugal/{,page/}__pycache__ "$copy"/rust/{target/debug,plain/target}
     touch "$copy"/python/hedrugal/{,page/}__pycache__/old.pyc \
-        "$copy"/rust/{target/debug,with/target}/old "$again"/another \
+        "$copy"/rust/{target/debug/old,plain/target/old,Cargo.lock} "$again"/another \
         "$again"/{libhedrugal0,libhedrugal-dev,hedrugal}_0.0.1-1_{amd64,arm64}.deb \
         "$again"/hedrugal-0.0.1-{{x86_64,aarch64}-linux.tar.gz,py3-none-manylinux_2_5_{x86_64,aarch64}.whl}
     chmod -R go= "$copy" && (cd / && umask 077 && TZ=Asia/Tokyo make_dist "$copy" "$again") &&
@@ -49,9 +49,10 @@ make_again() {
 }
 
 check_names() {
-    diff <(find "$packages" -type f -printf '%f\n' | sed 's/linux_[0-9]*_[0-9]*_/linux_A_B_/' | sort) <({
+    diff <(find "$packages" -type f -printf '%f\n' | sort) <({
         echo SHA256SUMS
-        printf "hedrugal-$version-%s\n" py3-none-manylinux_A_B_{x86_64,aarch64}.whl {x86_64,aarch64}-linux.tar.gz
+        printf "hedrugal-$version-py3-none-%s.musllinux_1_2_%s.whl\n" manylinux_2_5_x86_64 x86_64 manylinux_2_17_aarch64 aarch64
+        printf "hedrugal-$version-%s-linux.tar.gz\n" x86_64 aarch64
         printf "%s_$version-1_amd64.deb\n%s_$version-1_arm64.deb\n" {hedrugal,libhedrugal-dev,libhedrugal0}{,}
     } | sort)
 }
@@ -91,6 +92,7 @@ expected_files() { # package
             echo "$libdir/libhedrugal.a 644"
             echo "$libdir/libhedrugal.so -> libhedrugal.so.$version"
             echo "$libdir/pkgconfig/hedrugal.pc 644"
+            printf "$libdir/cmake/hedrugal/%s 644\n" hedrugal-config{,-version}.cmake
             printf "usr/share/doc/$1/%s.md.gz 644\n" BINDINGS EXTENDED GRAMMAR SENDERS c
             printf "usr/share/doc/$1/examples/%s 644\n" {ask,edit,events,list,live,many,prompt,server}.c edit.keys name_errors.h
             (cd docs/man && printf 'usr/share/man/man3/%s.gz 644\n' *.3)
@@ -145,12 +147,10 @@ check_processor() { # file
     "$processor-linux-gnu-objdump" -d --no-show-raw-insn "$1" > "$work/code" && [ -s "$work/code" ] && ! grep -E "$later" "$work/code"
 }
 
-# The wheel's tag is for the C library that its own file needs, or the oldest that pip knows.
+# The wheel's library has the calls, and is for any C library: it names none, and no symbol's version.
 check_wheel() {
-    local needed oldest=2.5
-    [ "$processor" = x86_64 ] || oldest=2.17
-    needed=$(printf '%s\n' "$oldest" "$(glibc_of "$unpacked/wheel/hedrugal/libhedrugal.so")" | sort -V | tail -n 1)
-    [ -f "$packages/hedrugal-$version-py3-none-manylinux_${needed/./_}_$processor.whl" ]
+    local file=$unpacked/wheel/hedrugal/libhedrugal.so
+    same <(exports_of "$file") <(library_calls | sort) && ! readelf -dVW "$file" | grep -E 'NEEDED|GLIBC'
 }
 
 # The tarball and the wheel have the files of the Python module, as they lie here, and the library where it looks for it.

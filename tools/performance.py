@@ -112,7 +112,7 @@ class Builder:
         return f"{self.work}/release"
 
     def rust(self, *dialect):
-        built = self.cargo("rust/Cargo.toml", "--locked", "--example", "measure")
+        built = self.cargo("rust/plain/Cargo.toml", "--locked", "--example", "measure")
         return [f"{built}/examples/measure", *dialect]
 
     def layers(self):
@@ -133,11 +133,11 @@ class Builder:
         return [program]
 
     def rust_layers(self):
-        """The program of rust/with. Cargo writes a lock file there, so this is a copy."""
-        copy, config = f"{self.work}/rust", f"{TOP}/rust/with/system.toml"
+        """The program of the package. Cargo writes a lock file there, so this is a copy."""
+        copy, config = f"{self.work}/rust", f"{TOP}/rust/system.toml"
         shutil.copytree(f"{TOP}/rust", copy, ignore=shutil.ignore_patterns("target"))
         words = ["--example", "layers", "--features", "tokio", "--config", config]
-        return self.cargo(f"{copy}/with/Cargo.toml", *words) + "/examples/layers"
+        return self.cargo(f"{copy}/Cargo.toml", *words) + "/examples/layers"
 
     def crossterm_layers(self, of, crate):
         """The program over crossterm, or over the package in its place."""
@@ -145,7 +145,7 @@ class Builder:
         name = f"layers{list(CROSSTERMS).index(of)}"
         text = CROSSTERM_LAYERS.format(name=name, crate=crate)
         Path(folder, "Cargo.toml").write_text(text)
-        config = f"{TOP}/rust/with/system.toml"
+        config = f"{TOP}/rust/system.toml"
         return f"{self.cargo(f'{folder}/Cargo.toml', '--config', config)}/{name}"
 
     def crossterm(self):
@@ -188,7 +188,7 @@ ALIKE = (
 OWN = "Termwiz with a table each"
 MANY = ["Termwiz", OWN, "Extended", "libtermkey", "crossterm"]
 MANY_INPUTS, MANY_BYTES = ["keys", "csiu"], 1 << 15
-# The layers of rust/examples/with/layers.rs.
+# The layers of rust/examples/layers.rs.
 RUST_LAYERS = {
     "terminal": "`Terminal::read`, in Rust",
     "stream": "`EventStream`, in Rust on tokio",

@@ -1,5 +1,5 @@
 #!/usr/bin/env bash
-# Refuses each request for memory in turn, and checks what is seen: `make check-refusals`.
+# Refuses each request for memory in turn, and checks what is seen: `make test-refusals`.
 #
 #     tools/refusals.sh [REFUSALS [KEYSHOW]]
 #

@@ -1,6 +1,7 @@
 """Checks the documents: runs their listings, and follows their links.
 
-The documents are README.md, CONTRIBUTING.md, CHANGELOG.md, docs/*.md and crates/*/README.md.
+The documents are README.md, also that of python, CONTRIBUTING.md, CHANGELOG.md, docs/*.md and
+crates/*/README.md.
 It is checked that
 
 - each listing (a fenced block) has a marker before it, an HTML comment that says how it is run or
@@ -20,8 +21,8 @@ Markers:
 <!-- run: c [input 'TEXT' | typed 'TEXT' ..] -->     a program in C, linked with the library, and
                                     with hedrugal_terminal.c, libuv or libevent if it includes them
 <!-- run: rust [with FEATURE] [input 'TEXT' | typed 'TEXT' ..] -->
-                                    a program over the package in rust/, or in rust/with with a
-                                    feature and the crate of that name
+                                    a program over the package in rust/, with a feature also over
+                                    the crate of that name
 <!-- run: python [input 'TEXT' | typed 'TEXT' ..] -->
                                     a program over the package in python/
 <!-- run: rattle FILE -->           the file, without its contracts, `ghost use` lines and comments
@@ -75,7 +76,8 @@ import pexpect
 import promises
 
 TOP = Path(__file__).resolve().parents[2]
-DOCUMENTS = ["README.md", "CONTRIBUTING.md", "CHANGELOG.md", "docs/*.md", "crates/*/README.md"]
+DOCUMENTS = ["README.md", "CONTRIBUTING.md", "CHANGELOG.md", "docs/*.md"]
+DOCUMENTS += ["python/README.md", "crates/*/README.md"]
 SUFFIXES = "md rt rs c h sh txt antt edit toml py awk".split()
 SECONDS = 1800
 # What a listing in C includes besides the library's header, and the words for the compiler.
@@ -111,11 +113,12 @@ CRATES = {
     "tokio": {"version": "1.24", "parts": '"macros", "rt"'},
     "mio": {"version": "0.8", "parts": '"os-poll"'},
 }
-WITH = f"""hedrugal = {{{{ path = "{TOP}/rust/with", features = ["{{feature}}"] }}}}
+WITH = f"""hedrugal = {{{{ path = "{TOP}/rust", features = ["{{feature}}"] }}}}
 {{feature}} = {{{{ version = "{{version}}", features = [{{parts}}] }}}}"""
 # Where the names of the documents come from.
 SOURCES = ["Makefile", "c/*", "keys/*", "tools/**/*", "tests/*.py", "python/**/*.py"]
-SOURCES += [f"rust/{it}/**/*.rs" for it in ("src", "tests", "examples")]
+RUST = ("src", "tests", "examples", "plain/tests", "plain/examples")
+SOURCES += ["rust/Cargo.toml", *(f"rust/{it}/**/*.rs" for it in RUST)]
 SOURCES += ["crates/*/src/*.rt", "crates/*/specs/*.antt", "crates/*/proofs/**/*.antt"]
 # Names of termwiz and of its parts, of crates of the kit, and of what systems have.
 OTHERS = {"ENHANCED_KEY", "from_utf8_unchecked", "lineedit", "surface"}
@@ -408,7 +411,7 @@ class Runner:
         if listing.words[:1] == ["with"]:
             _, feature, *listing.words = listing.words
             packages = WITH.format(feature=feature, **CRATES[feature])
-            words = ["--config", f"{TOP}/rust/with/system.toml"]
+            words = ["--config", f"{TOP}/rust/system.toml"]
         Path(f"{folder}/Cargo.toml").write_text(
             f'[package]\nname = "listing"\nedition = "2021"\n[dependencies]\n{packages}\n'
         )

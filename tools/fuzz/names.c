@@ -4,12 +4,13 @@
  *
  * The text is the name of a chord, or the header's reasons say why not: a place is within the text, and what stands before it is whole
  * characters. As many presses are written as there is room for. Each is its own press, and has a text only if it is a character. What is
- * printed of the chord is read as the same presses, and is printed again. A room that is too short gets the front of the name. Only the
- * calls that print ask for memory: a refused call writes nothing, and made again it is granted. */
+ * printed of the chord is read as the same presses, and is printed again. In modes that the room's byte tells each has bytes, or one is refused
+ * where a name starts. A room that is too short gets the front of the name or of the bytes. Only the calls that print and send ask for memory: a
+ * refused call writes nothing, and made again it is granted. */
 #include "fuzz.h"
 #include <string.h>
 
-enum { TEXT_MAX = 200, ONE_NAME = 64, NAME_MAX = ONE_NAME * HED_CHORD_MOST };
+enum { SENT_MAX = 64 * HED_CHORD_MOST, TEXT_MAX = 200, ONE_NAME = 64, NAME_MAX = ONE_NAME * HED_CHORD_MOST };
 
 /* The presses of a text, and what is wrong with it. */
 typedef struct chord {
@@ -121,6 +122,32 @@ static void check_others(chord *it, uint8_t which) {
   HOLDS(print(it->keys, 0, &name, NAME_MAX, &len) == HED_BAD_NUMBER);
 }
 
+/* What is sent for the text, with room for so many bytes. */
+static hed_status send(const room *text, const hed_modes *modes, room *out, size_t capacity, size_t *len, size_t *at) {
+  room_of(out, capacity);
+  hed_status sent = hed_send_names(pointer_to(text), text->len, modes, pointer_to(out), capacity, len, at);
+  HOLDS(is_untouched(out, sent != HED_OK ? 0 : *len < capacity ? *len : capacity) && (sent == HED_OK || *len == 0));
+  return sent;
+}
+
+static void check_sent(const chord *it, const uint8_t *bytes, size_t len, size_t capacity, unsigned number) {
+  static room text, whole, front;
+  hed_modes modes = { .encoding = capacity % 4, .kitty_flags = capacity / 4 % 32, .application_cursor_keys = capacity >= 128 };
+  size_t sent_len, front_len, at, front_at;
+  room_with(&text, bytes, len);
+  refuse_request(number);
+  hed_status sent = send(&text, &modes, &whole, SENT_MAX, &sent_len, &at);
+  HOLDS((sent == HED_NO_MEMORY) == (refusals > 0) && (refusals == 0 || at == 0));
+  refuse_request(0);
+  sent = send(&text, &modes, &whole, SENT_MAX, &sent_len, &at);
+  HOLDS(sent == it->status || (it->status == HED_OK && sent == HED_REFUSED_KEY));
+  HOLDS(sent == HED_OK ? at == 0 && sent_len >= it->count && sent_len <= SENT_MAX : sent == it->status ? at == it->at : at < len);
+  HOLDS(sent != HED_REFUSED_KEY || (bytes[at] != ' ' && bytes[at] != '\t' && (at == 0 || bytes[at - 1] == ' ' || bytes[at - 1] == '\t')));
+  HOLDS(send(&text, &modes, &front, capacity, &front_len, &front_at) == sent && front_len == sent_len && front_at == at);
+  HOLDS(memcmp(whole.at, front.at, sent_len < capacity ? sent_len : capacity) == 0 && is_unchanged(&text, bytes));
+  note(0x40000u | sent, (unsigned)sent_len);
+}
+
 void try_input(input *it) {
   static chord whole, some;
   unsigned number = take_byte(it) % 8;
@@ -131,6 +158,7 @@ void try_input(input *it) {
   read_text(&some, text, len, capacity % (HED_CHORD_MOST + 1));
   HOLDS(same_chord(&whole, &some, capacity % (HED_CHORD_MOST + 1)));
   note(0x10000u | whole.status, (unsigned)whole.at);
+  check_sent(&whole, text, len, capacity, number);
   if (whole.status != HED_OK) return;
   for (size_t i = 0; i < whole.count; i++) check_press(&whole.keys[i], capacity);
   check_name(&whole, capacity, number);

@@ -86,7 +86,7 @@ WHOLE: Dict[str, Callable[[Interface], Iterator[str]]] = {
     "c limits": of_policy('"{}",'),
     "c replies": reply_fields,
 }
-FILES = "rust/src/**/*.rs rust/tests/**/*.rs python/hedrugal/*.py keys/*.c c/*.*"
+FILES = "rust/src/**/*.rs rust/plain/tests/**/*.rs python/hedrugal/*.py keys/*.c c/*.*"
 
 # A place: its first line, those that are written, and its end.
 MARK = r" *(?:/\*|//|#) hedrugal\.h: "

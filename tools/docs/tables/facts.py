@@ -71,8 +71,11 @@ def readme():
     python = found_in("Requires-Python: >=(.*)", "python/backend.py")
     yield f"Rust {rust} or later"
     yield f"Python {python} or later"
-    kit = found_in(r"kit: (\S+)", "prebuilt/x86_64-linux/PROVENANCE")
-    yield f" or {kit} on the path"
+
+
+def kit():
+    name = found_in(r"kit: (\S+)", "prebuilt/x86_64-linux/PROVENANCE")
+    yield f" or {name}"
 
 
 def port():
@@ -382,13 +385,13 @@ def text_and_shifted():
 
 
 def relay_limits():
-    kilobytes = constant("MOST_PENDING", "rust/examples/relay/main.rs") // 1024
+    kilobytes = constant("MOST_PENDING", "rust/plain/examples/relay/main.rs") // 1024
     yield f"once some {kilobytes} KB wait"
 
 
 def relay_modes():
     """The modes that relay keeps, as its source names them, but for DECCKM."""
-    text = Path("rust/examples/relay/modes.rs").read_text().partition("fn set(")[2]
+    text = Path("rust/plain/examples/relay/modes.rs").read_text().partition("fn set(")[2]
     arms = [it.replace(" | ", ", ") for it in re.findall(r"^ +(\d[\d |]*\d) ", text, re.MULTILINE)]
     keypad, tracking, focus, _, encoding, _, paste, *_ = arms
     yield f"mode {keypad} |"
@@ -457,7 +460,7 @@ def shifted_space():
 def shown_bytes():
     longest, head, tail = (constant(it, "keys/screen.c") for it in ("LONGEST", "HEAD", "TAIL"))
     yield f"Of more than {longest} bytes the first {head} and the last {tail} are shown"
-    yield f"by its first {constant('TEXT_SHOWN', 'keys/line.h')} bytes in hexadecimal"
+    yield f"as that of a paste, up to {constant('TEXT_SHOWN', 'keys/line.h')} bytes are shown"
 
 
 def file_of_bindings():
@@ -480,6 +483,7 @@ def keys_manual():
     yield f"After {ESCAPE} milliseconds without a byte it is Escape."
     yield f"{in_seconds(SEQUENCE)} after the first of them, or after {ALT_KEY} milliseconds"
     yield f"cut off {in_seconds(STRING)} after its first byte"
+    yield f"It waits for {constant('OPENING_MS', 'keys/opening.h')} milliseconds for the replies."
     yield f"{constant('READ_SIZE', 'keys/main.c')} bytes at a time"
     yield f"A file of more than {constant('FILE_MOST', 'keys/bindings.c')} bytes is refused."
     yield from switched_modes()
