@@ -96,9 +96,8 @@ def late_poll(compiled):
 
 @pytest.fixture(scope="session")
 def rust_copy(tmp_path_factory):
-    """A copy of the folder rust: cargo writes a lock file beside the manifest of what names other
-    crates. Each copy is built anew: cargo looks for changes of its sources where an earlier copy
-    lay."""
+    """A copy of the folder rust: cargo writes a lock file beside its manifest. Each copy is built
+    anew: cargo looks for changes of its sources where an earlier copy lay."""
     copy = tmp_path_factory.mktemp("rust") / "rust"
     return shutil.copytree(TOP / "rust", copy, ignore=shutil.ignore_patterns("target"))
 
@@ -106,7 +105,7 @@ def rust_copy(tmp_path_factory):
 @pytest.fixture(scope="session")
 def example(compiled, rust_copy, tmp_path_factory):
     """Builds the example of a name in a language, of the package rust/crossterm, or in Rust by a
-    feature of rust/with, and returns the words that run it. `-k "not rust"` leaves out those in
+    feature of the package, and returns the words that run it. `-k "not rust"` leaves out those in
     Rust."""
 
     @functools.cache
@@ -117,11 +116,11 @@ def example(compiled, rust_copy, tmp_path_factory):
             return [compiled(name, "c99", TOP / f"c/{name}.c", TOP / "c/hedrugal_terminal.c")]
         if language == "rust":
             target = os.environ.get("CARGO_TARGET_DIR") or tmp_path_factory.mktemp("target")
-            return [cargo_build(TOP / "rust/Cargo.toml", target, name, "--locked")]
-        folder, *words = ["with", "--features", language]
+            return [cargo_build(TOP / "rust/plain/Cargo.toml", target, name, "--locked")]
+        folder, *words = [".", "--features", language]
         if language == "crossterm":
             folder, *words = ["crossterm", "--all-features"]
-        words += ["--config", TOP / "rust/with/system.toml"]
+        words += ["--config", TOP / "rust/system.toml"]
         manifest = rust_copy / folder / "Cargo.toml"
         return [cargo_build(manifest, rust_copy / "target", name, *words)]
 

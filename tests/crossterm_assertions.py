@@ -51,7 +51,7 @@ def run_assertions(rust):
     program = package / "tests/parser.rs"
     program.parent.mkdir(exist_ok=True)
     program.write_text(f"{CALLED}{tests}pub mod names {{\n{''.join(uses_of_names())}}}\n")
-    words = ["--manifest-path", package / "Cargo.toml", "--config", rust / "with/system.toml"]
+    words = ["--manifest-path", package / "Cargo.toml", "--config", rust / "system.toml"]
     words += ["--quiet", "--offline", "--test", "parser", "--", "--nocapture", "--test-threads=1"]
     environment = os.environ | {
         "HEDRUGAL_LIBRARY": str(LIBRARY),

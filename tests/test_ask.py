@@ -1,4 +1,4 @@
-"""Programs that ask, c/ask.c and those in rust/examples/ask and python/examples, on a
+"""Programs that ask, c/ask.c and those in rust/plain/examples/ask and python/examples, on a
 pseudo-terminal that answers.
 
 Each asks for the position of the cursor, for colours and for the flags of Kitty's keyboard

@@ -1,5 +1,5 @@
-"""The programs edit: c/edit.c and those in rust/examples/edit and python/examples. Their commands
-have chords, which they read from a file, and all of them do the same.
+"""The programs edit: c/edit.c and those in rust/plain/examples/edit and python/examples. Their
+commands have chords, which they read from a file, and all of them do the same.
 
 Errors of the file are told before the terminal is touched. On a pseudo-terminal a program has to
 print the right lines, restore the terminal's settings, and switch its modes off again."""
@@ -125,7 +125,7 @@ def test_refused(program, words, status, says):
 
 
 PASTED = b"a\033[31m\r\n\t\0\177\302\233\302\205|\\ \303\251"
-SHOWN = "text: a\\x1b[31m\\x0d\\n\\x09\\x00\\x7f\\u{9b}\\u{85}|\\ é|"
+SHOWN = "text: a\\x1b[31m\\n\\x09\\x00\\x7f\\u{9b}\\u{85}|\\ é|"
 # Ctrl with keys of a Cyrillic layout, at the places of x, of s and of a.
 CYRILLIC_X, CYRILLIC_S, CYRILLIC_A = b"\033[1095::120;5u", b"\033[1099::115;5u", b"\033[1092::97;5u"
 # A release, the focus, the mouse, Shift alone and a reply.
@@ -260,7 +260,7 @@ def test_stop(start, number):
     edit.wait_for(lambda: edit.output.count(ENTER) == 2, "modes")
     assert edit.is_raw() and edit.output.count(LEAVE) == 1
     edit.send(b"\r" + END + b"x")
-    edit.quit(*AB, "text: abc\\x0d|", "text: abc\\x0dx|", entered=2)
+    edit.quit(*AB, "text: abc\\n|", "text: abc\\nx|", entered=2)
 
 
 @pytest.mark.parametrize("last, lines", [(b"\033", ["unbound: escape"]), (b"g", AFTER_G)])

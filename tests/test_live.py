@@ -1,5 +1,5 @@
-"""The live programs on a pseudo-terminal: c/live.c, those in rust/examples/live and
-python/examples, and those in rust/examples/with, which do the same on tokio's runtime and in a
+"""The live programs on a pseudo-terminal: c/live.c, those in rust/plain/examples/live and
+python/examples, and those in rust/examples, which do the same on tokio's runtime and in a
 loop of mio.
 
 Each prints the right lines, leaves the terminal's settings as they were, and switches off the modes

@@ -25,7 +25,7 @@ MOST_LINES = 60
 # Of each language where a program lies, and where it names what it uses of the library.
 SOURCES = {
     "c": ("c/{}.c", r"\bhed_[a-z_]+(?=\()"),
-    "rust": ("rust/examples/{}.rs", r"^use hedrugal::([^;]+);"),
+    "rust": ("rust/plain/examples/{}.rs", r"^use hedrugal::([^;]+);"),
     "python": ("python/examples/{}.py", r"^from hedrugal[\w.]* import (\([^)]*\)|.*)"),
 }
 UP, DOWN, RIGHT, LEFT = b"\033[A", b"\033[B", b"\033[C", b"\033[D"
@@ -119,7 +119,7 @@ def start(example, language, on_terminal):
     return run
 
 
-PASTED = START + b"one\rtwo\n\033[A\x7f" + END
+PASTED = START + b"one\rtwo\r\n\033[A\x7f" + END
 # What is typed, as bytes with what is drawn then, and pauses.
 TYPED = {
     "text": [b"a\xc3\xa9b", ["aéb|"], b"c", ["aébc|"]],

@@ -1,14 +1,18 @@
 """What only the module hedrugal.terminal has, by small programs on a pseudo-terminal: exceptions,
-asyncio, threads, handlers in Python, and memory that is refused.
+asyncio, threads, handlers in Python, and memory that is refused. And the command hedrugal.
 
 No event is lost, and the terminal's settings and modes are restored. What the terminals of all
 languages do is in test_scenarios.py."""
 import select
 import signal
+import subprocess
 import sys
 
+import hedrugal
 import pytest
-from conftest import TOP
+from conftest import TOP, check_refused
+from hedrugal import KeyReport
+from hedrugal.__main__ import TracingParser
 from pexpect import TIMEOUT
 from terminal import END, ENDING_SIGNALS, START, Terminal, start_output
 
@@ -111,6 +115,43 @@ SHOWN = {
         [r"Paste(text='a\r')", "q"],
     ),
 }
+
+
+KEYS = [sys.executable, "-W", "error", "-m", "hedrugal"]
+
+
+class Keys(Terminal):
+    FIRST = f"hedrugal {hedrugal.__version__}: press keys; ctrl+d twice ends it"
+
+
+def test_keys(on_terminal):
+    """The lines of docs/python.md, and bytes of other kinds."""
+    page = (TOP / "docs/python.md").read_text(encoding="utf-8")
+    first, *lines = page.partition("types the same -->\n```\n")[2].partition("\n```")[0].split("\n")
+    program = on_terminal(Keys(KEYS))
+    program.play(
+        [b"\033[1;5A\xc3\xa9" + START + b"hi" + END, b"\x04 \033", "escape", b"\t\xff\x04\x04"]
+    )
+    rest = "ctrl+d ^D space SP escape ESC tab ^I U+FFFD ff ctrl+d ^D ctrl+d ^D".split()
+    program.ends_with(*lines, *map("{:16}   {}".format, rest[::2], rest[1::2]))
+    assert first == Keys.FIRST
+
+
+def test_forgotten_bytes_of_keys():
+    """They are no bytes of the next key."""
+    with TracingParser() as parser:
+        assert parser.feed(b"\033[1;") == []
+        parser.interrupted()
+        assert parser.feed(b"q") == [(KeyReport("q"), b"q")]
+
+
+def test_words_of_keys():
+    check_refused([*KEYS, "-x"], 2, "hedrugal: what is '-x'\\? --help says more\n")
+    check_refused(KEYS, 1, "hedrugal: .*/dev/tty.*\n")
+    for word in ("-h", "--help"):
+        assert "python3 -m hedrugal" in subprocess.check_output([*KEYS, word], text=True)
+    said = subprocess.check_output([*KEYS, "--version"], text=True)
+    assert said == f"hedrugal {hedrugal.__version__}\n"
 
 
 # What has to come in time.

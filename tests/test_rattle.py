@@ -474,8 +474,8 @@ def lookups(rows):
 NESTED = [(b"boa", 1), (b"boo", 2), (b"boom", 3), (b"boom!!", 4)]
 
 # Entries whose keys are all different, and texts that are looked up among these, whether more of
-# them may follow, and the answers. termwiz's own cases come first. rust/tests/keymap.rs has them
-# all, for maps that remember nothing.
+# them may follow, and the answers. termwiz's own cases come first. rust/plain/tests/keymap.rs
+# has them all, for maps that remember nothing.
 MAPS = [
     ([], [(b"boo", 1, "None"), (b"boo", 0, "None")]),
     (
@@ -625,8 +625,8 @@ def drawn_map(draws, kind, when):
 
 @pytest.mark.parametrize("when", ["never", "before", "between", "after"])
 def test_drawn_keys(when):
-    """A map that remembers its ranges then. rust/tests/keymap.rs draws such texts for maps that
-    remember nothing."""
+    """A map that remembers its ranges then. rust/plain/tests/keymap.rs draws such texts for maps
+    that remember nothing."""
     draws = random.Random(1)
     kinds = [letters, nested, five] * 8 + [long]
     asked = [it for kind in kinds for it in drawn_map(draws, kind, when)]

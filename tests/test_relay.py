@@ -1,5 +1,5 @@
-"""The program relay, rust/examples/relay, on a pseudo-terminal. It runs tests/relay_child.py, which
-sets modes and tells what it reads.
+"""The program relay, rust/plain/examples/relay, on a pseudo-terminal. It runs
+tests/relay_child.py, which sets modes and tells what it reads.
 
 What the child gets has to be what a terminal sends in the child's modes, whatever the terminal of
 relay sends. What the child writes is passed on, but for its modes, and relay restores its terminal

@@ -136,7 +136,7 @@ def built(tmp_path_factory):
 
 def cargo_build(folder):
     env = os.environ | {"HEDRUGAL_LIBRARY": str(LIBRARY), "RUSTFLAGS": "-A warnings"}
-    words = ["cargo", "build", "--quiet", "--offline", "--config", TOP / "rust/with/system.toml"]
+    words = ["cargo", "build", "--quiet", "--offline", "--config", TOP / "rust/system.toml"]
     subprocess.run([*words, "--target-dir", folder / "target"], cwd=folder, env=env, check=True)
     return folder / "target/debug"
 

@@ -1,5 +1,5 @@
 """The parser with a clock. The program of crates/test_calls makes the calls of a run, and the slow
-parser of rust/tests/extended/plain/timed.rs says in the same words what each has to answer.
+parser of rust/plain/tests/extended/plain/timed.rs says in the same words what each has to answer.
 
 A call is a name, a number and bytes. Times are in milliseconds."""
 import functools
