@@ -268,7 +268,7 @@ SCENARIOS = {
         [b"a\033", 0.02, b"[<35;1;1M"], ["user_input"], b"a\033[<35;1;1M", CUT
     ),
     "an arrow, cut by a pause": Scenario(
-        [b"\033[", PAUSE, b"Cb"], [*TEXTS, "tabs"], b"\033[91;3uCb", "ESC [ waits for ever"
+        [b"\033[", 3 * PAUSE, b"Cb"], [*TEXTS, "tabs"], b"\033[91;3uCb", "ESC [ waits for ever"
     ),
     "a colour": Scenario([b"a\033]11;rgb:0000/0000/0000\007b"], [*TEXTS], b"ab", TYPED_REPLY),
     "a colour that ST ends": Scenario(
