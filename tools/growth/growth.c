@@ -20,28 +20,6 @@ bool parser_pass(const uint8_t *bytes, size_t length, size_t read, uint64_t *eve
 /* The longest text, a read, and the bytes of an open paste above which its text is taken in parts. */
 enum { LONGEST = 1 << 18, READ = 4096, LIMIT = 1 << 20, PARTED = LIMIT + 16 * READ };
 
-/* Copies, which the C library makes in other ways for other lengths: here each byte takes the same instructions. */
-void *__wrap_memcpy(void *to, const void *from, size_t length) {
-  char *out = to;
-  const char *in = from;
-  for (size_t i = 0; i < length; i++) out[i] = in[i];
-  return to;
-}
-
-void *__wrap_memmove(void *to, const void *from, size_t length) {
-  char *out = to;
-  const char *in = from;
-  if (out <= in) return __wrap_memcpy(to, from, length);
-  for (size_t i = length; i > 0; i--) out[i - 1] = in[i - 1];
-  return to;
-}
-
-void *__wrap_memset(void *to, int byte, size_t length) {
-  char *out = to;
-  for (size_t i = 0; i < length; i++) out[i] = (char)byte;
-  return to;
-}
-
 static const char replies[] =
     "\x1b[24;80R\x1b[?1;5R\x1b[I\x1b[?62;22c\x1b[?5u\x1b[97;5:3u\x1b[48;24;80;480;800t"
     "\x1b]11;rgb:1e1e/1e1e/1e1e\x1b\\\x1b[?2026;2$y\x1b[57358;2u";

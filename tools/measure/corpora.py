@@ -1,7 +1,9 @@
-"""The inputs of tools/performance.py, the same bytes on every run. Each is a generator of items: a
+"""The inputs of tools/performance.py and tools/growth.sh, the same bytes on every run. Each is a generator of items: a
 key, a mouse report or a reply. What it yields without an ESC has an item for each character."""
 import itertools
 import random
+import sys
+from pathlib import Path
 
 ESC = b"\x1b"
 WORDS = (
@@ -137,3 +139,8 @@ def corpus(name, size):
         return paste(pick, size), size / 1024
     items = list(fitting(globals()[name](pick), size))
     return b"".join(items), sum(1 if it.startswith(ESC) else len(it.decode()) for it in items)
+
+
+if __name__ == "__main__":  # FOLDER SIZE: writes each input there
+    for title in TITLES:
+        Path(sys.argv[1], title).write_bytes(corpus(title, int(sys.argv[2]))[0])

@@ -12,7 +12,6 @@ use denote.Param.Send.{AllSend, AllSync, EachSend, EachSync, IsSend, IsSync, enu
 use Rattle.core.specs.declared.fmt.Debug.{Ghosts as Debug}
 use Rattle.core.specs.declared.clone.Clone.{Ghosts as Clone}
 use Rattle.std.proofs.Crossing.{crosses, frees}
-use Rattle.std.proofs.MapsCrossing.{crosses as maps}
 use Rattle.std_alloc.proofs.SendSync.{lies}
 use Rattle.termwiz_keys.specs.contracts.types.KeyCode as KeyCode
 use Rattle.termwiz_keys.specs.contracts.types.KeyEvent as KeyEvent

@@ -1,7 +1,7 @@
 -- Events that are written to an array one after another, with their bytes.
-use Rattle.std.proofs.Common.{◌≡◌, ◌∙◌, ℕ, ◌+◌, ◌-◌, ◌<◌, ◌≤◌, List, [], ◌∷◌, ◌++◌, length, take, drop, map, inl, inr, refl, sym, ap, subst, arith}
+use Rattle.std.proofs.Common.{◌≡◌, ◌∙◌, ℕ, ◌+◌, ◌-◌, ◌<◌, ◌≤◌, List, [], ◌∷◌, ◌++◌, length, take, drop, get_or, map, inl, inr, refl, sym, ap, subst, arith}
 use Rattle.std.specs.List.{slice_set}
-use Rattle.std.proofs.lemmas.List.{append-nil, append_assoc, drop_all, drop_at, length-append, length-drop, take-append-drop, take_all, take_at}
+use Rattle.std.proofs.lemmas.List.{append-nil, append_assoc, drop_all, drop_at, length-append, length-drop, set-get_or, take-append-drop, take_all, take_at}
 use borrow.Rule.Slice.PartMut.{mid_of, put_mid}
 use Rattle.termwiz_extended_events.specs.declared.types.Event.TheVariants.{Key, Mouse, Paste, FocusGained, FocusLost, CursorPosition, Resized, KeyboardFlags, Csi, Osc, Dcs, Apc, StringPart, StringCut}
 use Rattle.termwiz_timed.specs.declared.parser.TimedEvent.{TimedEvent}
@@ -11,7 +11,7 @@ use Rattle.termwiz_timed.specs.Steps.Call.{AllTold, Told}
 use Rattle.termwiz_timed.specs.Timed.{Timed}
 use Rattle.hedrugal.specs.declared.events.CEvent.{CEvent}
 use Rattle.hedrugal.specs.declared.parser_and_text.ParserAndText.{ParserAndText}
-use Rattle.hedrugal.specs.Calls.{MeetsMemory, copied}
+use Rattle.hedrugal.specs.Calls.{MeetsMemory, Took, copied}
 use Rattle.hedrugal.specs.EventArrays.{AreWritten, Stops, TellsAll, TookAll, TookWithBytes, WroteEvents, joined_bytes, text_after_all}
 use Rattle.hedrugal.specs.EventArrays.Stops.{all_told, full, refused}
 use Rattle.hedrugal.specs.Events.{brought, c_event, c_told, own_bytes}
@@ -44,11 +44,7 @@ told_len (Whole (StringCut kind bytes)) = refl
 shown_len : (event : TimedEvent) (c : CEvent) → c ≡ c_told event → c.text_len ≡ length (brought event)
 shown_len event c is = ap (λ (e : CEvent). e.text_len) is ∙ told_len event
 
--- an event was told, and its bytes are kept
-abbrev pub Took : ParserAndText → CEvent → ParserAndText → Type 0
-Took before c after = (event : TimedEvent) × Step before.parser (Told event) after.parser × (c ≡ c_told event) × (after.text.items ≡ brought event)
-
--- and it brings none
+-- an event was told, and it brings no bytes
 pub no_bytes_copied : (before after : ParserAndText) (c : CEvent) (room : List ℕ) → Took before c after → c.text_len ≤ 0
     → TookWithBytes before c room room after
 no_bytes_copied before after c room (event, step, is, text) none =
@@ -193,6 +189,10 @@ put_back : (used : ℕ) (room : List ℕ) → put_mid used (length room - used) 
 put_back used room =
     ap (λ (l : List ℕ). take used room ++ l) (take-append-drop (length room - used) (drop used room)) ∙ take-append-drop used room
 
+-- a place that is set to what it has
+unset : (array : List CEvent) (place : ℕ) (c d : CEvent) → c ≡ get_or array place d → slice_set array place c ≡ array
+unset array place c d is = ap (λ (e : CEvent). slice_set array place e) is ∙ set-get_or array place d
+
 -- if there is room for all of them, all are written
 one_more_whole : (events : List TimedEvent) (count used : ℕ) (array array' : List CEvent) (room room' : List ℕ)
     (event : TimedEvent) (c : CEvent) (array'' : List CEvent) (room'' : List ℕ)
@@ -236,19 +236,23 @@ module _ (before : ParserAndText) (array : List CEvent) (room : List ℕ) where
     pub stopped_full : length array ≤ count → WroteEvents before array array' room room' count 0 here
     stopped_full no_more = stopped 0 here (λ events counted inside. full (inl (omega arith)))
 
-    -- since all is told
-    pub stopped_told : (next : ParserAndText) (part : List ℕ) → Step here.parser AllTold next.parser → next.text ≡ here.text
-        → part ≡ mid_of used (length room' - used) room'
-        → WroteEvents before array array' room (put_mid used (length room' - used) room' part) count 1 next
-    stopped_told next part told text same =
-        rw (same, put_back used room') (stopped 1 next (λ events counted inside. all_told next told (ap (λ t. t.items) text)))
+    -- the next place has what it had
+    module _ (c d : CEvent) (next : ParserAndText) (part : List ℕ) (kept : c ≡ get_or array' count d)
+        (same : part ≡ mid_of used (length room' - used) room') where
+      stopped_there : (answer : ℕ) → WroteEvents before array array' room room' count answer next
+          → WroteEvents before array (slice_set array' count c) room (put_mid used (length room' - used) room' part) count answer next
+      stopped_there answer wrote_all = rw (same, put_back used room', unset array' count c d kept) wrote_all
 
-    -- since memory is refused
-    pub stopped_refused : (next : ParserAndText) (part : List ℕ) → MeetsMemory here.parser → next ≡ here
-        → part ≡ mid_of used (length room' - used) room'
-        → WroteEvents before array array' room (put_mid used (length room' - used) room' part) count 2 next
-    stopped_refused next part meets same same_part =
-        rw (same, same_part, put_back used room') (stopped 2 here (λ events counted inside. refused meets))
+      -- since all is told
+      pub stopped_told : Step here.parser AllTold next.parser → next.text ≡ here.text
+          → WroteEvents before array (slice_set array' count c) room (put_mid used (length room' - used) room' part) count 1 next
+      stopped_told told text =
+          stopped_there 1 (stopped 1 next (λ events counted inside. all_told next told (ap (λ t. t.items) text)))
+
+      -- since memory is refused
+      pub stopped_refused : MeetsMemory here.parser → next ≡ here
+          → WroteEvents before array (slice_set array' count c) room (put_mid used (length room' - used) room' part) count 2 next
+      stopped_refused meets still = stopped_there 2 (rw still (stopped 2 here (λ events counted inside. refused meets)))
 
     module _ (c : CEvent) (next : ParserAndText) (part : List ℕ) (inside : count < length array)
         (took : TookWithBytes here c (mid_of used (length room' - used) room') part next) where

@@ -38,9 +38,13 @@ Calls (Some before) call (Some after) = Step before.parser call after.parser × 
 Calls before call after = after ≡ before
 
 -- an event was told, which is this in numbers, and its bytes are kept
-abbrev pub Tells : Option ParserAndText → CEvent → Option ParserAndText → Type 0
-Tells (Some before) c (Some after) =
+abbrev pub Took : ParserAndText → CEvent → ParserAndText → Type 0
+Took before c after =
     (event : TimedEvent) × Step before.parser (Told event) after.parser × (c ≡ c_told event) × (after.text.items ≡ brought event)
+
+-- the same of a parser that C holds
+abbrev pub Tells : Option ParserAndText → CEvent → Option ParserAndText → Type 0
+Tells (Some before) c (Some after) = Took before c after
 Tells _ c _ = ⊥
 
 -- what is next may need memory: an open paste, or an item whose event holds some

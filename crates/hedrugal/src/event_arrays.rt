@@ -1,77 +1,67 @@
 // The call that writes events to an array, and their bytes to one place.
-ghost use Rattle.std.specs.Prelude.{◌≡◌, ◌≢◌, ◌≤◌, ◌↔◌, ◌⊎◌, None, IfOk, IfSome, IfNone, OnErr};
+ghost use Rattle.std.specs.Prelude.{◌≡◌, ◌≢◌, ◌≤◌, ◌↔◌, ◌⊎◌, true, false, None, Ok, OnErr};
 ghost use Rattle.termwiz_timed.specs.Steps.{Step};
 ghost use Rattle.termwiz_timed.specs.Steps.Call.{AllTold};
 ghost use Rattle.hedrugal.specs.Calls.{MeetsMemory};
 ghost use Rattle.hedrugal.specs.EventArrays.{TookWithBytes, Wrote, WroteEvents};
 
 use crate::copying::copy_prefix;
-use crate::events::{CEvent, NO_EVENT};
+use crate::events::CEvent;
 use crate::handles::ParserHandle;
 use crate::parser_and_text::ParserAndText;
 use crate::status::{NO_MEMORY, NONE, NOT_INITIALIZED, OK};
 use std::alloc::AllocError;
 
-// How many events were written, and the answer to the last that was asked for.
-#[derive(Drop)]
-struct Written {
-    count: usize,
-    answer: u32,
-}
-
-// The next event, as C has it. As many of its bytes are copied as `room` has room for.
-fn next_with_bytes(held: &mut ParserAndText, room: &mut [u8]) -> Result<Option<CEvent>, AllocError>
-    ensures event { IfOk result (λ found. IfSome found (λ c. TookWithBytes held.old c room.old room.new held.new)) }
-    ensures all_told { IfOk result (λ found. IfNone found (Step held.old.parser AllTold held.new.parser)) }
-    ensures none_text { IfOk result (λ found. IfNone found (held.new.text ≡ held.old.text)) }
-    ensures none_room { IfOk result (λ found. IfNone found (room.new ≡ room.old)) }
+// Tells the next event, as C has it, and copies as many of its bytes as `room` has room for. The answer is false if all is told.
+#[inline(always)]
+fn tell(held: &mut ParserAndText, shown: &mut CEvent, room: &mut [u8]) -> Result<bool, AllocError>
+    ensures told { result ≡ Ok true → TookWithBytes held.old shown.new room.old room.new held.new }
+    ensures all_told { result ≡ Ok false → Step held.old.parser AllTold held.new.parser }
+    ensures none_text { result ≡ Ok false → held.new.text ≡ held.old.text }
+    ensures none_shown { result ≡ Ok false → shown.new ≡ shown.old }
+    ensures none_room { result ≡ Ok false → room.new ≡ room.old }
     ensures refused { OnErr result (MeetsMemory held.old.parser) }
     ensures refused_same { OnErr result (held.new ≡ held.old) }
+    ensures refused_shown { OnErr result (shown.new ≡ shown.old) }
     ensures refused_room { OnErr result (room.new ≡ room.old) }
 {
-    let mut shown = NO_EVENT;
-    if !held.next(&mut shown)? {
-        return Ok(None);
+    if !held.next(shown)? {
+        return Ok(false);
     }
     if shown.text_len > 0 {
         copy_prefix(held.text.as_slice(), room);
     }
-    Ok(Some(shown))
+    Ok(true)
 }
 
 // Writes events to the array, and their bytes one after another to `room`, up to the first event whose bytes don't fit.
-fn write_events(held: &mut ParserAndText, events: &mut [CEvent], room: &mut [u8]) -> Written
-    ensures answers { result.answer ≤ 2 }
-    ensures written { WroteEvents held.old events.old events.new room.old room.new result.count result.answer held.new }
+fn write_events(
+    held: &mut ParserAndText,
+    events: &mut [CEvent],
+    room: &mut [u8],
+    count: &mut usize,
+) -> u32
+    ensures answers { result ≤ 2 }
+    ensures written { WroteEvents held.old events.old events.new room.old room.new count.new result held.new }
 {
-    let mut count = 0;
+    *count = 0;
     let mut used = 0;
-    while count < events.len() {
+    while *count < events.len() {
         let left = room.len() - used;
-        match next_with_bytes(held, &mut room[used..]) {
-            Ok(Some(shown)) => {
-                events[count] = shown;
-                count += 1;
+        let shown = &mut events[*count];
+        match tell(held, shown, &mut room[used..]) {
+            Ok(true) => {
+                *count += 1;
                 if shown.text_len > left {
-                    return Written { count, answer: OK };
+                    return OK;
                 }
                 used += shown.text_len;
             }
-            Ok(None) => {
-                return Written {
-                    count,
-                    answer: NONE,
-                };
-            }
-            Err(_) => {
-                return Written {
-                    count,
-                    answer: NO_MEMORY,
-                };
-            }
+            Ok(false) => return NONE,
+            Err(_) => return NO_MEMORY,
         }
     }
-    Written { count, answer: OK }
+    OK
 }
 
 /// Tells events, one after another, and writes them to `events` and the bytes of these, one after another, to `text`. It stops once all is told,
@@ -97,7 +87,5 @@ pub extern "C" fn hed_parser_next_events(
         *count = 0;
         return NOT_INITIALIZED;
     };
-    let written = write_events(held, events, text);
-    *count = written.count;
-    written.answer
+    write_events(held, events, text, count)
 }

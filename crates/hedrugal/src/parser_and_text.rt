@@ -7,10 +7,9 @@ ghost use Rattle.termwiz_grammar.specs.RowsInOrder.{AreCompletions, IsRowAt};
 ghost use Rattle.termwiz_extended_events.specs.declared.types.Event.TheVariants.{Key};
 ghost use Rattle.termwiz_extended_events.specs.PortEvents.{pressed_key};
 ghost use Rattle.termwiz_timed.specs.Steps.{Step};
-ghost use Rattle.termwiz_timed.specs.Steps.Call.{AllTold, Told};
-ghost use Rattle.termwiz_timed.specs.declared.parser.TimedEvent.{TimedEvent as AnEvent};
-ghost use Rattle.hedrugal.specs.Calls.{MeetsMemory, copied};
-ghost use Rattle.hedrugal.specs.Events.{brought, bytes_of, c_event, c_told};
+ghost use Rattle.termwiz_timed.specs.Steps.Call.{AllTold};
+ghost use Rattle.hedrugal.specs.Calls.{MeetsMemory, Took, copied};
+ghost use Rattle.hedrugal.specs.Events.{c_event};
 
 use crate::copying::copy_prefix;
 use crate::entry_calls::CEntries;
@@ -18,7 +17,46 @@ use crate::events::{CEvent, c_part, own_bytes, show};
 use std::alloc::{AllocError, Global};
 use termwiz_extended_events::port_events::pressed_key;
 use termwiz_input_extended::types::Event;
-use termwiz_timed::parser::{TimedEvent, TimedParser};
+use termwiz_keys::types::PastedText;
+use termwiz_timed::parser::TimedParser;
+use termwiz_timed::sink::{EventSink, TimedSink};
+
+// Where an event is shown as C has it, and its bytes are kept.
+#[derive(Drop)]
+struct ShownEvent<'a> {
+    event: &'a mut CEvent,
+    text: &'a mut Vec<u8>,
+}
+
+impl EventSink for ShownEvent<'_> {
+    ghost use Rattle.std.specs.Prelude.{◌≡◌};
+    ghost use Rattle.hedrugal.specs.Events.{bytes_of, c_event};
+
+    ghost takes = { λ before event after. (after.event.now ≡ c_event event) × (after.text.now.items ≡ bytes_of event)
+        × (after.event.ghost_name ≡ before.event.ghost_name) × (after.text.ghost_name ≡ before.text.ghost_name) };
+
+    #[inline(always)]
+    fn emit(&mut self, event: Event) {
+        show(&event, self.event);
+        match own_bytes(event) {
+            Some(bytes) => *self.text = bytes,
+            None => self.text.clear(),
+        }
+    }
+}
+
+impl TimedSink for ShownEvent<'_> {
+    ghost use Rattle.std.specs.Prelude.{◌≡◌};
+    ghost use Rattle.hedrugal.specs.Events.{c_part};
+
+    ghost takes_part = { λ before text after. (after.event.now ≡ c_part text) × (after.text.now.items ≡ text)
+        × (after.event.ghost_name ≡ before.event.ghost_name) × (after.text.ghost_name ≡ before.text.ghost_name) };
+
+    fn emit_part(&mut self, text: PastedText) {
+        *self.event = c_part(text.as_str());
+        *self.text = text.into_string().into_bytes();
+    }
+}
 
 /// A parser, and the bytes of the event that was told last.
 #[derive(Drop)]
@@ -39,25 +77,10 @@ impl ParserAndText {
         }
     }
 
-    // Keeps the bytes of an event, and shows it as C has it. Inlined, as `next` is.
-    #[inline(always)]
-    fn keep(&mut self, event: Event, shown: &mut CEvent)
-        ensures event { shown.new ≡ c_event event }
-        ensures text { self.new.text.items ≡ bytes_of event }
-        ensures parser { self.new.parser ≡ self.old.parser }
-    {
-        show(&event, shown);
-        match own_bytes(event) {
-            Some(bytes) => self.text = bytes,
-            None => self.text.clear(),
-        }
-    }
-
     // Shows the next event as C has it. The answer is false if all is told. Inlined, so that the event is written where it is wanted.
     #[inline(always)]
     pub(crate) fn next(&mut self, shown: &mut CEvent) -> Result<bool, AllocError>
-        ensures told { result ≡ Ok true → (event : AnEvent) × Step self.old.parser (Told event) self.new.parser
-            × (shown.new ≡ c_told event) × (self.new.text.items ≡ brought event) }
+        ensures told { result ≡ Ok true → Took self.old shown.new self.new }
         ensures all_told { result ≡ Ok false → Step self.old.parser AllTold self.new.parser }
         ensures none_text { result ≡ Ok false → self.new.text ≡ self.old.text }
         ensures none_shown { result ≡ Ok false → shown.new ≡ shown.old }
@@ -65,18 +88,11 @@ impl ParserAndText {
         ensures refused_same { OnErr result (self.new ≡ self.old) }
         ensures refused_shown { OnErr result (shown.new ≡ shown.old) }
     {
-        match self.parser.next()? {
-            Some(TimedEvent::Whole(event)) => {
-                self.keep(event, shown);
-                Ok(true)
-            }
-            Some(TimedEvent::PastePart(text)) => {
-                *shown = c_part(text.as_str());
-                self.text = text.into_string().into_bytes();
-                Ok(true)
-            }
-            None => Ok(false),
-        }
+        let mut sink = ShownEvent {
+            event: shown,
+            text: &mut self.text,
+        };
+        self.parser.emit_next(&mut sink)
     }
 
     // Copies as much of the row at a place as `out` has room for, shows its key, and returns the row's length; 0 if no row is there.

@@ -1,5 +1,5 @@
 -- What is at the front of a text, as far as extra sequences and strings go.
-use Rattle.std.specs.Prelude.{◌≡◌, ◌⊎◌, ◌++◌, ℕ, ◌<◌, ◌≤◌, ◌-◌, Bool, true, false, List, [], ◌∷◌, length, take, Option, None, Result, IfOk, IfSome, IfNone, OnErr, if◌then◌else◌, unwrap_or, ◌==◌}
+use Rattle.std.specs.Prelude.{◌≡◌, ◌⊎◌, ◌++◌, ℕ, ◌<◌, ◌≤◌, ◌-◌, Bool, true, false, List, [], ◌∷◌, length, take, Option, None, Result, Ok, IfOk, OnErr, if◌then◌else◌, unwrap_or, ◌==◌}
 use Rattle.termwiz_keymap.specs.Bytes.{Begins}
 use Rattle.termwiz_keys.specs.Introducers.{ESC, START}
 use Rattle.termwiz_keys.specs.Keys.{escape, plain, with_alt}
@@ -147,14 +147,24 @@ GivesNoneThatNeedsMemory reading text more =
     (events : List Event) (rest : List ℕ) → Steps reading text more events rest
     → ¬ HasItemThatNeedsMemory (after_events reading events) rest more
 
--- What a call answers that consumes the item at the front: its event, none if no item is there. The reading is that after the event.
-pub record Emits {F : Type 0} (old : Buffered) (more : Bool) (new : Buffered) (result : Result (Option Event) F) : Type 0 where
-  pub event : IfOk result (λ found. IfSome found (λ event. Steps old.reading old.text more (event ∷ []) new.text))
-  pub reading : IfOk result (λ found. IfSome found (λ event. new.reading ≡ after_event old.reading event))
-  pub none : IfOk result (λ found. IfNone found (IsRest old.reading old.text more))
-  pub none_same : IfOk result (λ found. IfNone found (new ≡ old))
+-- The event of the item at the front is emitted to a sink, which `takes` it. The reading is that after the event.
+pub record IsEmitted {S : Type 0} (takes : S → Event → S → Type 0) (old : Buffered) (before : S) (more : Bool) (new : Buffered) (after : S)
+    : Type 0 where
+  pub event : Event
+  pub steps : Steps old.reading old.text more (event ∷ []) new.text
+  pub reading : new.reading ≡ after_event old.reading event
+  pub taken : takes before event after
+
+-- What a call answers that consumes the item at the front and emits its event to a sink: whether an item is there.
+pub record Emits {S F : Type 0} (takes : S → Event → S → Type 0) (old : Buffered) (before : S) (more : Bool) (new : Buffered) (after : S)
+    (result : Result Bool F) : Type 0 where
+  pub emitted : result ≡ Ok true → IsEmitted takes old before more new after
+  pub none : result ≡ Ok false → IsRest old.reading old.text more
+  pub none_same : result ≡ Ok false → new ≡ old
+  pub none_sink : result ≡ Ok false → after ≡ before
   pub refused : OnErr result (HasItemThatNeedsMemory old.reading old.text more)
   pub refused_same : OnErr result (new ≡ old)
+  pub refused_sink : OnErr result (after ≡ before)
 
 -- What a call answers that moves the event of the item at the front to a list: whether an item is there. After a refusal one is.
 pub record Stores {F : Type 0} (old : Buffered) (more : Bool) (before : List Event) (new : Buffered) (after : List Event)

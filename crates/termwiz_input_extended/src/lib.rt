@@ -5,6 +5,7 @@ mod characters;
 mod form;
 pub mod input;
 mod next_item;
+pub mod sink;
 mod string;
 pub mod time;
 

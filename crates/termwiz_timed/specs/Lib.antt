@@ -5,3 +5,4 @@ pub mod Runs
 pub mod Segments
 pub mod RunLaws
 pub mod WorkedRuns
+pub mod Sinks

@@ -4,5 +4,6 @@
 pub mod ages;
 pub mod laws;
 pub mod parser;
+pub mod sink;
 
 pub use termwiz_input_extended::types;

@@ -1,5 +1,5 @@
 //! The parser with a clock.
-ghost use Rattle.std.specs.Prelude.{◌≡◌, ◌≢◌, ◌⊎◌, ◌↔◌, ℕ, Bool, [], length, true, false, None, Some, IsTrue, IfOk, IfSome, IfNone, IfErr, OnOk, OnErr, IsOk, IsErrOf, if◌then◌else◌};
+ghost use Rattle.std.specs.Prelude.{◌≡◌, ◌≢◌, ◌⊎◌, ◌↔◌, ℕ, Bool, [], length, true, false, None, Some, IsTrue, Ok, IfOk, IfSome, IfNone, IfErr, OnOk, OnErr, IsOk, IsErrOf, if◌then◌else◌};
 ghost use Rattle.termwiz_grammar.specs.PasteParts.{IsSkipped};
 ghost use Rattle.termwiz_grammar.specs.WaitingKinds.{IsOpenPaste};
 ghost use Rattle.termwiz_input_extended.specs.Buffered.{IsToldByBytes};
@@ -9,11 +9,13 @@ ghost use Rattle.termwiz_extended_grammar.specs.Readings.{asking};
 ghost use Rattle.termwiz_extended_grammar.specs.ExtendedGrammar.{IsRest};
 ghost use Rattle.termwiz_extended_grammar.specs.ExtendedKinds.{IsKind};
 ghost use Rattle.termwiz_timed.specs.AgesInTime.{came};
+ghost use Rattle.termwiz_timed.specs.Sinks.{Takes};
 ghost use Rattle.termwiz_timed.specs.Steps.{HasFewBytes, HasNoPart, Step, Tells, goes_on};
 ghost use Rattle.termwiz_timed.specs.Steps.Call.{AllTold, End, ExpectPosition, Feed, Flush, ForgetPositions, Idle, Interrupted, Reset, SetParts, SetPolicy, SetReading, SkipPaste, Told};
 ghost use Rattle.termwiz_timed.specs.Timed.{HasPassed, IsFlushing, IsLeft, IsPasteOrString, IsTimeout, emptied, flushed, more_comes, new_timed, read_again, sooner, while_buffered};
 
 use crate::ages::Ages;
+use crate::sink::{LastTold, Noting, TimedSink};
 use std::alloc::{AllocError, Global};
 use std::marker::Model;
 use termwiz_extended_events::types::{Dialect, Event, Reading};
@@ -111,7 +113,7 @@ impl Stage {
 }
 
 // Whether what was open when another program had the terminal is so after an event.
-fn goes_on(event: &Event, interrupted: bool) -> bool
+pub(crate) fn goes_on(event: &Event, interrupted: bool) -> bool
     ensures { result ≡ goes_on event.now interrupted }
 {
     match event {
@@ -477,17 +479,15 @@ impl TimedParser {
         self.ages = self.ages.with_front();
     }
 
-    // Notes that the item at the front is gone, which had this event.
-    fn note_told(&mut self, event: &Event)
+    // Notes that the item at the front is gone.
+    fn note_gone(&mut self)
         ensures { self.new ≡ record self.old {
           stage = while_buffered self.old.text self.old.stage;
           ages = record self.old.ages { front = 0 };
-          interrupted = goes_on event.now self.old.interrupted;
         } }
     {
         self.stage = self.while_buffered(self.stage);
         self.note_front();
-        self.interrupted = goes_on(event, self.interrupted);
     }
 
     // The limit of parts, if there are some.
@@ -537,7 +537,8 @@ impl TimedParser {
         }
         match self.parser.end_paste()? {
             Some(event) => {
-                self.note_told(&event);
+                self.interrupted = goes_on(&event, self.interrupted);
+                self.note_gone();
                 Ok(Some(event))
             }
             None => Ok(None),
@@ -555,46 +556,76 @@ impl TimedParser {
         }
     }
 
-    // What is told of an open paste where no item is at the front. It isn't inlined, so that nothing else pays for its places in a frame.
+    // Emits what is told of an open paste where no item is at the front. It isn't inlined, so that nothing else pays for its places in a frame.
     #[inline(never)]
-    fn next_of_paste(&mut self) -> Result<Option<TimedEvent>, AllocError>
+    fn emit_of_paste<S: TimedSink>(&mut self, sink: &mut S) -> Result<bool, AllocError>
         requires { IsRest self.old.reading self.old.text (more_comes self.old.stage) }
-        ensures told { IfOk result (λ found. IfSome found (λ event. Step self.old (Told event) self.new)) }
-        ensures all_told { IfOk result (λ found. IfNone found (Step self.old AllTold self.new)) }
+        ensures told { result ≡ Ok true → (event : TimedEvent) × Takes S.takes S.takes_part sink.old event sink.new × Step self.old (Told event) self.new }
+        ensures all_told { result ≡ Ok false → Step self.old AllTold self.new }
+        ensures all_told_sink { result ≡ Ok false → sink.new ≡ sink.old }
         ensures refused { OnErr result (IsOpenPaste self.old.text) }
         ensures refused_same { OnErr result (self.new ≡ self.old) }
+        ensures refused_sink { OnErr result (sink.new ≡ sink.old) }
     {
         if let Some(text) = self.next_part()? {
-            return Ok(Some(TimedEvent::PastePart(text)));
+            sink.emit_part(text);
+            return Ok(true);
         }
         if let Some(event) = self.next_end()? {
-            return Ok(Some(TimedEvent::Whole(event)));
+            sink.emit(event);
+            return Ok(true);
         }
         self.stage = Stage::AllTold;
-        Ok(None)
+        Ok(false)
     }
 
-    // What is told where no item is at the front.
+    // Emits what is told where no item is at the front.
     #[inline(always)]
-    fn next_of_rest(&mut self) -> Result<Option<TimedEvent>, AllocError>
+    fn emit_of_rest<S: TimedSink>(&mut self, sink: &mut S) -> Result<bool, AllocError>
         requires { IsRest self.old.reading self.old.text (more_comes self.old.stage) }
-        ensures told { IfOk result (λ found. IfSome found (λ event. Step self.old (Told event) self.new)) }
-        ensures all_told { IfOk result (λ found. IfNone found (Step self.old AllTold self.new)) }
+        ensures told { result ≡ Ok true → (event : TimedEvent) × Takes S.takes S.takes_part sink.old event sink.new × Step self.old (Told event) self.new }
+        ensures all_told { result ≡ Ok false → Step self.old AllTold self.new }
+        ensures all_told_sink { result ≡ Ok false → sink.new ≡ sink.old }
         ensures refused { OnErr result (IsOpenPaste self.old.text) }
         ensures refused_same { OnErr result (self.new ≡ self.old) }
+        ensures refused_sink { OnErr result (sink.new ≡ sink.old) }
     {
         if self.tells_no_paste() {
             self.stage = Stage::AllTold;
-            return Ok(None);
+            return Ok(false);
         }
-        // Wrapped anew: an event of an item would be copied once more on its way if it had to stand in the place of this answer.
-        Ok(self.next_of_paste()?)
+        self.emit_of_paste(sink)
     }
 
-    /// The next event, or none: then all is told.
+    /// Emits the next event to `sink`, and answers whether there was one: if not, all is told, and the sink is unchanged.
     ///
     /// If memory is refused, nothing changed, and the same call may be made again.
     #[inline(always)]
+    pub fn emit_next<S: TimedSink>(&mut self, sink: &mut S) -> Result<bool, AllocError>
+        ensures told { result ≡ Ok true → (event : TimedEvent) × Takes S.takes S.takes_part sink.old event sink.new × Step self.old (Told event) self.new }
+        ensures all_told { result ≡ Ok false → Step self.old AllTold self.new }
+        ensures all_told_sink { result ≡ Ok false → sink.new ≡ sink.old }
+        ensures refused { OnErr result (IsOpenPaste self.old.text
+            ⊎ HasItemThatNeedsMemory self.old.reading self.old.text (more_comes self.old.stage)) }
+        ensures refused_same { OnErr result (self.new ≡ self.old) }
+        ensures refused_sink { OnErr result (sink.new ≡ sink.old) }
+    {
+        let maybe_more = self.stage.more_comes();
+        let mut noting = Noting {
+            sink: &mut *sink,
+            interrupted: &mut self.interrupted,
+        };
+        match self.parser.emit_next(&mut noting, maybe_more) {
+            Ok(true) => {
+                self.note_gone();
+                Ok(true)
+            }
+            Ok(false) => self.emit_of_rest(sink),
+            Err(error) => Err(error),
+        }
+    }
+
+    /// The next event, or none: then all is told. It is [`TimedParser::emit_next`] with a place for one event as the sink.
     pub fn next(&mut self) -> Result<Option<TimedEvent>, AllocError>
         ensures told { IfOk result (λ found. IfSome found (λ event. Step self.old (Told event) self.new)) }
         ensures all_told { IfOk result (λ found. IfNone found (Step self.old AllTold self.new)) }
@@ -602,13 +633,8 @@ impl TimedParser {
             ⊎ HasItemThatNeedsMemory self.old.reading self.old.text (more_comes self.old.stage)) }
         ensures refused_same { OnErr result (self.new ≡ self.old) }
     {
-        match self.parser.next_event(self.stage.more_comes()) {
-            Ok(Some(event)) => {
-                self.note_told(&event);
-                Ok(Some(TimedEvent::Whole(event)))
-            }
-            Ok(None) => self.next_of_rest(),
-            Err(error) => Err(error),
-        }
+        let mut told = LastTold { event: None };
+        self.emit_next(&mut told)?;
+        Ok(told.event)
     }
 }

@@ -1,5 +1,5 @@
 -- No event changes the grammar of a reading.
-use Rattle.std.proofs.Common.{◌≡◌, ◌∙◌, Bool, List, [], ◌∷◌, refl, ap, Option, Some, None, Result, Ok, Err}
+use Rattle.std.proofs.Common.{◌≡◌, ◌∙◌, Bool, List, [], ◌∷◌, refl, ap, true, false, Result, Ok, Err}
 use Rattle.termwiz_extended_events.specs.declared.types.Event.{Event}
 use Rattle.termwiz_extended_events.specs.declared.types.Event.TheVariants.{CursorPosition}
 use Rattle.termwiz_extended_events.specs.declared.types.Reading.{Reading}
@@ -20,8 +20,9 @@ pub dialect_kept : (old new : Reading) (events : List Event) → new ≡ after_e
 dialect_kept old new events is = ap (λ (r : Reading). r.dialect) is ∙ dialect_after_events old events
 
 -- nor does what takes the item at the front
-pub dialect_emitted : {F : Type 0} (old new : Buffered) (more : Bool) (result : Result (Option Event) F)
-    → Emits old more new result → new.reading.dialect ≡ old.reading.dialect
-dialect_emitted old new more (Ok None) emits = ap (λ (b : Buffered). b.reading.dialect) emits.none_same
-dialect_emitted old new more (Ok (Some event)) emits = dialect_kept old.reading new.reading (event ∷ []) emits.reading
-dialect_emitted old new more (Err fault) emits = ap (λ (b : Buffered). b.reading.dialect) emits.refused_same
+pub dialect_emitted : {S F : Type 0} (takes : S → Event → S → Type 0) (old new : Buffered) (before after : S) (more : Bool) (result : Result Bool F)
+    → Emits takes old before more new after result → new.reading.dialect ≡ old.reading.dialect
+dialect_emitted takes old new before after more (Ok false) emits = ap (λ (b : Buffered). b.reading.dialect) (emits.none_same refl)
+dialect_emitted takes old new before after more (Ok true) emits =
+    let is = emits.emitted refl in dialect_kept old.reading new.reading (is.event ∷ []) is.reading
+dialect_emitted takes old new before after more (Err fault) emits = ap (λ (b : Buffered). b.reading.dialect) emits.refused_same

@@ -1,5 +1,5 @@
 -- What a call answers that consumes the item at the front.
-use Rattle.std.proofs.Common.{◌≡◌, ◌+◌, ◌-◌, ℕ, suc, Bool, List, [], ◌∷◌, ◌++◌, take, drop, refl, sym, ap, ◌∙◌, take-append-drop, Option, Some, None, arith, Result, Ok, Err, IsErr}
+use Rattle.std.proofs.Common.{◌≡◌, ◌+◌, ◌-◌, ℕ, suc, Bool, List, [], ◌∷◌, ◌++◌, take, drop, refl, sym, ap, ◌∙◌, take-append-drop, Option, Some, None, true, false, arith, Result, Ok, Err, IsErr}
 use Rattle.std.specs.Prelude.{IfSome}
 use Rattle.termwiz_keys.specs.Introducers.{ESC}
 use Rattle.termwiz_keys.specs.declared.types.KeyCode.{KeyCode}
@@ -24,21 +24,42 @@ buffered reading text = record { reading = reading; text = text }
 pub still_buffered : (reading : Reading) (t u : List ℕ) (old : Buffered) → t ≡ u → buffered reading u ≡ old → buffered reading t ≡ old
 still_buffered reading t u old same is = ap (λ x. buffered reading x) same ∙ is
 
-module _ {F : Type 0} (old new : Buffered) (more : Bool) where
+module _ {S F : Type 0} (takes : S → Event → S → Type 0) (old new : Buffered) (before after : S) (more : Bool) where
   pub emits_event : (event : Event) → Steps old.reading old.text more (event ∷ []) new.text
-      → new.reading ≡ after_event old.reading event → Emits {F = F} old more new (Ok (Some event))
-  emits_event event steps reading =
-      record { event = steps; reading = reading; none = tt; none_same = tt; refused = tt; refused_same = tt }
+      → new.reading ≡ after_event old.reading event → takes before event after → Emits {F = F} takes old before more new after (Ok true)
+  emits_event event steps reading taken = record {
+    emitted = λ is. record { event = event; steps = steps; reading = reading; taken = taken };
+    none = λ is. absurd (cc (is));
+    none_same = λ is. absurd (cc (is));
+    none_sink = λ is. absurd (cc (is));
+    refused = tt;
+    refused_same = tt;
+    refused_sink = tt;
+  }
 
-  pub emits_none : IsRest old.reading old.text more → new ≡ old → Emits {F = F} old more new (Ok None)
-  emits_none rest same =
-      record { event = tt; reading = tt; none = rest; none_same = same; refused = tt; refused_same = tt }
+  pub emits_none : IsRest old.reading old.text more → new ≡ old → after ≡ before → Emits {F = F} takes old before more new after (Ok false)
+  emits_none rest same sink = record {
+    emitted = λ is. absurd (cc (is));
+    none = λ is. rest;
+    none_same = λ is. same;
+    none_sink = λ is. sink;
+    refused = tt;
+    refused_same = tt;
+    refused_sink = tt;
+  }
 
-  pub emits_refused : (result : Result (Option Event) F) → IsErr result → HasItemThatNeedsMemory old.reading old.text more
-      → new ≡ old → Emits old more new result
-  emits_refused (Ok found) is item same = absurd (cc (is))
-  emits_refused (Err fault) is item same =
-      record { event = tt; reading = tt; none = tt; none_same = tt; refused = item; refused_same = same }
+  pub emits_refused : (result : Result Bool F) → IsErr result → HasItemThatNeedsMemory old.reading old.text more
+      → new ≡ old → after ≡ before → Emits takes old before more new after result
+  emits_refused (Ok found) is item same sink = absurd (cc (is))
+  emits_refused (Err fault) is item same sink = record {
+    emitted = λ is. absurd (cc (is));
+    none = λ is. absurd (cc (is));
+    none_same = λ is. absurd (cc (is));
+    none_sink = λ is. absurd (cc (is));
+    refused = item;
+    refused_same = same;
+    refused_sink = sink;
+  }
 
 pub if_some : {A : Type 0} {P Q : A → Type 0} (found : Option A) → ((x : A) → P x → Q x) → IfSome found P → IfSome found Q
 if_some (Some value) then p = then value p

@@ -1,5 +1,5 @@
 -- What the port's item is told as, by the first bytes of its text.
-use Rattle.std.proofs.Common.{◌≡◌, ◌≢◌, ◌⊎◌, inl, inr, ⊎_elim, ℕ, ◌==◌, Bool, false, List, [], ◌∷◌, ◌++◌, refl, sym, ap, ◌∙◌, subst, arith, take, drop, take-append-drop, get_or, ◌<◌, ◌≤◌, Option, Some, None, Ok}
+use Rattle.std.proofs.Common.{◌≡◌, ◌≢◌, ◌⊎◌, inl, inr, ⊎_elim, ℕ, ◌==◌, Bool, false, List, [], ◌∷◌, ◌++◌, refl, sym, ap, ◌∙◌, subst, arith, take, drop, take-append-drop, get_or, ◌<◌, ◌≤◌, Option, None, true, Ok}
 use Rattle.std.specs.Prelude.{option_and_then, unwrap_or}
 use Rattle.std.specs.Char.{encode_utf8, IsScalar}
 use Rattle.std.proofs.lemmas.Bool.Decides.{nat_tests}
@@ -187,15 +187,16 @@ key_step reading u k len f own is = own_step reading u (drop len u) (input.Key k
     (take len u, drop len u, is.1, sym (take-append-drop len u), refl)
 
 -- what a call answers that consumes such a key
-pub key_emitted : {F : Type 0} (old new : Buffered) (more : Bool) (k : KeyEvent) (len : ℕ) (decided : Option KeyCode) (made : Event)
-    → made ≡ told_by decided (input.Key k) → decided ≡ front_key old.reading.dialect old.reading old.text
-    → IsPortsOwn old.reading old.text more → IsItemAt old.text more (input.Key k) len → new ≡ record old { text = drop len old.text }
-    → Emits {F = F} old more new (Ok (Some made))
-key_emitted old new more k len decided made made_is decided_is own is new_is = emits_event old new more made
+pub key_emitted : {S F : Type 0} (takes : S → Event → S → Type 0) (old new : Buffered) (before after : S) (more : Bool) (k : KeyEvent) (len : ℕ)
+    (decided : Option KeyCode) (made : Event) → made ≡ told_by decided (input.Key k)
+    → decided ≡ front_key old.reading.dialect old.reading old.text → IsPortsOwn old.reading old.text more
+    → IsItemAt old.text more (input.Key k) len → new ≡ record old { text = drop len old.text } → takes before made after
+    → Emits {F = F} takes old before more new after (Ok true)
+key_emitted takes old new before after more k len decided made made_is decided_is own is new_is taken = emits_event takes old new before after more made
     (subst (λ e. Steps old.reading old.text more (e ∷ []) new.text) (sym (made_is ∙ ap (λ found. told_by found (input.Key k)) decided_is))
     (subst (λ t. Steps old.reading old.text more (told_by (front_key old.reading.dialect old.reading old.text) (input.Key k) ∷ []) t)
     (sym (ap (λ (b : Buffered). b.text) new_is)) (key_step old.reading old.text k len more own is)))
-    (ap (λ (b : Buffered). b.reading) new_is ∙ sym (ap (after_event old.reading) made_is))
+    (ap (λ (b : Buffered). b.reading) new_is ∙ sym (ap (after_event old.reading) made_is)) taken
 
 -- where the first byte isn't ESC, it decides
 pub first_key : (reading : Reading) (x : ℕ) (rest : List ℕ) → reading.dialect ≡ Extended → x ≢ 27

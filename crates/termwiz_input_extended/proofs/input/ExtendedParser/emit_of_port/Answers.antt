@@ -1,4 +1,4 @@
-use Rattle.std.proofs.Common.{◌≡◌, ◌∷◌, [], ◌≤◌, length, take, ap, sym, ◌∙◌, subst}
+use Rattle.std.proofs.Common.{◌≡◌, ◌∷◌, [], ◌≤◌, length, take, refl, ap, sym, ◌∙◌, subst}
 use Rattle.termwiz_keymap.specs.Bytes.{Begins}
 use Rattle.termwiz_keys.specs.declared.types.InputEvent.TheVariants.{Key}
 use Rattle.termwiz_extended_events.specs.declared.types.Reading.{Reading}
@@ -10,26 +10,26 @@ use Rattle.termwiz_input_extended.specs.Buffered.{Buffered}
 use Rattle.termwiz_input_extended.proofs.lemmas.fronts.EmittedItems.{emits_event, emits_none, emits_refused, still_buffered, told_keeps}
 use Rattle.termwiz_input_extended.proofs.lemmas.fronts.FrontItems.{own_rest, own_refused}
 use Rattle.termwiz_input_extended.proofs.lemmas.fronts.ToldByFront.{own_step}
-use Rattle.termwiz_input_extended.proofs.input.ExtendedParser.next_of_port.Goals as goal
+use Rattle.termwiz_input_extended.proofs.input.ExtendedParser.emit_of_port.Goals as goal
 
-pub next_report-requires : goal.next_report-requires
-next_report-requires c =
+pub emit_report-requires : goal.emit_report-requires
+emit_report-requires g c =
     let is = subst (λ t. (c.in-Whole.len ≤ length t) × IsMouseReport (take c.in-Whole.len t) c.in-Whole.event) c.waiting_text-text.ensures
     c.in-Whole.ensures in
     record { within = is.0; report = is.1 }
 
 pub returns-in-Whole : goal.returns-in-Whole
-returns-in-Whole c = c.next_report.ensures c.args.maybe_more
+returns-in-Whole g c = c.emit_report.ensures c.args.maybe_more
 
 pub returns-in_err-key : goal.returns-in_err-key
-returns-in_err-key c =
+returns-in_err-key g c =
     let text : c.self.inside.parser ≡ c.args.self.now.text = ap (λ (b : Buffered). b.text) c.self.view_is in
-    emits_refused c.args.self.now _ c.args.maybe_more _ c.from_residual.ensures.0
+    emits_refused g.S.EventSink.takes c.args.self.now _ c.args.sink.now _ c.args.maybe_more _ c.from_residual.ensures.0
     (own_refused _ _ _ c.requires (subst (λ t. port.HasPaste t c.args.maybe_more) text c.in_err-key.ensures.refused))
-    (still_buffered _ _ _ _ c.in_err-key.ensures.refused_same c.self.view_is)
+    (still_buffered _ _ _ _ c.in_err-key.ensures.refused_same c.self.view_is) refl
 
 pub returns-in-Some : goal.returns-in-Some
-returns-in-Some c =
+returns-in-Some g c =
     let text : c.self.inside.parser ≡ c.args.self.now.text = ap (λ (b : Buffered). b.text) c.self.view_is in
     let reading = ap (λ (b : Buffered). b.reading) c.self.view_is in
     let u = c.args.self.now.text in
@@ -41,14 +41,15 @@ returns-in-Some c =
     let made : c.told_event.result ≡ told_by (front_key c.args.self.now.reading.dialect c.args.self.now.reading u) c.in-Some.event =
     c.told_event.ensures ∙ ap (λ found. told_by found c.in-Some.event) decided in
     let no_mouse = no_report_there c.waiting_text-text.result.now c.mouse_report_at.result c.mouse_report_at.ensures c.in_default.not-Whole in
-    rw made (emits_event c.args.self.now _ c.args.maybe_more _
+    emits_event g.S.EventSink.takes c.args.self.now _ c.args.sink.now _ c.args.maybe_more _
     (own_step c.args.self.now.reading u _ c.in-Some.event c.args.maybe_more c.requires
     (λ word report e is b. no_mouse word report is (subst (λ t. Begins word t) (sym c.waiting_text-text.ensures) b))
     (subst (λ t. port.Steps t c.args.maybe_more (c.in-Some.event ∷ []) c.next_event.new.self) text step))
-    (reading ∙ sym (told_keeps c.args.self.now.reading (front_key c.args.self.now.reading.dialect c.args.self.now.reading u) c.in-Some.event)))
+    (reading ∙ sym (told_keeps c.args.self.now.reading (front_key c.args.self.now.reading.dialect c.args.self.now.reading u) c.in-Some.event))
+    (rw made at c.emit-in-Some.ensures)
 
 pub returns-in-Some-Key : goal.returns-in-Some-Key
-returns-in-Some-Key c =
+returns-in-Some-Key g c =
     let text : c.self.inside.parser ≡ c.args.self.now.text = ap (λ (b : Buffered). b.text) c.self.view_is in
     let reading = ap (λ (b : Buffered). b.reading) c.self.view_is in
     let u = c.args.self.now.text in
@@ -61,17 +62,18 @@ returns-in-Some-Key c =
     let made : c.key_event.result ≡ told_by (front_key c.args.self.now.reading.dialect c.args.self.now.reading u) key =
     c.key_event.ensures ∙ ap (λ found. told_by found key) decided in
     let no_mouse = no_report_there c.waiting_text-text.result.now c.mouse_report_at.result c.mouse_report_at.ensures c.in_default.not-Whole in
-    rw made (emits_event c.args.self.now _ c.args.maybe_more _
+    emits_event g.S.EventSink.takes c.args.self.now _ c.args.sink.now _ c.args.maybe_more _
     (own_step c.args.self.now.reading u _ key c.args.maybe_more c.requires
     (λ word report e is b. no_mouse word report is (subst (λ t. Begins word t) (sym c.waiting_text-text.ensures) b))
     (subst (λ t. port.Steps t c.args.maybe_more (key ∷ []) c.next_event.new.self) text step))
-    (reading ∙ sym (told_keeps c.args.self.now.reading (front_key c.args.self.now.reading.dialect c.args.self.now.reading u) key)))
+    (reading ∙ sym (told_keeps c.args.self.now.reading (front_key c.args.self.now.reading.dialect c.args.self.now.reading u) key))
+    (rw made at c.emit.ensures)
 
 pub returns-in-None : goal.returns-in-None
-returns-in-None c =
+returns-in-None g c =
     let text : c.self.inside.parser ≡ c.args.self.now.text = ap (λ (b : Buffered). b.text) c.self.view_is in
     let rest = rw c.in-None.is at c.in_ok-key.ensures.none in
     let same = rw c.in-None.is at c.in_ok-key.ensures.none_same in
-    emits_none c.args.self.now _ c.args.maybe_more
+    emits_none g.S.EventSink.takes c.args.self.now _ c.args.sink.now _ c.args.maybe_more
     (own_rest _ _ _ c.requires (subst (λ t. port.IsRest t c.args.maybe_more) text rest))
-    (still_buffered _ _ _ _ same c.self.view_is)
+    (still_buffered _ _ _ _ same c.self.view_is) refl

@@ -7,10 +7,10 @@ use Rattle.termwiz_input_extended.specs.Buffered.{Buffered}
 use Rattle.termwiz_input_extended.specs.NextItems.{IsExtraAt, IsPortsOwn}
 use Rattle.termwiz_input_extended.proofs.lemmas.fronts.EmittedItems.{emits_event, emits_refused}
 use Rattle.termwiz_input_extended.proofs.lemmas.fronts.FrontItems.{extra_refused, extra_step}
-use Rattle.termwiz_input_extended.proofs.input.ExtendedParser.next_form.Goals as goal
+use Rattle.termwiz_input_extended.proofs.input.ExtendedParser.emit_form.Goals as goal
 
 pub returns-in_err-event : goal.returns-in_err-event
-returns-in_err-event c =
+returns-in_err-event g c =
     let reading = ap (λ (b : Buffered). b.reading) c.self.view_is in
     let u = c.args.self.now.text in
     let is = subst (λ r. IsExtraAt r u c.args.len) reading
@@ -18,13 +18,13 @@ returns-in_err-event c =
     let means = subst (λ r. event_from c.meaning_in-meaning.result ≡ Some (event_in r (take c.args.len u))) reading
     (subst (λ t. event_from c.meaning_in-meaning.result ≡ Some (event_in c.self.inside.reading (take c.args.len t))) c.waiting_text-text.ensures
     c.meaning_in-meaning.ensures) in
-    emits_refused c.args.self.now _ c.args.maybe_more _ c.from_residual.ensures.0
+    emits_refused g.S.EventSink.takes c.args.self.now _ c.args.sink.now _ c.args.maybe_more _ c.from_residual.ensures.0
     (extra_refused c.args.self.now.reading u c.args.len _ c.args.maybe_more is.1
     (subst (λ made. IfSome made NeedsMemory) means c.in_err-event.ensures.refused))
-    refl
+    refl refl
 
 pub returns : goal.returns
-returns c =
+returns g c =
     let reading = ap (λ (b : Buffered). b.reading) c.self.view_is in
     let u = c.args.self.now.text in
     let event = c.in_ok-event.event in
@@ -33,13 +33,13 @@ returns c =
     let means = subst (λ r. event_from c.meaning_in-meaning.result ≡ Some (event_in r (take c.args.len u))) reading
     (subst (λ t. event_from c.meaning_in-meaning.result ≡ Some (event_in c.self.inside.reading (take c.args.len t))) c.waiting_text-text.ensures
     c.meaning_in-meaning.ensures) in
-    emits_event c.args.self.now _ c.args.maybe_more event
+    emits_event g.S.EventSink.takes c.args.self.now _ c.args.sink.now _ c.args.maybe_more event
     (subst (λ t. Steps c.args.self.now.reading u c.args.maybe_more (event ∷ []) t) (sym (ap (λ (b : Buffered). b.text) c.note_event.ensures ∙ ap (λ (b : Buffered). b.text) c.consume.ensures))
     (extra_step c.args.self.now.reading u c.args.len _ c.args.maybe_more is.1 event (cc (means, c.in_ok-event.ensures.ok))))
-    (ap (λ (b : Buffered). b.reading) c.note_event.ensures ∙ ap (λ (b : Buffered). after_event b.reading event) c.consume.ensures)
+    (ap (λ (b : Buffered). b.reading) c.note_event.ensures ∙ ap (λ (b : Buffered). after_event b.reading event) c.consume.ensures) c.emit.ensures
 
-pub next_of_port-requires : goal.next_of_port-requires
-next_of_port-requires c =
+pub emit_of_port-requires : goal.emit_of_port-requires
+emit_of_port-requires g c =
     let reading = ap (λ (b : Buffered). b.reading) c.self.view_is in
     subst (λ r. IsPortsOwn r c.args.self.now.text c.args.maybe_more) reading
     (subst (λ t. IsPortsOwn c.self.inside.reading t c.args.maybe_more) c.waiting_text-text.ensures
