@@ -12,7 +12,7 @@ BEGIN {
     # What may be buffered of a long text, beside a read. The memory in use is at most eight times that and two reads.
     BUFFERED["paste"] = 2 ^ 20 + 6; BUFFERED["escapes"] = 2; BUFFERED["openings"] = 3; BUFFERED["string"] = 65535
     # The most instructions of an event, beside those of a typed one, in reads of 4096 bytes.
-    BESIDE["keys"] = 5.5; BESIDE["csiu"] = 5.5; BESIDE["replies"] = 7.5
+    BESIDE["keys"] = 9; BESIDE["csiu"] = 9.5; BESIDE["replies"] = 11.5
     # The most bytes of a parser that shares a table: made, after a read of 4096 bytes, after a paste of 1 MB, and freed.
     EACH["made"] = 1024; EACH["read"] = 8192; EACH["shrunk"] = 4096; EACH["freed"] = 0
     row = "%-13s %-7s %8s %12s %12s %7s %8s %8s\n"

@@ -1,5 +1,9 @@
-"""The inputs of tools/performance.py and tools/growth.sh, the same bytes on every run. Each is a generator of items: a
-key, a mouse report or a reply. What it yields without an ESC has an item for each character."""
+"""The inputs of tools/performance.py and tools/growth.sh, the same bytes on every run. Each is a
+generator of items: a key, a mouse report or a reply. What it yields without an ESC has an item for
+each character.
+
+    tools/measure/corpora.py FOLDER SIZE     writes each input, of at most so many bytes, to FOLDER
+"""
 import itertools
 import random
 import sys
@@ -141,6 +145,6 @@ def corpus(name, size):
     return b"".join(items), sum(1 if it.startswith(ESC) else len(it.decode()) for it in items)
 
 
-if __name__ == "__main__":  # FOLDER SIZE: writes each input there
+if __name__ == "__main__":
     for title in TITLES:
         Path(sys.argv[1], title).write_bytes(corpus(title, int(sys.argv[2]))[0])

@@ -103,6 +103,7 @@ pub const KEYS: &[KeyCode] = &[
 
 /// What a key carries: the code point of a character, or the number of a function key; 0 for the other keys.
 #[tactic(auto, unfolding(crate::specs::Numbers::key_detail))]
+#[inline(always)]
 pub fn key_detail(key: KeyCode) -> u32
     ensures { result ≡ key_detail key }
 {
@@ -257,6 +258,7 @@ pub fn reported_number(key: ReportedKey) -> u16
 
 /// What a reported key carries, or its number in Kitty's table if it has no name.
 #[tactic(auto, unfolding(crate::specs::Numbers::reported_detail))]
+#[inline(always)]
 pub fn reported_detail(key: ReportedKey) -> u32
     ensures { result ≡ reported_detail key }
 {

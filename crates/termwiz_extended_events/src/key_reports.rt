@@ -102,6 +102,7 @@ fn character_key(t: &[u8]) -> Option<SpelledReport<'_>>
 }
 
 // The manner that the fields after the first one say.
+#[inline(always)]
 fn manner_behind(mut fields: Fields) -> Option<Manner>
     ensures { (key : Key) → option_map (rules.report_of key) result ≡ report_behind key (fields_left fields.entry) }
 {

@@ -118,6 +118,7 @@ impl<'t> Meaning<'t> {
     }
 
     /// Makes the event. Only its text or its bytes need memory.
+    #[inline(always)]
     pub fn event(self, alloc: Global) -> Result<Event, AllocError>
         requires { IsSome (event_from self) }
         ensures ok { IfOk result (λ event. event_from self.entry ≡ Some event) }

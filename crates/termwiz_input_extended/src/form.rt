@@ -338,6 +338,7 @@ fn title_at(rest: &[u8]) -> FormAt
 }
 
 // The form at the front of a text. The bytes before `scanned` were looked at before.
+#[inline(always)]
 pub(crate) fn form_at(text: &[u8], scanned: usize, x10_mouse: bool) -> FormAt
     requires some { text.now ≢ [] }
     requires scanned { IsScanned text.now scanned }
