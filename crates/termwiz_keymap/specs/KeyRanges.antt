@@ -17,6 +17,10 @@ module _ {V : Type 0} where
     pub no_others : (i : ℕ) (r : Row V) → i < length rows → GoesOn front (key_of (get_or rows i r))
         → (low ≤ i) × (i < high)
 
+  -- some key begins with these bytes and is longer
+  abbrev pub SomeGoesOn : List (Row V) → List ℕ → Type 0
+  SomeGoesOn rows front = (i : ℕ) × (i < length rows) × ((r : Row V) → GoesOn front (key_of (get_or rows i r)))
+
   -- of the keys that begin a text the longest is that of the row at this place; if there are none, no row is there
   pub record IsLongest (rows : List (Row V)) (text : List ℕ) (place : ℕ) : Type 0 where
     pub begins : (r : Row V) → place < length rows → Begins (key_of (get_or rows place r)) text

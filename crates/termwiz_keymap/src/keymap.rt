@@ -9,6 +9,7 @@ mod remembered;
 mod row;
 mod search;
 mod text_range;
+mod text_search;
 
 use gap_buffer::GapBuffer;
 use remembered::{Remembered, remembered_ranges};
@@ -19,6 +20,7 @@ use std::fmt::Debug;
 use std::marker::Model;
 use std::ops::Range;
 use text_range::range_of;
+use text_search::found_for;
 
 /// The answer of [`KeyMap::lookup`].
 #[derive(Clone, PartialEq, Eq, Debug, Drop)]
@@ -190,10 +192,9 @@ impl<V: Debug + Clone + Drop> KeyMap<V> {
         ensures none { IfNone result.0 (NoKeyBegins self.now text.now) }
         ensures extended { IsTrue result.1 ↔ IsExtended self.now text.now }
     {
-        let range = range_of(&self.rows, &self.places, text);
-        let extended = range.low < range.high;
-        if range.longest < self.rows.len() {
-            let row = &self.rows[range.longest];
+        let (longest, extended) = found_for(&self.rows, &self.places, text);
+        if longest < self.rows.len() {
+            let row = &self.rows[longest];
             (Some((row.key().len(), &row.value)), extended)
         } else {
             (None, extended)

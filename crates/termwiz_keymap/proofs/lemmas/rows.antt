@@ -9,3 +9,4 @@ pub mod Narrowing
 pub mod RangeLookups
 pub mod RememberedRanges
 pub mod RowPlaces
+pub mod TextSearch

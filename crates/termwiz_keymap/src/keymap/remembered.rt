@@ -32,7 +32,7 @@ const FEW: usize = 1;
 // Within a range of more rows it is remembered too by which bytes none goes on.
 const MANY: usize = 64;
 
-// The number of places for ranges. Each range has one place, where another may stand.
+// The number of places for ranges. Each range has two places, where others may stand.
 const PLACES: usize = 8192;
 
 // Below so many rows a place among them fits a remembered range.
@@ -91,7 +91,7 @@ fn number_of(bytes: &[u8]) -> u64
     number
 }
 
-// The place for the range of so many bytes with this number.
+// The first place for the range of so many bytes with this number. The second is the other one of a pair.
 fn place_of(number: u64, depth: u16) -> usize {
     let mixed = number
         .wrapping_add(depth as u64)
@@ -99,15 +99,31 @@ fn place_of(number: u64, depth: u16) -> usize {
     (mixed >> 51) as usize % PLACES
 }
 
-// What is remembered for so many bytes with this number.
-fn found_at(places: &[Remembered], number: u64, depth: u16) -> Option<&Remembered>
+// The other place of a pair.
+fn other_of(place: usize) -> usize {
+    place ^ 1
+}
+
+// What is remembered at a place, if it is for so many bytes with this number.
+fn kept_at(places: &[Remembered], place: usize, number: u64, depth: u16) -> Option<&Remembered>
     ensures { IfSome result (λ found. IsAmongPlaces places.now number depth found.now) }
 {
-    let found = places.get(place_of(number, depth))?;
+    let found = places.get(place)?;
     if found.number == number && found.depth == depth {
         Some(found)
     } else {
         None
+    }
+}
+
+// What is remembered for so many bytes with this number.
+fn found_at(places: &[Remembered], number: u64, depth: u16) -> Option<&Remembered>
+    ensures { IfSome result (λ found. IsAmongPlaces places.now number depth found.now) }
+{
+    let place = place_of(number, depth);
+    match kept_at(places, place, number, depth) {
+        Some(found) => Some(found),
+        None => kept_at(places, other_of(place), number, depth),
     }
 }
 
@@ -125,11 +141,13 @@ fn first_found<'a>(places: &'a [Remembered], text: &[u8]) -> Option<&'a Remember
     ensures { IfSome result (λ found. IsFoundFor places.now text.now found.now) }
 {
     let mut depth = text.len().min(FIRST);
+    let mut number = number_of(&text[..depth]);
     while depth > 0 {
-        let found = found_at(places, number_of(&text[..depth]), depth as u16);
+        let found = found_at(places, number, depth as u16);
         if found.is_some() {
             return found;
         }
+        number /= 256;
         depth -= 1;
     }
     None
@@ -236,7 +254,25 @@ fn remember_printable<V>(
     }
 }
 
-// Remembers the range of so many first bytes of a text, unless its place has one that doesn't yield to it.
+// Whether nothing is remembered at a place.
+fn is_free(places: &[Remembered], place: usize) -> bool {
+    match places.get(place) {
+        Some(found) => found.depth == 0,
+        None => false,
+    }
+}
+
+// The place at which the range of so many bytes with this number is to be remembered: its second one only where the first is taken.
+fn free_place_of(places: &[Remembered], number: u64, depth: u16) -> usize {
+    let place = place_of(number, depth);
+    if !is_free(places, place) && is_free(places, other_of(place)) {
+        other_of(place)
+    } else {
+        place
+    }
+}
+
+// Remembers the range of so many first bytes of a text, unless its places have others that don't yield to it.
 fn remember<V>(
     rows: &GapBuffer<Row<V>>,
     places: &mut [Remembered],
@@ -253,7 +289,10 @@ fn remember<V>(
     ensures { AreRemembered rows.now places.new }
 {
     let number = number_of(&text[..depth]);
-    let place = place_of(number, depth as u16);
+    if found_at(places, number, depth as u16).is_some() {
+        return;
+    }
+    let place = free_place_of(places, number, depth as u16);
     if place < places.len() && places[place].yields_to(depth, range.count()) {
         places[place] = Remembered {
             number,

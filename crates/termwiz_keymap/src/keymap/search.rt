@@ -22,8 +22,8 @@ pub fn place_of<V>(rows: &GapBuffer<Row<V>>, key: &[u8], near: usize) -> Result<
     }
 }
 
-// How many rows have keys that aren't after this one, in the order of bytes: they come first. The search tries `near` first.
-fn count_up_to<V>(rows: &GapBuffer<Row<V>>, key: &[u8], near: usize) -> usize
+/// How many rows have keys that aren't after this one, in the order of bytes: they come first. The search tries `near` first.
+pub fn count_up_to<V>(rows: &GapBuffer<Row<V>>, key: &[u8], near: usize) -> usize
     requires { AreAscending rows.now }
     ensures { IsCountUpTo rows.now key.now result }
 {
@@ -56,10 +56,15 @@ fn is_behind(key: &[u8], text: &[u8]) -> bool
     is_after(key, text, shared_len(key, text, 0))
 }
 
-// As `count_up_to`, where the rows before `low` are known to be not after the key, and those from `high` on to be after it.
-//
-// All rows between share as many first bytes with the key as the two rows beside them do, so those aren't compared again.
-fn count_between<V>(rows: &GapBuffer<Row<V>>, key: &[u8], mut low: usize, mut high: usize) -> usize
+/// As `count_up_to`, where the rows before `low` are known to be not after the key, and those from `high` on to be after it.
+///
+/// All rows between share as many first bytes with the key as the two rows beside them do, so those aren't compared again.
+pub fn count_between<V>(
+    rows: &GapBuffer<Row<V>>,
+    key: &[u8],
+    mut low: usize,
+    mut high: usize,
+) -> usize
     requires ascending { AreAscending rows.now }
     requires bounded { IsBounded rows.now key.now low high }
     ensures { IsCountUpTo rows.now key.now result }

@@ -63,7 +63,7 @@ squeezed_below (a ∷ x) (b ∷ y) (c ∷ t) (suc n) xy ty s =
     (first_bytes a b x y xy)
 
 -- what is before x, and after a text, shares with the text what x does
-squeezed_above : (x y t : List ℕ) (n : ℕ) → Before t y → Before y x → ShareFirst x t n → ShareFirst y t n
+pub squeezed_above : (x y t : List ℕ) (n : ℕ) → Before t y → Before y x → ShareFirst x t n → ShareFirst y t n
 squeezed_above x y t zero ty yx s = share_none y t
 squeezed_above [] y t (suc n) ty yx s = absurd (omega (arith, s.in_key))
 squeezed_above (a ∷ x) y [] (suc n) ty yx s = absurd (omega (arith, s.in_text))

@@ -1,5 +1,5 @@
 -- The order of keys.
-use Rattle.std.proofs.Common.{◌≡◌, ◌∙◌, ◌<◌, ◌⊎◌, ⊎_elim, inl, inr, ℕ, List, [], ◌∷◌, ◌++◌, refl, ap, arith}
+use Rattle.std.proofs.Common.{◌≡◌, ◌≢◌, ◌∙◌, ◌<◌, ◌⊎◌, ⊎_elim, inl, inr, ℕ, List, [], ◌∷◌, ◌++◌, refl, ap, arith}
 use Rattle.std.specs.Ordering.{nat_cmp, ordering_then, ordering_reverse}
 use Rattle.std.specs.declared.cmp.Ordering.TheVariants.{Less, Equal, Greater}
 use Rattle.std.specs.Cmp.Lexicographic.{slice_cmp}
@@ -57,3 +57,9 @@ pub rests_before : (q x y : List ℕ) → Before (q ++ x) (q ++ y) → Before x 
 rests_before [] x y before = before
 rests_before (a ∷ q) x y before = ⊎_elim (λ (less : a < a). absurd (omega arith))
     (λ p. rests_before q x y p.1) (first_bytes a a (q ++ x) (q ++ y) before)
+
+-- a text is before what begins with it and is longer
+pub before_longer : (q x : List ℕ) → x ≢ [] → Before q (q ++ x)
+before_longer [] [] some = absurd (some refl)
+before_longer [] (b ∷ x) some = refl
+before_longer (a ∷ q) x some = before_by_rest a q (q ++ x) (before_longer q x some)

@@ -1,5 +1,5 @@
 -- A remembered range is the range of the bytes that it is remembered by.
-use Rattle.std.proofs.Common.{⊎_elim, ◌≡◌, ◌∙◌, ◌+◌, ◌*◌, ◌<◌, ◌≤◌, ◌^◌, min, ℕ, suc, List, [], ◌∷◌, ◌++◌, length, take, get_or, set, refl, sym, ap, subst, arith}
+use Rattle.std.proofs.Common.{⊎_elim, ◌≡◌, ◌∙◌, ◌+◌, ◌-◌, ◌*◌, ◌/◌, ◌<◌, ◌≤◌, ◌^◌, min, ℕ, suc, List, [], ◌∷◌, ◌++◌, length, take, get_or, set, refl, sym, ap, subst, arith}
 use Rattle.std.specs.List.{insert, remove}
 use Rattle.std.proofs.lemmas.Bool.{cases_lt}
 use Rattle.std.proofs.lemmas.List.{get_or-take, get_or_past, length-take-le, length-take, take_more}
@@ -21,6 +21,14 @@ pub number_more : (text : List ℕ) (d : ℕ) → d < length text
     → number_of (take (d + 1) text) ≡ number_of (take d text) * 256 + get_or text d 0
 number_more text d inside =
     ap number_of (take_more text d 0 inside) ∙ number_after-more 0 (take d text) (get_or text d 0)
+
+-- the number of one byte less
+pub number_shorter : (text : List ℕ) (d n : ℕ) → AreBytes text → 0 < d → d ≤ length text → n ≡ number_of (take d text)
+    → n / 256 ≡ number_of (take (d - 1) text)
+number_shorter text d n bytes some inside is =
+    let same : number_of (take (d - 1 + 1) text) ≡ number_of (take d text) =
+    ap (λ k. number_of (take k text)) {x = d - 1 + 1} {y = d} (omega arith) in
+    omega (arith, is, same, number_more text (d - 1) (omega arith), bytes (d - 1))
 
 -- equally many bytes with the same number are the same
 same_bytes : (a b : ℕ) (xs ys : List ℕ) → AreBytes xs → AreBytes ys → length xs ≡ length ys
