@@ -118,6 +118,22 @@ static void keeps_a_text_over_readings(void) {
   hed_parser_free(&parser);
 }
 
+/* Commands one after another, shorter and longer than the one before, and some that are too long for their place to be kept. */
+static void keeps_commands(hed_parser *parser) {
+  static const size_t lengths[] = { 3, 1, 40, 39, 4094, 4095, 2, 9000, 0, 5 };
+  static uint8_t data[10000], copy[10000];
+  for (size_t i = 0; i < sizeof lengths / sizeof *lengths; i++) {
+    size_t len = lengths[i];
+    memset(data, 'a' + (int)i, len);
+    FEED(parser, "\033]0;");
+    EXPECT(hed_parser_feed(parser, 0, data, len) == HED_OK);
+    FEED(parser, "\007");
+    hed_event event = next_of(parser);
+    EXPECT(event.kind == HED_KIND_OSC && event.text_len == len + 2);
+    EXPECT(hed_parser_text(parser, copy, sizeof copy) == len + 2 && memcmp(copy, "0;", 2) == 0 && memcmp(copy + 2, data, len) == 0);
+  }
+}
+
 /* The bytes of the event that was told last are copied as often as they are asked for, until the next event or until they are dropped. */
 static void keeps_texts(void) {
   static const size_t rooms[] = { 0, 1, 4, 5, 1000, SIZE_MAX };
@@ -145,6 +161,7 @@ static void keeps_texts(void) {
     EXPECT(HAS_TEXT(&parser, "z"));
     memcpy(few, "....", 4);
   }
+  keeps_commands(&parser);
   hed_parser_free(&parser);
 }
 

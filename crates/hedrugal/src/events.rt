@@ -6,7 +6,7 @@ ghost use Rattle.hedrugal.specs.Events.{bare, c_event, c_part, key_event_kind_nu
 use bitflags::Flags;
 use termwiz_bindings::numbers::{reported_detail, reported_number};
 use termwiz_input_extended::types::{
-    Event, KeyEventKind, KeyReport, MouseKind, MouseReport, SequenceBytes, StringKind,
+    Event, KeyEventKind, KeyReport, MouseKind, MouseReport, StringKind,
 };
 
 // The kinds of events.
@@ -219,7 +219,7 @@ pub(crate) fn own_bytes(event: Event) -> Option<Vec<u8>>
 
 // The number of a string's kind: that of the event of a whole one.
 #[tactic(auto, unfolding(crate::specs::Events::string_kind_number))]
-fn string_kind_number(kind: StringKind) -> u8
+pub(crate) fn string_kind_number(kind: StringKind) -> u8
     ensures { result ≡ string_kind_number kind }
 {
     match kind {
@@ -229,14 +229,16 @@ fn string_kind_number(kind: StringKind) -> u8
     }
 }
 
-// Shows an event of this kind that brings these bytes, where no event is shown yet.
+// An event of this kind that brings these bytes.
 #[inline(always)]
-fn show_bytes(kind: u8, bytes: &SequenceBytes, shown: &mut CEvent)
-    requires { shown.old ≡ no_event }
-    ensures { shown.new ≡ bare kind bytes.now }
+pub(crate) fn c_bytes(kind: u8, bytes: &[u8]) -> CEvent
+    ensures { result ≡ bare kind bytes.now }
 {
-    shown.kind = kind;
-    shown.text_len = bytes.as_slice().len();
+    CEvent {
+        kind,
+        text_len: bytes.len(),
+        ..NO_EVENT
+    }
 }
 
 // Shows an event as C has it.
@@ -276,16 +278,16 @@ pub(crate) fn show(event: &Event, shown: &mut CEvent)
             shown.kind = KIND_KEYBOARD_FLAGS;
             shown.flags = *flags;
         }
-        Event::Csi(bytes) => show_bytes(KIND_CSI, bytes, shown),
-        Event::Osc(bytes) => show_bytes(KIND_OSC, bytes, shown),
-        Event::Dcs(bytes) => show_bytes(KIND_DCS, bytes, shown),
-        Event::Apc(bytes) => show_bytes(KIND_APC, bytes, shown),
+        Event::Csi(bytes) => *shown = c_bytes(KIND_CSI, bytes.as_slice()),
+        Event::Osc(bytes) => *shown = c_bytes(KIND_OSC, bytes.as_slice()),
+        Event::Dcs(bytes) => *shown = c_bytes(KIND_DCS, bytes.as_slice()),
+        Event::Apc(bytes) => *shown = c_bytes(KIND_APC, bytes.as_slice()),
         Event::StringPart { kind, bytes } => {
-            show_bytes(KIND_STRING_PART, bytes, shown);
+            *shown = c_bytes(KIND_STRING_PART, bytes.as_slice());
             shown.string_kind = string_kind_number(*kind);
         }
         Event::StringCut { kind, bytes } => {
-            show_bytes(KIND_STRING_CUT, bytes, shown);
+            *shown = c_bytes(KIND_STRING_CUT, bytes.as_slice());
             shown.string_kind = string_kind_number(*kind);
         }
     }

@@ -1,5 +1,5 @@
 // What the handle of a parser leads to.
-ghost use Rattle.std.specs.Prelude.{◌≡◌, ◌+◌, ◌≤◌, ℕ, List, [], length, true, false, Ok, OnErr};
+ghost use Rattle.std.specs.Prelude.{◌≡◌, ◌+◌, ◌≤◌, ℕ, List, [], length, true, false, Ok, OnErr, OnOk};
 ghost use Rattle.std.specs.FinMap as map;
 ghost use Rattle.termwiz_input.specs.KeyEvent.{KeyEvent};
 ghost use Rattle.termwiz_input.specs.Table.{table};
@@ -9,12 +9,16 @@ ghost use Rattle.termwiz_extended_events.specs.PortEvents.{pressed_key};
 ghost use Rattle.termwiz_timed.specs.Steps.{Step};
 ghost use Rattle.termwiz_timed.specs.Steps.Call.{AllTold};
 ghost use Rattle.hedrugal.specs.Calls.{MeetsMemory, Took, copied};
-ghost use Rattle.hedrugal.specs.Events.{c_event};
+ghost use Rattle.hedrugal.specs.Events.{bare, c_event};
 
 use crate::copying::copy_prefix;
 use crate::entry_calls::CEntries;
-use crate::events::{CEvent, c_part, own_bytes, show};
+use crate::events::{
+    CEvent, KIND_APC, KIND_CSI, KIND_DCS, KIND_OSC, KIND_STRING_CUT, KIND_STRING_PART, c_bytes,
+    c_part, own_bytes, show, string_kind_number,
+};
 use std::alloc::{AllocError, Global};
+use termwiz_extended_events::meanings::Meaning;
 use termwiz_extended_events::port_events::pressed_key;
 use termwiz_input_extended::types::Event;
 use termwiz_keys::types::PastedText;
@@ -43,6 +47,64 @@ impl EventSink for ShownEvent<'_> {
             None => self.text.clear(),
         }
     }
+
+    #[tactic(auto, unfolding(crate::specs::Events::c_event, crate::specs::Events::kind_number, crate::specs::Events::own_bytes))]
+    #[inline(always)]
+    fn emit_meaning(&mut self, alloc: Global, meaning: Meaning<'_>) -> Result<(), AllocError> {
+        match meaning {
+            Meaning::Csi(bytes) => self.show_sequence(alloc, KIND_CSI, bytes)?,
+            Meaning::Osc(bytes) => self.show_sequence(alloc, KIND_OSC, bytes)?,
+            Meaning::Dcs(bytes) => self.show_sequence(alloc, KIND_DCS, bytes)?,
+            Meaning::Apc(bytes) => self.show_sequence(alloc, KIND_APC, bytes)?,
+            Meaning::StringPart { kind, bytes } => {
+                self.show_sequence(alloc, KIND_STRING_PART, bytes)?;
+                self.event.string_kind = string_kind_number(kind);
+            }
+            Meaning::StringCut { kind, bytes } => {
+                self.show_sequence(alloc, KIND_STRING_CUT, bytes)?;
+                self.event.string_kind = string_kind_number(kind);
+            }
+            Meaning::FocusGained => self.emit(Event::FocusGained),
+            Meaning::FocusLost => self.emit(Event::FocusLost),
+            Meaning::CursorPosition { row, column } => {
+                self.emit(Event::CursorPosition { row, column });
+            }
+            other => self.emit(other.event(alloc)?),
+        }
+        Ok(())
+    }
+}
+
+impl ShownEvent<'_> {
+    // Shows an event of this kind that brings these bytes, and keeps them in the place of those before.
+    #[inline(always)]
+    fn show_sequence(&mut self, alloc: Global, kind: u8, bytes: &[u8]) -> Result<(), AllocError>
+        ensures shown { OnOk result (self.new.event.now ≡ bare kind bytes.now) }
+        ensures kept { OnOk result (self.new.text.now.items ≡ bytes.now) }
+        ensures refused { OnErr result (self.new ≡ self.old) }
+        ensures event_place { self.new.event.ghost_name ≡ self.old.event.ghost_name }
+        ensures text_place { self.new.text.ghost_name ≡ self.old.text.ghost_name }
+    {
+        keep(alloc, self.text, bytes)?;
+        *self.event = c_bytes(kind, bytes);
+        Ok(())
+    }
+}
+
+// A place up to this size is kept for the bytes of the next event.
+const KEPT_ROOM: usize = 4096;
+
+// Puts these bytes in the place of those before.
+fn keep(alloc: Global, text: &mut Vec<u8>, bytes: &[u8]) -> Result<(), AllocError>
+    ensures kept { OnOk result (text.new.items ≡ bytes.now) }
+    ensures refused { OnErr result (text.new ≡ text.old) }
+{
+    if bytes.len() <= text.capacity() && text.capacity() <= KEPT_ROOM {
+        text.clear();
+        return text.extend_from_slice(bytes);
+    }
+    *text = bytes.to_vec(alloc)?;
+    Ok(())
 }
 
 impl TimedSink for ShownEvent<'_> {

@@ -1,17 +1,18 @@
 -- Reports of a key that say no more than its manner.
-use Rattle.std.proofs.Common.{◌≡◌, ℕ, ◌==◌, ◌&&◌, Bool, true, false, List, [], ◌∷◌, length, nat_lt, nat_le, refl, sym, ap, ◌∙◌, arith, Option, Some, None}
+use Rattle.std.proofs.Common.{◌≡◌, ℕ, ◌==◌, ◌&&◌, Bool, true, false, not, List, [], ◌∷◌, length, nat_lt, nat_le, refl, sym, ap, ◌∙◌, subst, arith, bytes_eq, codes, Option, Some, None}
 use Rattle.std.specs.Prelude.{option_map, option_and_then, IfSome, if◌then◌else◌}
 use Rattle.std.specs.List.{list_all, slice_split}
 use Rattle.std.specs.Char.{is_ascii_digit}
 use Rattle.std.proofs.lemmas.Bool.{and_parts}
+use Rattle.std.proofs.lemmas.Slice.Eq.{bytes_eq-Decides}
 use Rattle.std.proofs.lemmas.Bool.Decides.{nat_tests}
 use Rattle.termwiz_grammar.specs.MouseReports.{value_of}
 use Rattle.termwiz_extended_events.specs.declared.types.KeyReport.{KeyReport}
 use Rattle.termwiz_extended_events.specs.declared.types.Manner.{Manner}
 use Rattle.termwiz_extended_events.specs.declared.types.PlainReport.{PlainReport}
-use Rattle.termwiz_extended_events.specs.Numbers.{before_end, is_digits, most_digits, number, number_within, parts, scalar}
-use Rattle.termwiz_extended_events.specs.KeyReports.{character_of_fields, character_report, codes_of, key_report, plain_report, report_behind, report_of, character_key, lettered_key, numbered_key, other_key, other_held}
-use Rattle.termwiz_extended_events.specs.ReportedKeys.{key_of}
+use Rattle.termwiz_extended_events.specs.Numbers.{before_end, fields, first_some, is_digits, most_digits, number, number_within, parts, scalar}
+use Rattle.termwiz_extended_events.specs.KeyReports.{character_of_fields, character_report, codes_of, key_report, plain_report, report_behind, report_of, character_key, lettered_key, numbered_key, numbered_of_fields, other_key, other_held, other_of_fields}
+use Rattle.termwiz_extended_events.specs.ReportedKeys.{key_of, tilde_key}
 use Rattle.termwiz_extended_events.specs.Replies.{focus}
 use Rattle.termwiz_extended_events.specs.Meanings.{reported}
 use Rattle.termwiz_extended_events.specs.declared.types.Event.TheVariants.{Key}
@@ -112,6 +113,25 @@ pub read_as_character : (found : Option PlainReport) (report character : Option 
     → IfSome found (λ plain. character ≡ Some (plain_report plain)) → IfSome found (λ plain. report ≡ Some (plain_report plain))
 read_as_character None report character e is = tt
 read_as_character (Some plain) report character e is = e ∙ is
+
+no_key_of_27 : (more : List (List ℕ)) → numbered_of_fields (codes "27" ∷ more) ≡ None
+unfolding number_within tilde_key
+no_key_of_27 more = refl
+
+is_true : (b : Bool) → false ≡ not b → b ≡ true
+is_true true e = refl
+is_true false e = cc (e)
+
+-- behind 27 a tilde ends the report of no key, where it doesn't end one of xterm's modifyOtherKeys
+pub none_behind_27 : (t body front : List ℕ) (more : List (List ℕ)) → before_end (codes "~") t ≡ Some body → fields body ≡ front ∷ more
+    → false ≡ not (bytes_eq front (codes "27")) → other_of_fields (codes "27" ∷ more) ≡ None
+    → None ≡ first_some (numbered_key t ∷ other_key t ∷ [])
+unfolding numbered_key other_key other_held
+none_behind_27 t body front more end split is none =
+    let same : codes "27" ≡ front = sym ((bytes_eq-Decides front (codes "27")).0 (is_true _ is)) in
+    let number : numbered_of_fields (front ∷ more) ≡ None = subst (λ f. numbered_of_fields (f ∷ more) ≡ None) same (no_key_of_27 more) in
+    let other : other_of_fields (front ∷ more) ≡ None = subst (λ f. other_of_fields (f ∷ more) ≡ None) same none in
+    rw (end, split, number, other) refl
 
 -- the event of what follows ESC [ is that of its key
 pub plain_event : (t : List ℕ) (found : Option PlainReport) → IfSome found (λ report. key_report t ≡ Some (plain_report report))

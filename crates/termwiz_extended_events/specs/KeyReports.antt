@@ -107,9 +107,9 @@ report_of key manner = record {
   text = [];
 }
 
--- such a report by its two parts
+-- a report without a base and a text, by its parts
 abbrev pub plain_report : PlainReport → KeyReport
-plain_report plain = report_of plain.key plain.manner
+plain_report plain = record (report_of plain.key plain.manner) { shifted = plain.shifted }
 
 -- a report whose text is still spelled, with that text; none if it spells no text
 abbrev pub spelled_report : SpelledReport → Option KeyReport

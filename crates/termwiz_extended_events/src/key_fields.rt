@@ -41,6 +41,7 @@ fn kind_of(digits: &[u8]) -> Option<KeyEventKind>
 
 // The manner that a field says.
 #[tactic(auto, unfolding(crate::specs::KeyReports::manner_of))]
+#[inline(always)]
 pub(crate) fn manner_of(field: &[u8]) -> Option<Manner>
     ensures { result ≡ manner_of field.now }
 {

@@ -1,10 +1,10 @@
 // The sequences that report a key.
-ghost use Rattle.std.specs.Prelude.{◌≡◌, ◌≢◌, ◌∷◌, [], IfOk, IfSome, IsSome, OnErr, Some, option_map};
+ghost use Rattle.std.specs.Prelude.{◌≡◌, ◌≢◌, ◌∷◌, [], IfOk, IfSome, IsSome, OnErr, Some, codes, option_map};
 ghost use Rattle.termwiz_extended_events.specs.declared.types.ReportedKey.{ReportedKey as Key};
 ghost use Rattle.termwiz_extended_events.specs.Numbers.{first_some};
 ghost use Rattle.termwiz_extended_events.specs.Numbers as numbers;
 ghost use Rattle.termwiz_extended_events.specs.KeyReports as rules;
-ghost use Rattle.termwiz_extended_events.specs.KeyReports.{IsSpelled, report_of, report_behind, plain_report, spelled_report};
+ghost use Rattle.termwiz_extended_events.specs.KeyReports.{IsSpelled, numbered_of_fields, other_of_fields, report_of, report_behind, plain_report, spelled_report};
 ghost use Rattle.termwiz_grammar.specs.Table.{key_of_code};
 ghost use Rattle.termwiz_extended_events.specs.FieldsLeft.{fields_left};
 
@@ -39,7 +39,7 @@ pub struct SpelledReport<'t> {
 }
 
 impl<'t> SpelledReport<'t> {
-    // A report that says no more than a key and its manner.
+    // A report without a text.
     #[tactic(auto, unfolding(crate::specs::KeyReports::text_of))]
     pub(crate) fn plain(report: PlainReport) -> SpelledReport<'t>
         ensures { spelled_report result ≡ Some (plain_report report) }
@@ -47,14 +47,14 @@ impl<'t> SpelledReport<'t> {
         SpelledReport {
             key: report.key,
             manner: report.manner,
-            shifted: None,
+            shifted: report.shifted,
             base: None,
             text: b"",
         }
     }
 
-    // The report with its text. Only a text needs memory.
-    pub(crate) fn whole(self, alloc: Global) -> Result<KeyReport, AllocError>
+    /// The report with its text. Only a text needs memory.
+    pub fn whole(self, alloc: Global) -> Result<KeyReport, AllocError>
         requires { IsSome (spelled_report self) }
         ensures ok { IfOk result (λ report. spelled_report self.entry ≡ Some report) }
         ensures refused { OnErr result (IfSome (spelled_report self.entry) (λ report. report.text ≢ [])) }
@@ -74,7 +74,18 @@ impl<'t> SpelledReport<'t> {
 pub(crate) fn report_of(alloc: Global, key: ReportedKey, manner: Manner) -> KeyReport
     ensures { result ≡ report_of key manner }
 {
-    PlainReport { key, manner }.whole(alloc)
+    PlainReport::new(key, manner).whole(alloc)
+}
+
+// The report of a press of a key with these modifiers.
+fn pressed_with(modifiers: u8, key: ReportedKey) -> PlainReport
+    ensures { plain_report result ≡ rules.report_of key (record { modifiers = modifiers; kind = KeyEventKind.Press }) }
+{
+    let manner = Manner {
+        modifiers,
+        kind: KeyEventKind::Press,
+    };
+    PlainReport::new(key, manner)
 }
 
 // c : shifted : base ; modifiers : kind ; text u, of which only c must be there: the key of c.
@@ -118,6 +129,7 @@ fn manner_behind(mut fields: Fields) -> Option<Manner>
 
 // 1 ; modifiers : kind and a letter, of which only the letter must be there: a key by its letter.
 #[tactic(auto, unfolding(crate::specs::KeyReports::lettered_key))]
+#[inline(always)]
 fn lettered_key(t: &[u8]) -> Option<PlainReport>
     ensures { option_map plain_report result ≡ rules.lettered_key t.now }
 {
@@ -126,24 +138,20 @@ fn lettered_key(t: &[u8]) -> Option<PlainReport>
     match fields.next()? {
         [] | [b'1'] => {
             let manner = manner_behind(fields)?;
-            Some(PlainReport {
-                key: ReportedKey::Named(key),
-                manner,
-            })
+            Some(PlainReport::new(ReportedKey::Named(key), manner))
         }
         _ => None,
     }
 }
 
-// n ; modifiers : kind ~, of which only n must be there: a key by its number.
-#[tactic(auto, unfolding(crate::specs::KeyReports::numbered_key))]
-fn numbered_key(t: &[u8]) -> Option<PlainReport>
-    ensures { option_map plain_report result ≡ rules.numbered_key t.now }
+// n ; modifiers : kind ~, of which only n must be there: a key by its number, which is the first field.
+#[inline(always)]
+fn numbered_report(n: &[u8], fields: Fields) -> Option<PlainReport>
+    ensures { option_map plain_report result ≡ numbered_of_fields (n.now ∷ fields_left fields.entry) }
 {
-    let mut fields = Fields::new(before_end(t, b"~")?, b';');
-    let key = reported_keys::tilde_key(number(fields.next()?, 0, LAST_FUNCTIONAL)?)?;
+    let key = reported_keys::tilde_key(number(n, 0, LAST_FUNCTIONAL)?)?;
     let manner = manner_behind(fields)?;
-    Some(PlainReport { key, manner })
+    Some(PlainReport::new(key, manner))
 }
 
 // The key of a character's number as xterm reports it, as in the sequence table.
@@ -159,15 +167,10 @@ fn key_of_code(c: char) -> KeyCode
     }
 }
 
-// 27 ; m ; c ~: the bits of the modifiers, and c.
-#[tactic(auto, unfolding(crate::specs::KeyReports::other_held))]
-fn other_held(t: &[u8]) -> Option<(u8, char)>
-    ensures { result ≡ rules.other_held t.now }
+// 27 ; m ; c ~: the bits of the modifiers, and c, of the fields behind the first one.
+fn other_held(mut fields: Fields) -> Option<(u8, char)>
+    ensures { result ≡ other_of_fields (codes "27" ∷ fields_left fields.entry) }
 {
-    let mut fields = Fields::new(before_end(t, b"~")?, b';');
-    if fields.next()? != b"27".as_slice() {
-        return None;
-    }
     let one_more = number(fields.next()?, 1, 256)?;
     let c = scalar(fields.next()?)?;
     match fields.next() {
@@ -195,11 +198,10 @@ fn is_shifted_by(modifiers: u8, c: char) -> bool
 }
 
 // The report of a key by its modifiers and its character.
-#[tactic(auto, unfolding(crate::specs::KeyReports::text_of))]
-fn other_report<'t>(modifiers: u8, c: char) -> SpelledReport<'t>
-    ensures { spelled_report result ≡ Some (rules.other_report (modifiers, c)) }
+fn other_report(modifiers: u8, c: char) -> PlainReport
+    ensures { plain_report result ≡ rules.other_report (modifiers, c) }
 {
-    SpelledReport {
+    PlainReport {
         key: other_code(c),
         manner: Manner {
             modifiers,
@@ -210,56 +212,22 @@ fn other_report<'t>(modifiers: u8, c: char) -> SpelledReport<'t>
         } else {
             None
         },
-        base: None,
-        text: b"",
     }
 }
 
-// 27 ; m ; c ~: the key of c, as xterm's modifyOtherKeys reports it.
-#[tactic(auto, unfolding(crate::specs::KeyReports::other_key))]
-fn other_key(t: &[u8]) -> Option<SpelledReport<'_>>
-    ensures { IsSpelled result (rules.other_key t.now) }
+// The report of a key that a tilde ends: by its number, or behind 27 by its character, as xterm's modifyOtherKeys reports it.
+#[tactic(auto, unfolding(crate::specs::KeyReports::numbered_key, crate::specs::KeyReports::other_key, crate::specs::KeyReports::other_held))]
+#[inline(always)]
+fn tilde_report(t: &[u8]) -> Option<PlainReport>
+    ensures { option_map plain_report result ≡ first_some (rules.numbered_key t.now ∷ rules.other_key t.now ∷ []) }
 {
-    let (modifiers, c) = other_held(t)?;
+    let mut fields = Fields::new(before_end(t, b"~")?, b';');
+    let first = fields.next()?;
+    if first != b"27".as_slice() {
+        return numbered_report(first, fields);
+    }
+    let (modifiers, c) = other_held(fields)?;
     Some(other_report(modifiers, c))
-}
-
-// The report of a key that a tilde ends.
-fn tilde_report(t: &[u8]) -> Option<SpelledReport<'_>>
-    ensures { IsSpelled result (first_some (rules.numbered_key t.now ∷ rules.other_key t.now ∷ [])) }
-{
-    match numbered_key(t) {
-        Some(report) => Some(SpelledReport::plain(report)),
-        None => other_key(t),
-    }
-}
-
-// The same key, if it is reported with no other character.
-#[tactic(auto, unfolding(crate::specs::KeyReports::other_key))]
-fn plain_other_key(t: &[u8]) -> Option<PlainReport>
-    ensures { IfSome result (λ report. rules.other_key t.now ≡ Some (plain_report report)) }
-{
-    let (modifiers, c) = other_held(t)?;
-    if is_shifted_by(modifiers, c) {
-        return None;
-    }
-    Some(PlainReport {
-        key: other_code(c),
-        manner: Manner {
-            modifiers,
-            kind: KeyEventKind::Press,
-        },
-    })
-}
-
-// The report of a key that a tilde ends, if it is reported with no other character.
-fn plain_tilde_report(t: &[u8]) -> Option<PlainReport>
-    ensures { IfSome result (λ report. first_some (rules.numbered_key t.now ∷ rules.other_key t.now ∷ []) ≡ Some (plain_report report)) }
-{
-    match numbered_key(t) {
-        Some(report) => Some(report),
-        None => plain_other_key(t),
-    }
 }
 
 // c ; modifiers : kind u, of which only c must be there: the key of c, if it is reported with no other character and no text.
@@ -270,13 +238,10 @@ fn plain_character_key(t: &[u8]) -> Option<PlainReport>
     let mut fields = Fields::new(before_end(t, b"u")?, b';');
     let own = scalar(fields.next()?)?;
     let manner = manner_behind(fields)?;
-    Some(PlainReport {
-        key: reported_keys::key_of(own),
-        manner,
-    })
+    Some(PlainReport::new(reported_keys::key_of(own), manner))
 }
 
-// The report of a key, if it says no more than a key and its manner. `None` decides nothing. The last byte tells which rules can fit.
+// The report of a key, if it has no base and no text. `None` decides nothing. The last byte tells which rules can fit.
 pub(crate) fn plain_report(t: &[u8]) -> Option<PlainReport>
     ensures { IfSome result (λ report. rules.key_report t.now ≡ Some (plain_report report)) }
 {
@@ -285,12 +250,12 @@ pub(crate) fn plain_report(t: &[u8]) -> Option<PlainReport>
         return plain_character_key(t);
     }
     if last == b'~' {
-        return plain_tilde_report(t);
+        return tilde_report(t);
     }
     lettered_key(t)
 }
 
-// A report, if it is there, that says no more than a key and its manner.
+// A report without a text, if it is there.
 fn without_text<'t>(plain: Option<PlainReport>) -> Option<SpelledReport<'t>>
     ensures { IsSpelled result (option_map plain_report plain) }
 {
@@ -309,7 +274,7 @@ pub(crate) fn key_report(t: &[u8]) -> Option<SpelledReport<'_>>
         return character_key(t);
     }
     if last == b'~' {
-        return tilde_report(t);
+        return without_text(tilde_report(t));
     }
     without_text(lettered_key(t))
 }
@@ -323,10 +288,7 @@ pub(crate) fn third_function_key(t: &[u8]) -> Option<PlainReport>
     match fields.next()? {
         [] | [b'1'] => {
             let manner = manner_behind(fields)?;
-            Some(PlainReport {
-                key: ReportedKey::Named(KeyCode::Function(3)),
-                manner,
-            })
+            Some(PlainReport::new(ReportedKey::Named(KeyCode::Function(3)), manner))
         }
         _ => None,
     }
@@ -345,13 +307,13 @@ fn back_tab(t: &[u8]) -> Option<PlainReport>
     let manner = manner_of(fields.next()?)?;
     match fields.next() {
         Some(_) => None,
-        None => Some(PlainReport {
-            key: ReportedKey::Named(KeyCode::Tab),
-            manner: Manner {
+        None => {
+            let held = Manner {
                 modifiers: manner.modifiers | SHIFT_BIT,
                 kind: manner.kind,
-            },
-        }),
+            };
+            Some(PlainReport::new(ReportedKey::Named(KeyCode::Tab), held))
+        }
     }
 }
 
@@ -373,13 +335,7 @@ fn short_key(t: &[u8]) -> Option<PlainReport>
     match t {
         [digit @ b'2'..=b'8', letter] => {
             let key = cursor_letter(*letter)?;
-            Some(PlainReport {
-                key: ReportedKey::Named(key),
-                manner: Manner {
-                    modifiers: *digit - b'1',
-                    kind: KeyEventKind::Press,
-                },
-            })
+            Some(pressed_with(*digit - b'1', ReportedKey::Named(key)))
         }
         _ => None,
     }
@@ -391,10 +347,7 @@ fn middle_key(t: &[u8]) -> Option<PlainReport>
     ensures { option_map plain_report result ≡ rules.middle_key t.now }
 {
     match t {
-        [b'G'] => Some(PlainReport {
-            key: ReportedKey::Named(KeyCode::KeyPadBegin),
-            manner: PRESSED,
-        }),
+        [b'G'] => Some(PlainReport::new(ReportedKey::Named(KeyCode::KeyPadBegin), PRESSED)),
         _ => None,
     }
 }
@@ -424,13 +377,7 @@ fn rxvt_report(modifiers: u8, digits: &[u8]) -> Option<PlainReport>
     ensures { option_map plain_report result ≡ rules.rxvt_report modifiers (Some digits.now) }
 {
     let key = reported_keys::rxvt_key_at(rxvt_number(digits)?)?;
-    Some(PlainReport {
-        key: ReportedKey::Named(key),
-        manner: Manner {
-            modifiers,
-            kind: KeyEventKind::Press,
-        },
-    })
+    Some(pressed_with(modifiers, ReportedKey::Named(key)))
 }
 
 // The key of such a number before this end.
@@ -458,10 +405,7 @@ pub(crate) fn console_key(t: &[u8]) -> Option<PlainReport>
     match t {
         [b'[', letter] => {
             let key = reported_keys::console_key(*letter)?;
-            Some(PlainReport {
-                key: ReportedKey::Named(key),
-                manner: PRESSED,
-            })
+            Some(PlainReport::new(ReportedKey::Named(key), PRESSED))
         }
         _ => None,
     }
@@ -473,10 +417,7 @@ pub(crate) fn keypad_key(t: &[u8]) -> Option<PlainReport>
     ensures { option_map plain_report result ≡ rules.keypad_key t.now }
 {
     match t {
-        [letter] => Some(PlainReport {
-            key: reported_keys::keypad_key(*letter)?,
-            manner: PRESSED,
-        }),
+        [letter] => Some(PlainReport::new(reported_keys::keypad_key(*letter)?, PRESSED)),
         _ => None,
     }
 }
@@ -486,13 +427,10 @@ fn modified_report(number: u8, letter: u8) -> Option<PlainReport>
     ensures { option_map plain_report result ≡ rules.modified_report number letter }
 {
     match number {
-        b'2'..=b'8' => Some(PlainReport {
-            key: reported_keys::modified_keypad_key(letter)?,
-            manner: Manner {
-                modifiers: number - b'1',
-                kind: KeyEventKind::Press,
-            },
-        }),
+        b'2'..=b'8' => {
+            let key = reported_keys::modified_keypad_key(letter)?;
+            Some(pressed_with(number - b'1', key))
+        }
         _ => None,
     }
 }

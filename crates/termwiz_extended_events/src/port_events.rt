@@ -41,11 +41,7 @@ pub fn pressed_key(alloc: Global, event: &KeyEvent) -> KeyReport
         modifiers: kitty_bits(event.modifiers),
         kind: KeyEventKind::Press,
     };
-    PlainReport {
-        key: ReportedKey::Named(event.key),
-        manner,
-    }
-    .whole(alloc)
+    PlainReport::new(ReportedKey::Named(event.key), manner).whole(alloc)
 }
 
 // The byte that the Backspace key sends.

@@ -5,7 +5,7 @@ ghost use Rattle.termwiz_extended_events.specs.declared.types.NewlineByte.TheVar
 ghost use Rattle.std.specs.Cmp.Rules.{comparing};
 ghost use Rattle.std.specs.Cmp.Lexicographic.{pointwise};
 ghost use Rattle.std.proofs.Common.{rules};
-ghost use Rattle.termwiz_extended_events.specs.KeyReports.{plain_report};
+ghost use Rattle.termwiz_extended_events.specs.KeyReports.{plain_report, report_of};
 
 use std::alloc::Global;
 use std::marker::Model;
@@ -108,13 +108,15 @@ pub struct Manner {
     pub kind: KeyEventKind,
 }
 
-/// A key and its manner: a key report with no other characters of the key and no text. It holds no memory.
+/// A key report with no base and no text. It holds no memory.
 #[derive(Clone, Copy, PartialEq, Eq, Debug)]
 pub struct PlainReport {
     /// The key.
     pub key: ReportedKey,
     /// The modifiers, and what happened to the key.
     pub manner: Manner,
+    /// What the key types with Shift, if the terminal reported it.
+    pub shifted: Option<char>,
 }
 
 /// The text that a key types. Contracts see it as its bytes.
@@ -239,6 +241,18 @@ pub struct KeyReport {
 }
 
 impl PlainReport {
+    /// A report that says no more than a key and its manner.
+    #[inline(always)]
+    pub fn new(key: ReportedKey, manner: Manner) -> PlainReport
+        ensures { plain_report result ≡ report_of key manner }
+    {
+        PlainReport {
+            key,
+            manner,
+            shifted: None,
+        }
+    }
+
     /// Returns it as a [`KeyReport`]. `alloc` makes an empty text, which needs no memory.
     #[inline(always)]
     pub fn whole(self, alloc: Global) -> KeyReport
@@ -248,7 +262,7 @@ impl PlainReport {
             key: self.key,
             modifiers: self.manner.modifiers,
             kind: self.manner.kind,
-            shifted: None,
+            shifted: self.shifted,
             base: None,
             text: KeyText::new(String::new(alloc)),
         }

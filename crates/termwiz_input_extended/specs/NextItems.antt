@@ -1,7 +1,7 @@
 -- What is at the front of a text, as far as extra sequences and strings go.
-use Rattle.std.specs.Prelude.{◌≡◌, ◌⊎◌, ◌++◌, ℕ, ◌<◌, ◌≤◌, ◌-◌, Bool, true, false, List, [], ◌∷◌, length, take, Option, None, Result, Ok, IfOk, OnErr, if◌then◌else◌, unwrap_or, ◌==◌}
+use Rattle.std.specs.Prelude.{◌≡◌, ◌⊎◌, ◌++◌, ℕ, ◌<◌, ◌≤◌, ◌-◌, Bool, true, false, List, [], ◌∷◌, length, take, slice_index, codes, Option, None, Result, Ok, IfOk, OnErr, if◌then◌else◌, unwrap_or, ◌==◌}
 use Rattle.termwiz_keymap.specs.Bytes.{Begins}
-use Rattle.termwiz_keys.specs.Introducers.{ESC, START}
+use Rattle.termwiz_keys.specs.Introducers.{ESC, CSI, START}
 use Rattle.termwiz_keys.specs.Keys.{escape, plain, with_alt}
 use Rattle.termwiz_keys.specs.declared.types.MouseEvent.{MouseEvent}
 use Rattle.termwiz_keys.specs.declared.types.InputEvent.{InputEvent}
@@ -33,6 +33,14 @@ use Rattle.termwiz_input_extended.specs.declared.next_item.NextItem.TheVariants.
 use Rattle.termwiz_input_extended.specs.Buffered.{Buffered}
 use Rattle.termwiz_input_extended.specs.FormAnswers.{IsScanned, NoFormBegins}
 use Rattle.termwiz_input_extended.specs.StringAnswers.{IsOpeningOf}
+
+-- a report of the focus
+abbrev pub IsFocus : List ℕ → Type 0
+IsFocus text = (text ≡ CSI ++ codes "I") ⊎ (text ≡ CSI ++ codes "O")
+
+-- ESC [, a byte from < to ?, and more
+abbrev pub IsPrivate : List ℕ → Type 0
+IsPrivate text = (3 < length text) × (Begins CSI text × ((60 ≤ slice_index text 2) × (slice_index text 2 ≤ 63)))
 
 -- the text is an extra sequence
 abbrev pub IsSomeExtra : Reading → List ℕ → Type 0
@@ -126,7 +134,7 @@ abbrev pub IsNextItem : Reading → List ℕ → Bool → NextItem → Type 0
 IsNextItem reading u more (Control byte) = ReadsMore reading × ((rest : List ℕ) × (u ≡ byte ∷ rest) × IsControlKey byte)
 IsNextItem reading u more (Form len) = IsFormAt reading u len
 IsNextItem reading u more (String kind len) = ReadsMore reading × IsOpeningOf u kind len
-IsNextItem reading u more (MouseReport event len) = (len ≤ length u) × IsMouseReport (take len u) event
+IsNextItem reading u more (MouseReport len event) = (len ≤ length u) × IsMouseReport (take len u) event
 IsNextItem reading u more (AltForm len) = (v : List ℕ) × (u ≡ ESC ++ v) × IsBareKeyAt reading v len
 IsNextItem reading u more Escape = (v : List ℕ) × (u ≡ ESC ++ v) × StartsApart reading v
 IsNextItem reading u more AltEscape = IsPortsOwn reading u more × IsItemAt u more (port.Key (with_alt escape)) 2 × Begins (ESC ++ ESC) u

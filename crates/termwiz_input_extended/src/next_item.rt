@@ -1,5 +1,5 @@
 // What is at the front of a text: an extra sequence, a string, the Escape key before one, or what the port finds there.
-ghost use Rattle.std.specs.Prelude.{◌≡◌, ◌≢◌, ◌≤◌, length, ◌↔◌, ◌++◌, ℕ, Bool, false, List, [], take, IfSome, IsTrue, Some, Contains};
+ghost use Rattle.std.specs.Prelude.{◌≡◌, ◌≢◌, ◌≤◌, length, ◌↔◌, ◌⊎◌, ◌++◌, ℕ, Bool, false, List, [], take, IfSome, IsTrue, Some, Contains};
 ghost use Rattle.termwiz_keymap.specs.Bytes.{Begins};
 ghost use Rattle.termwiz_keys.specs.Introducers.{ESC, CSI, START};
 ghost use Rattle.termwiz_keys.specs.declared.types.KeyEvent.{KeyEvent as Key};
@@ -15,7 +15,7 @@ ghost use Rattle.termwiz_extended_grammar.specs.ExtraSequences.{EndsAsRxvt, Ends
 ghost use Rattle.termwiz_extended_grammar.specs.Readings.{ReadsMore, event_in};
 ghost use Rattle.termwiz_input_extended.specs.FormAnswers.{IsScanned};
 ghost use Rattle.termwiz_input_extended.specs.StringAnswers.{HasOpening, string_event};
-ghost use Rattle.termwiz_input_extended.specs.NextItems.{IsFormMatch, IsNextItem, IsExtraAt, IsFormAt, IsPortsOwn, IsReadAfterEscape, IsScannedTo, IsSomeExtra, front_key};
+ghost use Rattle.termwiz_input_extended.specs.NextItems.{IsFocus, IsFormMatch, IsNextItem, IsExtraAt, IsFormAt, IsPortsOwn, IsPrivate, IsReadAfterEscape, IsScannedTo, IsSomeExtra, front_key};
 
 use crate::characters::is_control_key;
 use crate::form::{ESCAPE, FormAt, form_at, is_keypad_letter, next_scan};
@@ -56,7 +56,7 @@ pub(crate) enum NextItem {
     // The opening of a string.
     String(StringKind, usize),
     // A mouse report, which the port finds there too.
-    MouseReport(MouseEvent, usize),
+    MouseReport(usize, MouseEvent),
     // The Escape key before an extra sequence that is no bare key, or before a string.
     Escape,
     // The Escape key with ALT: two ESC before a third one.
@@ -69,15 +69,47 @@ pub(crate) enum NextItem {
     Incomplete(usize),
 }
 
+// Whether a text is a report of the focus.
+fn is_focus(text: &[u8]) -> bool
+    ensures { IsTrue result ↔ IsFocus text.now }
+{
+    matches!(text, [ESCAPE, b'[', b'I' | b'O'])
+}
+
+// Whether a text begins with ESC [.
+fn is_introduced(form: &[u8]) -> bool
+    ensures { IsTrue result ↔ Begins CSI form.now }
+{
+    matches!(form, [ESCAPE, b'[', ..])
+}
+
+// Whether a text begins with ESC [ and a byte from < to ?, and more follows.
+fn is_private(text: &[u8]) -> bool
+    ensures { IsTrue result ↔ IsPrivate text.now }
+{
+    text.len() > 3 && is_introduced(text) && matches!(text[2], b'<'..=b'?')
+}
+
+// Whether a text is one of these, which are no rows of the sequence table.
+fn is_unlisted(text: &[u8]) -> bool
+    ensures { IsTrue result ↔ (IsFocus text.now ⊎ IsPrivate text.now) }
+{
+    is_focus(text) || is_private(text)
+}
+
 // Whether bytes are a row of the sequence table.
 fn is_table_row(parser: &InputParser, bytes: &[u8]) -> bool
     ensures { IsTrue result ↔ ((key : Key) × Contains table_rows (bytes.now, key)) }
 {
-    match parser.lookup(bytes, false) {
-        Found::Exact(len, _) => len == bytes.len(),
-        Found::Ambiguous(..) => false,
-        Found::NeedData => false,
-        Found::None => false,
+    if is_unlisted(bytes) {
+        false
+    } else {
+        match parser.lookup(bytes, false) {
+            Found::Exact(len, _) => len == bytes.len(),
+            Found::Ambiguous(..) => false,
+            Found::NeedData => false,
+            Found::None => false,
+        }
     }
 }
 
@@ -131,13 +163,6 @@ fn is_rxvt_function(form: &[u8]) -> bool
     ensures { IsTrue result ↔ IsRxvtFunction form.now }
 {
     matches!(form, [ESCAPE, b'[', b'3', b'5'..=b'8', b'~'])
-}
-
-// Whether a text begins with ESC [.
-fn is_introduced(form: &[u8]) -> bool
-    ensures { IsTrue result ↔ Begins CSI form.now }
-{
-    matches!(form, [ESCAPE, b'[', ..])
 }
 
 // Whether a text ends with Z.
@@ -371,7 +396,7 @@ fn item_of_sequence(reading: Reading, text: &[u8], scanned: usize, maybe_more: b
     ensures { IsNextItem reading text.now maybe_more result }
 {
     match mouse_report_at(text) {
-        FrontReport::Whole(event, len) => NextItem::MouseReport(event, len),
+        FrontReport::Whole(event, len) => NextItem::MouseReport(len, event),
         FrontReport::Begun if maybe_more => NextItem::Incomplete(next_scan(text)),
         FrontReport::Begun => NextItem::Usual,
         FrontReport::Absent if begins_paste(text) => NextItem::Paste,

@@ -1,8 +1,12 @@
 //! Where what is told goes.
-ghost use Rattle.std.specs.Prelude.{◌≡◌};
+ghost use Rattle.std.specs.Prelude.{◌≡◌, Some};
+ghost use Rattle.termwiz_extended_events.specs.declared.types.Event.{Event};
+ghost use Rattle.termwiz_extended_events.specs.Meanings.{event_from};
 ghost use Rattle.termwiz_timed.specs.Steps.{goes_on};
 
 use crate::parser::{TimedEvent, goes_on};
+use std::alloc::{AllocError, Global};
+use termwiz_extended_events::meanings::Meaning;
 use termwiz_extended_events::types::Event;
 pub use termwiz_input_extended::sink::EventSink;
 use termwiz_keys::types::PastedText;
@@ -47,6 +51,16 @@ impl TimedSink for LastTold {
     }
 }
 
+// Whether what was open when another program had the terminal is so after the event of a meaning.
+fn meaning_goes_on(meaning: &Meaning<'_>, interrupted: bool) -> bool
+    ensures { (event : Event) → event_from meaning.now ≡ Some event → result ≡ goes_on event interrupted }
+{
+    match meaning {
+        Meaning::StringPart { .. } => interrupted,
+        _ => false,
+    }
+}
+
 // Notes whether what was open when another program had the terminal goes on after an event, and hands the event on.
 #[derive(Drop)]
 pub(crate) struct Noting<'a, S> {
@@ -66,5 +80,13 @@ impl<S: EventSink> EventSink for Noting<'_, S> {
     fn emit(&mut self, event: Event) {
         *self.interrupted = goes_on(&event, *self.interrupted);
         self.sink.emit(event);
+    }
+
+    #[inline(always)]
+    fn emit_meaning(&mut self, alloc: Global, meaning: Meaning<'_>) -> Result<(), AllocError> {
+        let interrupted = meaning_goes_on(&meaning, *self.interrupted);
+        self.sink.emit_meaning(alloc, meaning)?;
+        *self.interrupted = interrupted;
+        Ok(())
     }
 }

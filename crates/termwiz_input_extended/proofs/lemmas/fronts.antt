@@ -13,4 +13,5 @@ pub mod ScannedPlaces
 pub mod StoredItems
 pub mod StringSteps
 pub mod ToldByFront
+pub mod UnlistedForms
 pub mod WholeRows

@@ -12,7 +12,7 @@ returns-then-last-eq117 c =
 pub returns-then-last-eq126 : goal.returns-then-last-eq126
 returns-then-last-eq126 c =
     let e : slice_get c.args.t.now (length c.args.t.now - 1) ≡ Some 126 = cc (c.in_ok-last.ensures.value, c.if-last-eq126.true) in
-    read_as_character c.plain_tilde_report.result _ _ (ends_with_tilde c.args.t.now e) c.plain_tilde_report.ensures
+    read_by c.tilde_report.result _ _ c.tilde_report.ensures (ends_with_tilde c.args.t.now e)
 
 pub returns : goal.returns
 returns c = read_by c.lettered_key.result _ _ c.lettered_key.ensures

@@ -1,7 +1,14 @@
 use Rattle.std.proofs.Common.{◌≡◌, length, arith}
 use Rattle.std.proofs.lemmas.Bool.Decides.{nat_tests}
+use Rattle.termwiz_input_extended.proofs.lemmas.fronts.UnlistedForms.{unlisted_no_row}
 use Rattle.termwiz_input_extended.proofs.lemmas.fronts.WholeRows.{row_whole, row_len, no_row_whole}
 use Rattle.termwiz_input_extended.proofs.next_item.is_table_row.Goals as goal
+
+pub returns-then-is_unlisted : goal.returns-then-is_unlisted
+returns-then-is_unlisted c = (
+  λ e. absurd (cc (e)),
+  λ h. absurd (unlisted_no_row c.args.bytes.now h.0 (c.is_unlisted.ensures.0 c.if-is_unlisted.true) h.1),
+)
 
 pub returns-in-Exact : goal.returns-in-Exact
 returns-in-Exact c = (

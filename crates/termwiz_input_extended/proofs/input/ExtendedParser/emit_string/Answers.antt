@@ -29,33 +29,32 @@ returns-in-Open g c =
     (string_rests c.args.self.now.reading c.args.self.now.text c.args.maybe_more c.requires.reads
     (subst IsOpenString c.waiting_text-text.ensures found.0) found.1) c.self.view_is refl
 
-pub returns-in_ok-event-in-Item : goal.returns-in_ok-event-in-Item
-returns-in_ok-event-in-Item g c =
+pub returns-in_ok-emit_meaning-in-Item : goal.returns-in_ok-emit_meaning-in-Item
+returns-in_ok-emit_meaning-in-Item g c =
     let u = c.args.self.now.text in
     let more = c.args.maybe_more in
     let item = c.in-Item.item in
     let is = subst (λ t. IsStringItem t more item) c.waiting_text-text.ensures c.in-Item.ensures in
-    let event = c.in_ok-event-in-Item.event in
+    let event = string_event item.manner item.kind (is.head ++ is.bytes) in
     let bytes = bytes_within c.waiting_text-text.result.now u more item c.waiting_text-text.ensures is in
-    let made : event ≡ string_event item.manner item.kind (is.head ++ is.bytes) =
-    cc (c.string_meaning.ensures, c.in_ok-event-in-Item.ensures.ok, bytes) in
+    let made : event_from c.string_meaning-meaning.result ≡ Some event = cc (c.string_meaning-meaning.ensures, bytes) in
     emits_event g.S.EventSink.takes c.args.self.now _ c.args.sink.now _ more event
     (subst (λ t. Steps c.args.self.now.reading u more (event ∷ []) t) (sym (ap (λ (b : Buffered). b.text) c.cut_out.ensures))
-    (string_step c.args.self.now.reading u more item is c.requires.reads event made))
+    (string_step c.args.self.now.reading u more item is c.requires.reads event refl))
     (ap (λ (b : Buffered). b.reading) c.cut_out.ensures
-    ∙ sym (ap (λ e. after_event c.args.self.now.reading e) made
-    ∙ string_reading c.args.self.now.reading item.manner item.kind (is.head ++ is.bytes))) c.emit.ensures
+    ∙ sym (string_reading c.args.self.now.reading item.manner item.kind (is.head ++ is.bytes)))
+    (subst (λ found. IfSome found (λ event. g.S.EventSink.takes c.args.sink.now event c.emit_meaning.new.self)) made c.in_ok-emit_meaning-in-Item.ensures.ok)
 
-pub returns-in_err-event-in-Item : goal.returns-in_err-event-in-Item
-returns-in_err-event-in-Item g c =
+pub returns-in_err-emit_meaning-in-Item : goal.returns-in_err-emit_meaning-in-Item
+returns-in_err-emit_meaning-in-Item g c =
     let u = c.args.self.now.text in
     let more = c.args.maybe_more in
     let item = c.in-Item.item in
     let is = subst (λ t. IsStringItem t more item) c.waiting_text-text.ensures c.in-Item.ensures in
     let bytes = bytes_within c.waiting_text-text.result.now u more item c.waiting_text-text.ensures is in
-    let made : event_from c.string_meaning.result ≡ Some (string_event item.manner item.kind (is.head ++ is.bytes)) =
-    cc (c.string_meaning.ensures, bytes) in
+    let made : event_from c.string_meaning-meaning.result ≡ Some (string_event item.manner item.kind (is.head ++ is.bytes)) =
+    cc (c.string_meaning-meaning.ensures, bytes) in
     emits_refused g.S.EventSink.takes c.args.self.now _ c.args.sink.now _ more _ c.from_residual.ensures.0
     (string_refused c.args.self.now.reading u more item is c.requires.reads
-    (subst (λ found. IfSome found NeedsMemory) made c.in_err-event-in-Item.ensures.refused))
-    refl refl
+    (subst (λ found. IfSome found NeedsMemory) made c.in_err-emit_meaning-in-Item.ensures.refused))
+    refl c.in_err-emit_meaning-in-Item.ensures.refused_same
