@@ -51,6 +51,7 @@ dist-tree: dist-source
 	cd $(source) && cp $$(cat debian/libhedrugal-dev.examples) $(tree)/c/ && cp $$(cat debian/libhedrugal-dev.docs) $(tree)/docs/ && \
 		cp -r python/hedrugal python/examples $(tree)/python/ && cp -r rust LICENSE THIRD-PARTY python/hedrugal.spdx.json $(tree)/
 	ln -s ../../lib/libhedrugal.so $(tree)/python/hedrugal/
+	install -m 644 $(source)/python/prebuilt/$(processor)-linux/libhedrugal-python.so $(tree)/python/hedrugal/
 	sed 's/@VERSION@/$(VERSION)/; s/@PROCESSOR@/$(if $(filter aarch64,$(processor)),64-bit ARM,x86-64)/' tools/package/README > $(tree)/README
 
 dist-tarball: dist-tree

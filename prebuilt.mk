@@ -1,5 +1,5 @@
 # prebuilt/: for machines without the kit, the archive of the library and the program keyshow as an object, for two processors; python/prebuilt/:
-# the shared library for Python, made of that archive. PROVENANCE beside them says of what they were made, and by which proofs. What is built again
+# the shared library for Python, made of that archive, and the part of the Python package that is compiled. PROVENANCE beside them says of what they were made, and by which proofs. What is built again
 # has to be the same bytes: make prebuilt-check.
 .PHONY: prebuilt prebuilt-check python-prebuilt
 prebuilt_folders := $(processors:%=prebuilt/%-linux)
@@ -10,7 +10,7 @@ prebuilt: $(prebuilt_folders:%=out/%/PROVENANCE) ## proves and builds what the f
 	@$(MAKE) --silent python-prebuilt
 	@echo 'make: wrote $(words $(processors)) folders of prebuilt'
 
-python-prebuilt: $(python_folders:%=out/%/PROVENANCE) ## makes the libraries of python/prebuilt of what the folder prebuilt has, without the kit
+python-prebuilt: $(python_folders:%=out/%/PROVENANCE) ## makes what python/prebuilt has of the folder prebuilt and python/compiled, without the kit
 	@mkdir -p python/prebuilt && cp -r out/python/prebuilt/. python/prebuilt/
 
 prebuilt-check: $(prebuilt_folders:%=out/%/PROVENANCE) $(python_folders:%=out/%/PROVENANCE) ## says whether both have the bytes that are built again
@@ -84,12 +84,20 @@ out/python/prebuilt/%-linux/libhedrugal.so: prebuilt/%-linux/libhedrugal.a c/hed
 	@mkdir -p $(@D)
 	$(call python_library,$*,$<)
 
-out/python/prebuilt/%-linux/PROVENANCE: out/python/prebuilt/%-linux/libhedrugal.so
+# The part of the Python package that is compiled. It finds the C library and Python in the process in the same way, and the library's calls are
+# told it. Of Python it knows the stable ABI alone: so one file will do for each version from 3.9 on.
+out/python/prebuilt/%-linux/libhedrugal-python.so: python/compiled/reader.c python/compiled/python.h c/hedrugal.h
+	@mkdir -p $(@D)
+	$*-linux-gnu-gcc -std=c11 -Wall -Wextra -O2 -fPIC -fstack-protector-strong -fvisibility=hidden -Ic -shared -nostdlib -s \
+		-Wl,--build-id=none -Wl,-z,now,-z,relro,-z,noexecstack -o $@ $<
+
+out/python/prebuilt/%-linux/PROVENANCE: out/python/prebuilt/%-linux/libhedrugal.so out/python/prebuilt/%-linux/libhedrugal-python.so
 	@{ echo 'library: $(VERSION)'; \
 	  echo "linked by: $$($*-linux-gnu-ld --version | head -n 1)"; \
 	  echo "of: prebuilt/$*-linux/libhedrugal.a, sha256 $$(sha256sum < prebuilt/$*-linux/libhedrugal.a | cut -d ' ' -f 1)"; \
-	  echo "sha256 $(<F): $$(sha256sum < $< | cut -d ' ' -f 1)"; \
-	  echo 'to check: make python-prebuilt links the same bytes again'; \
+	  echo "compiled by: $$($*-linux-gnu-gcc --version | head -n 1)"; \
+	  for file in $(^F); do echo "sha256 $$file: $$(sha256sum < $(@D)/$$file | cut -d ' ' -f 1)"; done; \
+	  echo 'to check: make python-prebuilt makes the same bytes again'; \
 	} > $@
 
 # The prebuilt library and keyshow for 64-bit ARM, as make builds them for the processor of this machine.

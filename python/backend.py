@@ -3,7 +3,8 @@
     pip install ./python
     python3 backend.py FOLDER      writes the wheel to a folder
 
-The wheel has the shared library: what HEDRUGAL_LIBRARY names, a file or a folder, or else what make
+The wheel has the part of the module that is compiled, which lies prebuilt in this folder, and the
+shared library: what HEDRUGAL_LIBRARY names, a file or a folder, or else what make
 built in out/lib, or else the installed one, or else the prebuilt one of this folder.
 `pip install -v` says which it is. The same files make the same bytes, of the time that
 SOURCE_DATE_EPOCH names, or of 1980. HEDRUGAL_URL is the address of the project for its metadata."""
@@ -26,6 +27,8 @@ HERE = Path(__file__).resolve().parent
 MODULE = (HERE / "hedrugal/__init__.py").read_text(encoding="utf-8")
 VERSION = re.search('^__version__ = "(.*)"$', MODULE, re.M)[1]
 NAME = f"hedrugal-{VERSION}"
+# The part of the module that is compiled.
+COMPILED = "libhedrugal-python.so"
 # The earliest time that a zip file can tell.
 SECONDS = max(int(os.environ.get("SOURCE_DATE_EPOCH", 0)), 315532800)
 # The processors by their numbers in the header of an ELF file: the name, which of them the library
@@ -98,13 +101,22 @@ def installed_library():
 
 
 def prebuilt_library():
-    """Returns the prebuilt library, if it is what is noted beside it."""
-    file = HERE / f"prebuilt/{platform.machine()}-{sys.platform}/libhedrugal.so"
+    return prebuilt("libhedrugal.so", "HEDRUGAL_LIBRARY can name a libhedrugal.so")
+
+
+def compiled(machine):
+    """Returns the part of the module that is compiled, for a processor."""
+    return prebuilt(COMPILED, "get that folder again", machine)
+
+
+def prebuilt(name, otherwise, machine=platform.machine()):
+    """Returns a prebuilt file, if it is what is noted beside it."""
+    file = HERE / f"prebuilt/{machine}-{sys.platform}/{name}"
     if not file.exists():
-        stop(f"there is no {file}: HEDRUGAL_LIBRARY can name a libhedrugal.so")
+        stop(f"there is no {file}: {otherwise}")
     checksum = hashlib.sha256(file.read_bytes()).hexdigest()
     provenance = file.with_name("PROVENANCE").read_text(encoding="utf-8")
-    if f"sha256 libhedrugal.so: {checksum}\n" not in provenance:
+    if f"sha256 {name}: {checksum}\n" not in provenance:
         stop(f"{file} isn't what PROVENANCE beside it says: get that folder again")
     return file
 
@@ -177,6 +189,7 @@ def files_of_wheel(library, row):
     note = f"\nThe wheel has the library, for {row[1]}.\n"
     yield from files_of_module()
     yield "hedrugal/libhedrugal.so", library
+    yield f"hedrugal/{COMPILED}", compiled(row[0]).read_bytes()
     for name, data in documents():
         yield f"{NAME}.dist-info/{name}", data
     yield f"{NAME}.dist-info/METADATA", (METADATA + note).encode()
@@ -212,6 +225,7 @@ def build_editable(wheel_directory, config_settings=None, metadata_directory=Non
     """Writes a wheel that leads to this folder, whose module takes the prebuilt library: a hook of
     PEP 660."""
     print(f"hedrugal: the library is the prebuilt one: {prebuilt_library()}")
+    compiled(platform.machine())
     files = {"hedrugal.pth": f"{HERE}\n", f"{NAME}.dist-info/METADATA": METADATA}
     data = ((name, text.encode()) for name, text in files.items())
     return write_wheel(wheel_directory, data, "py3-none-any")
@@ -229,7 +243,7 @@ def files_of_sdist():
     yield "PKG-INFO", METADATA.encode()
     for name in ("README.md", "backend.py", "pyproject.toml"):
         yield name, (HERE / name).read_bytes()
-    for path in sorted((HERE / "prebuilt").glob("*/*")):
+    for path in sorted([*(HERE / "prebuilt").glob("*/*"), *(HERE / "compiled").glob("*")]):
         yield str(path.relative_to(HERE)), path.read_bytes()
 
 

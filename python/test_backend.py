@@ -15,6 +15,7 @@ from helpers import HERE, LIBRARY, TOP, read, run_python, set_version
 
 NAME = f"hedrugal-{hedrugal.__version__}"
 PREBUILT = f"python/prebuilt/{platform.machine()}-linux"
+COMPILED = "libhedrugal-python.so"
 SAID = "hedrugal: the library is"
 # The test's machine may have the library installed.
 BUILD = """
@@ -82,6 +83,7 @@ def test_wheel(tree):
         if path.is_file() and "__pycache__" not in path.parts and path.suffix != ".so":
             assert files[str(path.relative_to(HERE))] == path.read_bytes()
     assert files["hedrugal/libhedrugal.so"] == Path(LIBRARY).read_bytes()
+    assert files[f"hedrugal/{COMPILED}"] == (tree / PREBUILT / COMPILED).read_bytes()
     tags = platforms_of(files)
     assert wheel.name == f"{NAME}-py3-none-{'.'.join(tags)}.whl"
     assert tags[0].startswith("manylinux_") and tags[0].endswith(platform.machine())
@@ -114,14 +116,15 @@ def test_prebuilt(tree):
 
 @pytest.mark.parametrize("processor", ["x86_64", "aarch64"])
 def test_shared_libraries(processor):
-    """They are of the archives that lie in the folder prebuilt, and name no C library."""
+    """The library is of the archive that lies in the folder prebuilt. Neither names a C library."""
     noted = read(f"python/prebuilt/{processor}-linux/PROVENANCE")
     folder = f"prebuilt/{processor}-linux"
     (archive,) = re.findall("^sha256 libhedrugal.a: (.*)$", read(f"{folder}/PROVENANCE"), re.M)
     assert f"of: {folder}/libhedrugal.a, sha256 {archive}\n" in noted
-    library = Path(HERE, folder, "libhedrugal.so").read_bytes()
-    assert f"sha256 libhedrugal.so: {hashlib.sha256(library).hexdigest()}\n" in noted
-    assert b"libc." not in library and b"GLIBC" not in library
+    for name in ("libhedrugal.so", COMPILED):
+        library = Path(HERE, folder, name).read_bytes()
+        assert f"sha256 {name}: {hashlib.sha256(library).hexdigest()}\n" in noted
+        assert b"libc." not in library and b"GLIBC" not in library
 
 
 def test_metadata(tree):
@@ -187,8 +190,9 @@ def refusal(tree, **how):
     return errors
 
 
-def test_damaged(tree):
-    file = tree / PREBUILT / "libhedrugal.so"
+@pytest.mark.parametrize("name", ["libhedrugal.so", COMPILED])
+def test_damaged(tree, name):
+    file = tree / PREBUILT / name
     file.write_bytes(file.read_bytes() + b"damage")
     for hook in ("build_wheel", "build_editable"):
         assert f"{file} isn't what PROVENANCE beside it says" in refusal(tree, hook=hook)
@@ -197,6 +201,8 @@ def test_damaged(tree):
 def test_no_prebuilt_library(tree):
     shutil.rmtree(tree / PREBUILT)
     assert f"there is no {tree}/{PREBUILT}/libhedrugal.so: HEDRUGAL_LIBRARY" in refusal(tree)
+    told = refusal(tree, HEDRUGAL_LIBRARY=LIBRARY)
+    assert f"there is no {tree}/{PREBUILT}/{COMPILED}: get that folder again" in told
 
 
 def test_named_library(tree):

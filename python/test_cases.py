@@ -67,7 +67,7 @@ def limit(parser, limits):
 def step_told(parser, name, words, start):
     """What a step of a run tells."""
     if name == "next":
-        return events_line(parser._tell(lambda _: numbers.STATUS_OK))
+        return events_line(parser._tell())
     if name == "waiting":
         return f"{parser.waiting.name.lower()} {parser.waiting_len}"
     if name == "skip":

@@ -136,10 +136,19 @@ def test_it_keeps_pythons_lock():
     assert isinstance(library, ctypes.PyDLL)
 
 
+COMPILED = f"prebuilt/{platform.machine()}-linux/libhedrugal-python.so"
+
+
+def copied(folder):
+    """A copy of the package alone, with what is compiled of it, in a folder on Python's path."""
+    package = shutil.copytree(os.path.join(HERE, "hedrugal"), folder / "hedrugal")
+    shutil.copy(os.path.join(HERE, COMPILED), package)
+    return package
+
+
 @pytest.fixture
 def package(tmp_path):
-    """A copy of the package alone, on Python's path."""
-    return shutil.copytree(os.path.join(HERE, "hedrugal"), tmp_path / "hedrugal")
+    return copied(tmp_path)
 
 
 def test_where_it_is_found(package):
@@ -173,6 +182,20 @@ def test_not_found(package, tmp_path):
     assert_message(import_it(env, before=find_library({})), str(package))
 
 
+def test_what_is_compiled(package, tmp_path):
+    """It is found in the package's folder, or else beside it as in a clone."""
+    env = {"PYTHONPATH": str(tmp_path), "HEDRUGAL_LIBRARY": LIBRARY}
+    within, beside = package / "libhedrugal-python.so", tmp_path / COMPILED
+    beside.parent.mkdir(parents=True)
+    shutil.move(within, beside)
+    assert import_it(env) == f"{LIBRARY}\n"
+    within.write_text("text")
+    assert_message(import_it(env), str(within))
+    within.unlink()
+    beside.unlink()
+    assert_message(import_it(env), f"no libhedrugal-python.so in {package}")
+
+
 def test_another_library():
     other = re.search(r"\S+/libc\.so\.6", read("/proc/self/maps"))
     if not other:
@@ -184,8 +207,7 @@ def test_another_library():
 def import_of_version(folder, version):
     """What an import of the module prints, if it is of another version."""
     shutil.rmtree(folder / "hedrugal", ignore_errors=True)
-    shutil.copytree(os.path.join(HERE, "hedrugal"), folder / "hedrugal")
-    set_version(folder / "hedrugal", version)
+    set_version(copied(folder), version)
     return import_it({"PYTHONPATH": str(folder), "HEDRUGAL_LIBRARY": LIBRARY}, cwd=folder)
 
 

@@ -6,9 +6,10 @@ from unittest import mock
 import pytest
 
 import hedrugal
-from hedrugal import Chord, Csi, FocusGained, KeyMap, KeyPress, KeyReport, KittyKeyboardFlags
-from hedrugal import KittyModifiers, MouseButton, MouseEncoding, MouseTracking, ParseError, Parser
-from hedrugal import Paste, PastePart, SentMouse, Waiting, encode_event, encode_paste, reply
+from hedrugal import Chord, Csi, Dialect, FocusGained, KeyCode, KeyMap, KeyPress, KeyReport
+from hedrugal import KittyKeyboardFlags, KittyModifiers, MouseButton, MouseEncoding, MouseTracking
+from hedrugal import ParseError, Parser, Paste, PastePart, SentMouse, Waiting, encode_event
+from hedrugal import encode_paste, reply
 from hedrugal._calls import STATUS_NO_MEMORY, RawHandle
 from hedrugal._library import library
 from helpers import EVENTS, LIMITS, STREAM, assert_prints, assert_raises, assert_refused
@@ -29,6 +30,22 @@ assert isinstance(error, ParseError) and not error.taken and "not taken" in str(
 assert error.events == []
 limit(None)
 assert parser.feed(b"\\x1b[201~q") == [Paste("x" * (fed * len(body))), KeyReport("q")]
+print("good")
+"""
+
+# A list of three million events has 24 MB.
+REFUSED_PLACES = """
+count, parser = 3 << 20, Parser(dialect)
+parser.feed(b"\\x1b[200~" + b"x" * count)
+assert parser.skip_paste() == count
+data = b"\\x1b[201~" + b"ab" * (count // 2)
+limit(16 * MB)
+error, _ = refused(lambda: parser.feed(data))
+limit(None)
+assert isinstance(error, ParseError) and error.taken and len(error.events) > MB
+assert parser.timeout() == 0
+told = error.events + parser.flush()
+assert told == [Paste(""), *[KeyReport("a"), KeyReport("b")] * (count // 2)]
 print("good")
 """
 
@@ -79,6 +96,13 @@ print("good")
 @needs_limits
 def test_feed():
     assert_prints(LIMITS + REFUSED_FEED, "good\n", MALLOC_ARENA_MAX="1")
+
+
+@needs_limits
+@pytest.mark.parametrize("dialect", Dialect)
+def test_places_in_the_list(dialect):
+    text = f"{LIMITS}dialect = {dialect!r}\n{REFUSED_PLACES}"
+    assert_prints(text, "good\n", MALLOC_ARENA_MAX="1")
 
 
 @needs_limits
@@ -193,21 +217,18 @@ def test_refused_table():
 
 @contextlib.contextmanager
 def refusal(count, error=MemoryError):
-    """In its block the next events but so many are refused memory, or raise another error."""
-    granted = iter([True] * count)
+    """In its block the next events but so many are refused memory, or raise another error. A parser
+    doesn't ask for one that it has told before."""
+    granted, known, events = iter([True] * count), hedrugal.parser._events, mock.MagicMock()
 
-    def refusing(make):
-        def made(*words):
-            event = make(*words)
-            if not next(granted, False):
-                raise error
-            return event
+    def event_of(record):
+        event = known[record]
+        if not next(granted, False):
+            raise error
+        return event
 
-        return made
-
-    events, event_of = mock.MagicMock(), refusing(hedrugal.parser.event_of)
-    events.__getitem__.side_effect = refusing(hedrugal.parser._events.__getitem__)
-    with mock.patch.multiple(hedrugal.parser, _events=events, event_of=event_of):
+    events.__getitem__.side_effect = event_of
+    with mock.patch.object(hedrugal.parser, "_events", events):
         yield
 
 
@@ -222,15 +243,18 @@ TEXTS = [b"a", b"b" * 500, b"c" * 512, b"d" * 5000]
 PASTES = b"x" + b"".join(b"\x1b[200~%s\x1b[201~" % it for it in TEXTS) + b"\x1b[97;;65uy\x1b[I"
 PASTED = [KeyReport("x"), *(Paste(it.decode()) for it in TEXTS)]
 PASTED += [KeyReport("a", text="A"), KeyReport("y"), FocusGained()]
+# Each of its events comes once.
+ONCE = STREAM.replace(b"hello", b"helo") + b"\x1b"
+EACH = [*EVENTS[:3], *EVENTS[4:-1], KeyReport(KeyCode.ESCAPE, KittyModifiers.ALT)]
 
 
-@pytest.mark.parametrize("data, events", [(STREAM, EVENTS), (PASTES, PASTED)])
+@pytest.mark.parametrize("data, events", [(ONCE, EACH), (PASTES, PASTED)])
 @pytest.mark.parametrize("again", ["feed", "idle", "flush", "end"])
 def test_each_event(data, events, again):
     """The error has the events before that one, and the next call those from it on."""
-    with Parser() as parser:
-        for count in range(len(events)):
-            is_last = data is STREAM and count == len(events) - 1
+    for count in range(len(events)):
+        with Parser() as parser:
+            is_last = data is ONCE and count == len(events) - 1
             with refusal(count), pytest.raises(ParseError) as caught:
                 told = parser.feed(data)
                 parser.flush()
@@ -245,38 +269,17 @@ def test_each_event(data, events, again):
             assert_rest(parser, 0, Waiting.NOTHING)
 
 
-def test_places_in_the_list(parser):
-    class Short(list):
-        """A list that is refused memory once, when it has so many events."""
-
-        def append(self, event):
-            if len(self) == count and not refused:
-                refused.append(event)
-                raise MemoryError
-            super().append(event)
-
-        def extend(self, events):
-            for event in events:
-                self.append(event)
-
-    for count in range(len(EVENTS) - 1):
-        refused = []
-        parser._told = Short()
-        with pytest.raises(ParseError) as caught:
-            parser.feed(STREAM)
-        assert refused == EVENTS[count : count + 1]
-        assert caught.value.events + parser.flush() == EVENTS
-
-
-def test_bytes_come_behind_a_flush(parser):
+@pytest.mark.parametrize("dialect", Dialect)
+def test_bytes_come_behind_a_flush(dialect):
     """So do those that come after what is due."""
     flushed = [KeyReport("[", KittyModifiers.ALT), *map(KeyReport, "1;5")]
     for count in range(len(flushed)):
-        assert parser.feed(b"\x1b[1;5", 5) == []
-        assert refused(count, parser.idle, 6).events == flushed[:count]
-        assert parser.timeout(6) == 0
-        assert parser.feed(b"A", 7) == [*flushed[count:], KeyReport("A")]
-        assert parser.timeout(7) is None
+        with Parser(dialect) as parser:
+            assert parser.feed(b"\x1b[1;5", 5) == []
+            assert refused(count, parser.idle, 6).events == flushed[:count]
+            assert parser.timeout(6) == 0
+            assert parser.feed(b"A", 7) == [*flushed[count:], KeyReport("A")]
+            assert parser.timeout(7) is None
 
 
 def test_bytes_that_come_too_early():

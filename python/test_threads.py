@@ -197,6 +197,32 @@ def test_signals(parser):
         signal.signal(signal.SIGUSR1, before)
 
 
+def test_in_a_long_call(parser):
+    """Other threads run meanwhile, and a signal's handler, whose exception loses nothing."""
+
+    class Stopped(Exception):
+        pass
+
+    def stop(*_):
+        if parser.lock._is_owned() and others:
+            raise Stopped
+
+    count, others, ends = 4 << 20, [], threading.Event()
+    other = threading.Thread(target=lambda: [others.append(1) for _ in iter(ends.is_set, True)])
+    before = signal.signal(signal.SIGALRM, stop)
+    try:
+        signal.setitimer(signal.ITIMER_REAL, 0.01, 0.01)
+        with pytest.raises(Stopped):
+            other.start()
+            parser.feed(b"q" * count)
+    finally:
+        signal.setitimer(signal.ITIMER_REAL, 0)
+        signal.signal(signal.SIGALRM, before)
+        ends.set()
+        other.join(SECONDS)
+    assert len(parser.flush()) == count
+
+
 def test_values_that_use_the_map_as_they_go():
     """They are let go once the call is over."""
     seen = []

@@ -147,18 +147,21 @@ check_processor() { # file
     "$processor-linux-gnu-objdump" -d --no-show-raw-insn "$1" > "$work/code" && [ -s "$work/code" ] && ! grep -E "$later" "$work/code"
 }
 
-# The wheel's library has the calls, and is for any C library: it names none, and no symbol's version.
+# The wheel's library has the calls, and is for any C library: it names none, and no symbol's version. So is the part that is compiled.
 check_wheel() {
-    local file=$unpacked/wheel/hedrugal/libhedrugal.so
-    same <(exports_of "$file") <(library_calls | sort) && ! readelf -dVW "$file" | grep -E 'NEEDED|GLIBC'
+    local folder=$unpacked/wheel/hedrugal
+    same <(exports_of "$folder/libhedrugal.so") <(library_calls | sort) &&
+        same <(exports_of "$folder/libhedrugal-python.so") <(echo hedrugal_functions) &&
+        ! readelf -dVW "$folder"/*.so | grep -E 'NEEDED|GLIBC'
 }
 
-# The tarball and the wheel have the files of the Python module, as they lie here, and the library where it looks for it.
+# The tarball and the wheel have the files of the Python module, as they lie here, and the two libraries where it looks for them.
 check_python() {
     local folder
     for folder in "$unpacked/$tarball/python" "$unpacked/wheel"; do
-        diff -r --exclude=__pycache__ --exclude=libhedrugal.so python/hedrugal "$folder/hedrugal" &&
-            [ -f "$folder/hedrugal/libhedrugal.so" ] || return
+        diff -r --exclude=__pycache__ --exclude='*.so' python/hedrugal "$folder/hedrugal" &&
+            [ -f "$folder/hedrugal/libhedrugal.so" ] &&
+            cmp "python/prebuilt/$processor-linux/libhedrugal-python.so" "$folder/hedrugal/libhedrugal-python.so" || return
     done
 }
 

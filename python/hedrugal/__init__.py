@@ -38,7 +38,8 @@ long as the parser says, since only time tells that an ESC is the Escape key:
 hedrugal.terminal has this loop, and sets a terminal up for it. `KeyPress.of_event` tells which key
 was pressed, a Chord is the name of keys, and Bindings tell what a program does at which chords.
 
-The module calls the shared library libhedrugal.so by ctypes. The environment variable
+The module calls the shared library libhedrugal.so by ctypes, and libhedrugal-python.so, which comes
+with it, makes its events. The environment variable
 HEDRUGAL_LIBRARY names the library's file, or the folder that has it. Both must belong to you or to
 root, and not be writable by all users. If the variable isn't set, the library is looked for in this
 package's folder, then in the folder prebuilt beside that, as a clone has it, and then where the

@@ -18,10 +18,11 @@ from typing import Iterable, List, NamedTuple, Optional, cast
 
 from . import Event, Parser, __version__
 from ._calls import RawEvent
-from ._library import Bytes, is_ok, library
+from ._library import Bytes, borrowed, is_ok, library
 from ._records import event_of
 from .page.lines import press_name
 from .terminal import Terminal
+from .timer import millis_of_now
 
 # The width of a name, and how many characters of an event or of its bytes are shown.
 _WIDTH, _MOST = 16, 60
@@ -45,17 +46,29 @@ class TracingParser(Parser):
     def feed(self, data: Bytes, now: Optional[float] = None) -> List[Event]:
         # What was forgotten meanwhile is no byte of a later event.
         del self._fed[: len(self._fed) - self.waiting_len]
-        self._fed += data
-        return super().feed(data, now)
+        (pointer, length), millis = borrowed(data), millis_of_now(now)
+        with self._alone():
+            # What memory was refused for comes first.
+            left = self._tell()
+            is_ok(library.hed_parser_feed(self.handle, millis, pointer, length), self._what)
+            self._fed += data
+            return left + self._tell()
 
-    def _move_events(self) -> None:
-        raw = RawEvent()
+    def _tell(self) -> List[Event]:
+        told, raw = [], RawEvent()
         while is_ok(library.hed_parser_next(self.handle, raw), self._what):
-            event = event_of(bytes(raw), self._whole_text(raw.text_len))
+            event = event_of(bytes(raw), self._text_of(raw.text_len))
             library.hed_parser_drop_text(self.handle)
             consumed = len(self._fed) - library.hed_parser_waiting_len(self.handle)
-            self._told.append(cast(Event, Traced(event, bytes(self._fed[:consumed]))))
+            told.append(cast(Event, Traced(event, bytes(self._fed[:consumed]))))
             del self._fed[:consumed]
+        return told
+
+    def _text_of(self, length: int) -> bytearray:
+        """The bytes of the event that the library told last."""
+        text = bytearray(length)
+        library.hed_parser_text(self.handle, *borrowed(text))
+        return text
 
 
 def word(character: str) -> str:

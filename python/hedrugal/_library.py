@@ -7,12 +7,14 @@ import ctypes.util
 import os
 import platform
 import sys
-from typing import Any, NoReturn, Tuple, Union
+from typing import Any, NoReturn, Optional, Tuple, Union
 
 from . import __version__
 from ._calls import CALLS, STATUS_NO_MEMORY, STATUS_NONE, STATUS_NOT_INITIALIZED, STATUS_OK
 
 Bytes = Union[bytes, bytearray, memoryview]
+
+_FOLDER = os.path.dirname(os.path.abspath(__file__))
 
 
 def _library_file() -> str:
@@ -25,19 +27,21 @@ def _library_file() -> str:
             if _is_open_to_others(path):
                 raise _not_loaded(f"another user may write to {path}")
         return file
-    folder = os.path.dirname(os.path.abspath(__file__))
-    # A wheel has it in this folder, and a clone the prebuilt one beside the folder.
-    for below in ("", f"../prebuilt/{platform.machine()}-linux"):
-        file = os.path.join(folder, below, "libhedrugal.so")
-        if os.path.exists(file):
-            return os.path.normpath(file)
-    found = ctypes.util.find_library("hedrugal")
+    found = beside("libhedrugal.so") or ctypes.util.find_library("hedrugal")
     if found:
         return found
     raise ImportError(
-        f"hedrugal: no libhedrugal.so in {folder} nor in the system's folders\n"
+        f"hedrugal: no libhedrugal.so in {_FOLDER} nor in the system's folders\n"
         "HEDRUGAL_LIBRARY can name its file or its folder."
     )
+
+
+def beside(name: str) -> Optional[str]:
+    """A file of this processor that comes with the package. A wheel has it in this folder, and a
+    clone the prebuilt one beside the folder."""
+    folders = _FOLDER, os.path.join(_FOLDER, f"../prebuilt/{platform.machine()}-linux")
+    files = (os.path.normpath(os.path.join(it, name)) for it in folders)
+    return next((it for it in files if os.path.exists(it)), None)
 
 
 def _is_open_to_others(path: str) -> bool:
@@ -58,11 +62,7 @@ def _load() -> ctypes.PyDLL:
             f"and this is a Python of {bits} bits for {machine} {sys.platform}"
         )
     file = _library_file()
-    try:
-        # A PyDLL keeps Python's lock while a call runs, so no two threads are in a call at once.
-        library = ctypes.PyDLL(file)
-    except OSError as error:
-        raise _not_loaded(str(error)) from None
+    library = _opened(file)
     _declare(library)
     number = library.hed_version()
     major, *later = number >> 16, number >> 8 & 255, number & 255
@@ -73,6 +73,14 @@ def _load() -> ctypes.PyDLL:
             f"and this module is for version {__version__} or a later one of {wanted}"
         )
     return library
+
+
+def _opened(file: str) -> ctypes.PyDLL:
+    """A PyDLL keeps Python's lock while a call runs, so no two threads are in a call at once."""
+    try:
+        return ctypes.PyDLL(file)
+    except OSError as error:
+        raise _not_loaded(str(error)) from None
 
 
 def _declare(library: ctypes.PyDLL) -> None:
@@ -93,6 +101,14 @@ def _not_loaded(why: str) -> ImportError:
 
 
 library: ctypes.PyDLL = _load()
+
+
+def compiled() -> ctypes.PyDLL:
+    """Loads the part of the package that is compiled."""
+    file = beside("libhedrugal-python.so")
+    if file is None:
+        raise ImportError(f"hedrugal: no libhedrugal-python.so in {_FOLDER}: get the package again")
+    return _opened(file)
 
 
 def fault() -> NoReturn:
@@ -132,15 +148,24 @@ def borrowed(data: Bytes) -> Tuple[Any, int]:
     keeps a bytearray from being resized."""
     if type(data) is bytes:
         return data, len(data)
-    if not isinstance(data, (bytes, bytearray, memoryview)):
-        raise TypeError(
-            f"bytes, a bytearray or a memoryview is required, not {type(data).__name__}"
-        )
-    view = memoryview(data)
+    view = _view_of(data)
     if view.readonly or not view.c_contiguous or not view.nbytes:
         copied = view.tobytes()
         return copied, len(copied)
     return ctypes.byref(ctypes.c_char.from_buffer(view)), view.nbytes
+
+
+def copied(data: Bytes) -> bytes:
+    """The bytes themselves, of whatever class they are."""
+    return data if type(data) is bytes else _view_of(data).tobytes()
+
+
+def _view_of(data: Bytes) -> memoryview:
+    if not isinstance(data, (bytes, bytearray, memoryview)):
+        raise TypeError(
+            f"bytes, a bytearray or a memoryview is required, not {type(data).__name__}"
+        )
+    return memoryview(data)
 
 
 def borrowed_text(text: str) -> Tuple[Any, int]:

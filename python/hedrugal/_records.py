@@ -2,9 +2,8 @@
 from __future__ import annotations
 
 import ctypes
-import functools
 import struct
-from typing import Any, Callable, Dict, Optional, Tuple, Union
+from typing import Any, Callable, Dict, Optional, Union
 
 from . import _calls as numbers
 from ._calls import NO_CODE, RawEvent
@@ -38,12 +37,10 @@ from .keys import KittyModifiers, Modifiers, key_of
 # The bytes of a struct, and how many bytes of text a key has whose event is found again.
 RECORD = ctypes.sizeof(RawEvent)
 _KEY_TEXT = 32
-# Which events are found again, and how many of them.
-_FOUND_AGAIN = frozenset((KeyReport, FocusGained, FocusLost))
+# What is found again, and how many of it.
+_FOUND_AGAIN = frozenset((KeyReport, FocusGained, FocusLost, MouseReport))
 _MOST_FOUND = 4096
 
-# The place of a mouse report, and that of the cursor.
-_place_of = struct.Struct("@10xHH").unpack_from
 _position_of = struct.Struct("@14xHH").unpack_from
 
 _of_text: Dict[int, Callable[[str], Event]] = {
@@ -63,8 +60,6 @@ _of_string: Dict[int, Callable[[StringKind, bytes], Event]] = {
 _kinds = {kind.value: kind for kind in KeyEventKind}
 _mouse_kinds = {kind.value: kind for kind in MouseKind}
 _string_kinds = {kind.value: kind for kind in StringKind}
-# The fields of mouse reports, by the bytes of a struct that tell all but the place.
-_mouse_reports: Dict[bytes, Dict[str, Any]] = {}
 # The bits of all flags that have names.
 _NAMED_FLAGS = (~KittyKeyboardFlags.NONE).value
 
@@ -73,16 +68,12 @@ def _character(code: int) -> Optional[str]:
     return None if code == NO_CODE else chr(code)
 
 
-class BringsText(Exception):
-    """An event brings bytes, and they weren't passed."""
-
-
-def event_of(record: bytes, text: Union[bytes, bytearray] = b"") -> Event:
+def event_of(record: bytes, text: Union[bytes, bytearray, memoryview] = b"") -> Event:
     """The event of a struct, and of the bytes that it brings."""
     raw = RawEvent.from_buffer_copy(record)
     kind = raw.kind
     if raw.text_len != len(text):
-        raise BringsText
+        fault()
     if kind == numbers.KIND_KEY:
         return KeyReport(
             key_of(raw.key, raw.detail) if raw.key else raw.detail,
@@ -90,7 +81,7 @@ def event_of(record: bytes, text: Union[bytes, bytearray] = b"") -> Event:
             _kinds.get(raw.key_event_kind) or fault(),
             _character(raw.shifted),
             _character(raw.base),
-            text.decode(),
+            str(text, "utf-8"),
         )
     if kind == numbers.KIND_MOUSE:
         return MouseReport(
@@ -104,7 +95,7 @@ def event_of(record: bytes, text: Union[bytes, bytearray] = b"") -> Event:
     if kind == numbers.KIND_CURSOR_POSITION:
         return CursorPosition(raw.row, raw.column)
     if kind in _of_text:
-        return _of_text[kind](text.decode())
+        return _of_text[kind](str(text, "utf-8"))
     if kind in _of_data:
         return _of_data[kind](bytes(text))
     if kind in _of_string:
@@ -122,43 +113,20 @@ def event_of(record: bytes, text: Union[bytes, bytearray] = b"") -> Event:
     fault()
 
 
-def _mouse_report(record: bytes) -> MouseReport:
-    """The report of a struct. A mouse that is moved brings many, and a frozen dataclass is slow to
-    make. So one that is the same but for its place is copied."""
-    report, what = MouseReport.__new__(MouseReport), record[1:6]
-    told = report.__dict__
-    found = _mouse_reports.get(what)
-    if found is None:
-        found = _mouse_reports[what] = vars(event_of(record))
-    told.update(found)
-    told["x"], told["y"] = _place_of(record)
-    return report
-
-
-class Events(Dict[bytes, Event]):
+class Events(Dict[bytes, Any]):
     """The events of structs, each with the bytes that its event brings behind it. Those of keys and
-    of the focus are found again."""
+    of the focus are found again.
 
-    def __missing__(self, record: bytes) -> Event:
-        if record[0] == numbers.KIND_MOUSE:
-            return _mouse_report(record)
+    A mouse that is moved brings many reports, and a frozen dataclass is slow to make. So of a
+    report at no place these are its fields, of which reports are made."""
+
+    def __missing__(self, record: bytes) -> Any:
         if record[0] == numbers.KIND_CURSOR_POSITION:
             return CursorPosition(*_position_of(record))
-        event = event_of(record[:RECORD], record[RECORD:])
+        event = event_of(record[:RECORD], memoryview(record)[RECORD:])
+        found = vars(event) if type(event) is MouseReport else event
         if type(event) in _FOUND_AGAIN and len(record) <= RECORD + _KEY_TEXT:
             if len(self) >= _MOST_FOUND:
                 self.clear()
-            self[record] = event
-        return event
-
-
-@functools.lru_cache(maxsize=None)
-def records(count: int) -> Callable[[Any, int], Tuple[bytes, ...]]:
-    """What unpacks so many structs of an array, from a place in bytes on."""
-    return struct.Struct(f"{RECORD}s" * count).unpack_from
-
-
-@functools.lru_cache(maxsize=None)
-def text_lengths(count: int) -> Callable[[Any], Tuple[int, ...]]:
-    """What unpacks how many bytes the events of so many structs bring."""
-    return struct.Struct("@" + f"{RECORD - 8}xN" * count).unpack_from
+            self[record] = found
+        return found

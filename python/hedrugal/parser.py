@@ -7,11 +7,11 @@ import sys
 from dataclasses import dataclass
 from typing import Any, Iterator, List, Optional, cast
 
+from . import _compiled
 from ._calls import (
     KIND_KEY,
     NO_PARTS,
     STATUS_BUSY,
-    STATUS_NONE,
     STATUS_OK,
     RawEntries,
     RawEvent,
@@ -19,24 +19,18 @@ from ._calls import (
     RawReading,
 )
 from ._enums import Named, numbered
-from ._library import Bytes, borrowed, fault, is_ok, library, refused
+from ._library import Bytes, borrowed, copied, fault, is_ok, library, refused
 from ._owned import Owned, UntilNone
-from ._records import RECORD, BringsText, Events, event_of, records, text_lengths
-from .events import Event
+from ._records import Events
+from .events import Event, MouseReport
 from .keys import Key, Modifiers, key_of
 from .reading import Dialect, Reading, number_of, raw_reading, reading_of
 from .timer import Policy, millis_of_now, raw_policy, wait_of
 
 __all__ = ["Completions", "Entry", "ParseError", "Parser", "Waiting"]
 
-# How many structs the library writes at once, and how many bytes that their events bring.
-_ROOM, _TEXT_ROOM = 72, 512
 # More bytes than an entry has.
 _ENTRY_ROOM = 16
-
-# Two calls again: one whose arguments have no types takes less time.
-_feed, _next_events = library["hed_parser_feed"], library["hed_parser_next_events"]
-_feed.restype = _next_events.restype = ctypes.c_uint32
 
 # All events of keys that are found again.
 _events = Events()
@@ -167,19 +161,9 @@ class Parser(Owned):
         super().__init__("parser", init, library.hed_parser_free)
         self._policy = Policy()
         self._parts: Optional[int] = None
-        # The library wrote so many events to the array, of which those from this place on are left,
-        # and the bytes that they bring to the text.
-        self._array, self._count, self._at = (RawEvent * _ROOM)(), ctypes.c_size_t(), 0
-        self._text: Any = ctypes.create_string_buffer(_TEXT_ROOM)
-        # Events that no call has returned yet. An exception of a signal's handler leaves some.
-        self._told: List[Event] = []
-        # What these calls are given. A time and a length are too wide for an int without a type.
-        self._now, self._length = ctypes.c_uint64(), ctypes.c_size_t()
-        self._pointer = ctypes.byref(self.handle)
-        self._next_words = (
-            *(self._pointer, ctypes.byref(self._array), ctypes.c_size_t.from_param(_ROOM)),
-            *(ctypes.byref(self._text), ctypes.c_size_t.from_param(_TEXT_ROOM)),
-            ctypes.byref(self._count),
+        # It has the events that no call has returned yet.
+        self._reader = _compiled.reader(
+            ctypes.addressof(self.handle), self.lock, is_ok, ParseError, MouseReport
         )
 
     def __repr__(self) -> str:
@@ -190,11 +174,10 @@ class Parser(Owned):
     def feed(self, data: Bytes, now: Optional[float] = None) -> List[Event]:
         """Takes bytes, which came now, and returns their events in order. Bytes that are no event
         yet stay buffered."""
-        pointer, length = borrowed(data)
-        millis = millis_of_now(now)
-        with self._alone():
-            self._now.value, self._length.value = millis, length
-            return self._tell(_feed, self._now, pointer, self._length)
+        text, millis = copied(data), None if now is None else millis_of_now(now)
+        # It takes the lock itself.
+        self._alone()
+        return _compiled.feed(self._reader, _events, text, millis)
 
     def idle(self, now: Optional[float] = None) -> List[Event]:
         r"""Says that nothing more came up to now: the program looked, as by a select that timed
@@ -208,19 +191,22 @@ class Parser(Owned):
             [0.05, KeyReport(key=KeyCode.ESCAPE)]"""
         millis = millis_of_now(now)
         with self._alone():
-            return self._tell(library.hed_parser_idle, millis)
+            library.hed_parser_idle(self.handle, millis)
+            return self._tell()
 
     def flush(self) -> List[Event]:
         """Returns the events of what is buffered, with no more to come. An open paste stays open.
         It is for a program that knows by itself that nothing more came, as at its pauses."""
         with self._alone():
-            return self._tell(library.hed_parser_flush)
+            library.hed_parser_flush(self.handle)
+            return self._tell()
 
     def end(self) -> List[Event]:
         """Says that nothing will ever come. Returns the events of all that is buffered: an open
         paste ends where it is."""
         with self._alone():
-            return self._tell(library.hed_parser_end)
+            library.hed_parser_end(self.handle)
+            return self._tell()
 
     def timeout(self, now: Optional[float] = None) -> Optional[float]:
         """Returns how many seconds to wait for more bytes, and None for ever. If none come, call
@@ -229,7 +215,7 @@ class Parser(Owned):
         told = millis_of_now(now)
         with self.lock:
             self._check_open()
-            if self._told or self._at < self._count.value:
+            if _compiled.has_left(self._reader):
                 return 0.0
             return wait_of(library.hed_parser_timeout(self.handle, told))
 
@@ -245,7 +231,7 @@ class Parser(Owned):
         with self._alone():
             answer = library.hed_parser_interrupted(self.handle, told)
             if answer == STATUS_BUSY:
-                self._move_events()
+                _compiled.keep(self._reader, _events)
                 answer = library.hed_parser_interrupted(self.handle, told)
             is_ok(answer, self._what)
 
@@ -381,8 +367,7 @@ class Parser(Owned):
         too."""
         with self._alone():
             self._check_open()
-            self._told.clear()
-            self._at = self._count.value
+            _compiled.forget(self._reader)
             library.hed_parser_drop_text(self.handle)
             return cast(int, library.hed_parser_reset(self.handle))
 
@@ -446,75 +431,6 @@ class Parser(Owned):
             is_ok(library.hed_parser_completions(self.handle, found), self._what)
         return Completions(range(found.first, found.first + found.count), bool(found.with_alt))
 
-    # The rest is called while the lock is held.
-
-    def _tell(self, call: Any, *words: Any) -> List[Event]:
-        """Makes a call that can bring events, and returns all that are there."""
-        taken = False
-        events: List[Event] = []
-        try:
-            answer = call(self._pointer, *words)
-            if answer == STATUS_BUSY:
-                self._move_events()
-                answer = call(self._pointer, *words)
-            taken = not answer or is_ok(answer, self._what)
-            self._move_events()
-        except MemoryError:
-            error = ParseError(self._told, taken)
-            self._told = events
-            raise error from None
-        self._told, events = events, self._told
-        return events
-
-    def _move_events(self) -> None:
-        """Moves all events to those that are told. What memory is refused for stays where it is,
-        and comes next."""
-        count, answer = self._count, STATUS_OK
-        while True:
-            # An exception of a signal's handler may come behind any call.
-            if self._at < count.value:
-                self._move_array()
-            if answer != STATUS_OK:
-                break
-            count.value = self._at = 0
-            answer = _next_events(*self._next_words)
-        if answer != STATUS_NONE:
-            is_ok(answer, self._what)
-
-    def _move_array(self) -> None:
-        told, at = self._told, self._at
-        before, structs = len(told), records(self._count.value - at)
-        try:
-            told.extend(map(_events.__getitem__, structs(self._array, at * RECORD)))
-            return
-        except BringsText:
-            pass
-        finally:
-            self._at = at + len(told) - before
-        self._move_texts()
-
-    def _move_texts(self) -> None:
-        """Does the same from the first event on that brings bytes. Only those of the last one may
-        be too many for the text."""
-        told, at, count = self._told, self._at, self._count.value
-        before, lengths = len(told), text_lengths(count)(self._array)
-        place = sum(lengths[:at])
-        try:
-            for record, length in zip(records(count - at)(self._array, at * RECORD), lengths[at:]):
-                end = place + length
-                if end <= _TEXT_ROOM:
-                    told.append(_events[record + self._text[place:end]])
-                else:
-                    told.append(event_of(record, self._whole_text(length)))
-                    library.hed_parser_drop_text(self.handle)
-                place = end
-        finally:
-            self._at = at + len(told) - before
-
-    def _whole_text(self, length: int) -> bytearray:
-        """The bytes of the event that the library told last."""
-        room = bytearray(length)
-        pointer, size = borrowed(room)
-        if library.hed_parser_text(self.handle, pointer, size) != length:
-            fault()
-        return room
+    def _tell(self) -> List[Event]:
+        """Returns all events that are there, while the lock is held."""
+        return _compiled.tell(self._reader, _events)
