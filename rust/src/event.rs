@@ -212,11 +212,18 @@ impl Event {
         self.key().and_then(KeyPress::second)
     }
 
-    // An event of the library, and the bytes that it brought.
+    // A key of the library whose text wasn't reported.
     #[inline]
+    pub(crate) fn of_key(event: &raw::Event) -> Event {
+        Event::Key(KeyReport::of(event, String::new()))
+    }
+
+    // An event of the library, and the bytes that it brought. It isn't inlined: so each field is
+    // written to its place alone.
+    #[inline(never)]
     pub(crate) fn of(event: &raw::Event, text: Vec<u8>) -> Event {
         match event.kind {
-            raw::KIND_KEY => Event::Key(KeyReport::of(event, text)),
+            raw::KIND_KEY => Event::Key(KeyReport::of(event, utf8(text))),
             raw::KIND_MOUSE => Event::Mouse(MouseReport::of(event)),
             raw::KIND_PASTE => Event::Paste(utf8(text)),
             raw::KIND_PASTE_PART => Event::PastePart(utf8(text)),
@@ -320,6 +327,14 @@ fn of_kind(kind: u8) -> raw::Event {
     }
 }
 
+impl raw::Event {
+    // Whether this is a key whose text wasn't reported.
+    #[inline]
+    pub(crate) fn is_plain_key(&self) -> bool {
+        self.kind == raw::KIND_KEY && self.text_len == 0
+    }
+}
+
 numbered!(MouseKind u8:
     Press MOUSE_KIND_PRESS,
     Release MOUSE_KIND_RELEASE,
@@ -330,6 +345,7 @@ numbered!(MouseKind u8:
 
 impl MouseReport {
     // A report of the library.
+    #[inline]
     fn of(report: &raw::Event) -> MouseReport {
         MouseReport {
             x: report.x,
@@ -366,6 +382,7 @@ numbered!(KeyEventKind u8:
 
 impl ReportedKey {
     // The key of a number of the library and what it carries.
+    #[inline]
     pub(crate) fn of(number: u16, detail: u32) -> ReportedKey {
         match number {
             0 => ReportedKey::Functional(detail),
@@ -384,7 +401,8 @@ impl ReportedKey {
 
 impl KeyReport {
     // A report of the library, and the text that the key types.
-    fn of(report: &raw::Event, text: Vec<u8>) -> KeyReport {
+    #[inline]
+    fn of(report: &raw::Event, text: String) -> KeyReport {
         KeyReport {
             key: ReportedKey::of(report.key, report.detail),
             modifiers: KittyModifiers::from_bits(report.modifiers).expect(FAULT),
@@ -392,16 +410,12 @@ impl KeyReport {
             // NO_CODE is no character.
             shifted: char::from_u32(report.shifted),
             base: char::from_u32(report.base),
-            text: utf8(text),
+            text,
         }
     }
 }
 
 // The text of an event.
-#[inline]
 fn utf8(text: Vec<u8>) -> String {
-    if text.is_empty() {
-        return String::new();
-    }
     String::from_utf8(text).expect(FAULT)
 }

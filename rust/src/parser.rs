@@ -40,6 +40,11 @@ impl Waiting {
     }
 }
 
+// An event of the library, which is written and read field by field. So aligned it is more often in
+// one line of the processor's cache, and no heap is asked for more than it gives anyway.
+#[repr(align(16))]
+struct Last(raw::Event);
+
 /// Reads events from the bytes that a terminal sends: keys, mouse reports, pastes, and replies.
 ///
 /// [`feed`](Parser::feed) buffers bytes, and the iterator tells events. However the bytes are cut
@@ -61,7 +66,7 @@ pub struct Parser {
     raw: Mutex<raw::Parser>,
     // The library's last event, and whether it is still to be told: it stays until memory for its
     // text is granted.
-    last: raw::Event,
+    last: Last,
     is_refused: bool,
     policy: Policy,
     clock: Clock,
@@ -91,7 +96,7 @@ impl Parser {
         table::share(|idle| unsafe { raw::hed_parser_init_sharing(&mut raw, dialect, idle) })?;
         Ok(Parser {
             raw: Mutex::new(raw),
-            last: raw::Event::default(),
+            last: Last(raw::Event::default()),
             is_refused: false,
             policy: Policy::usual(),
             clock: Clock::default(),
@@ -131,29 +136,60 @@ impl Parser {
     /// # Errors
     ///
     /// If memory is refused, for an event that brings text or bytes. It isn't lost: call again.
+    #[inline]
     pub fn try_next(&mut self) -> Result<Option<Event>, AllocError> {
-        self.next_by(Event::of)
+        let status = self.pull();
+        // Most events are such keys. One is made where the program takes it, so it isn't copied.
+        if status == raw::STATUS_OK && self.last.0.is_plain_key() {
+            return Ok(Some(Event::of_key(&self.last.0)));
+        }
+        self.told(status)
     }
 
-    // The same, as `of` makes an event of the library's and of the bytes that it brought.
+    // What isn't worth its code in each program that takes events.
+    #[inline(never)]
+    fn told(&mut self, status: u32) -> Result<Option<Event>, AllocError> {
+        self.told_by(status, Event::of)
+    }
+
+    // Does what `try_next` does, as `of` makes an event of the library's and of the bytes that it
+    // brought.
     pub(crate) fn next_by<Told>(
         &mut self,
         of: impl FnOnce(&raw::Event, Vec<u8>) -> Told,
     ) -> Result<Option<Told>, AllocError> {
-        if !self.is_refused {
-            let raw = self.raw.get_mut().unwrap_or_else(PoisonError::into_inner);
-            // SAFETY: `raw` is a parser, and `last` another value.
-            match unsafe { raw::hed_parser_next(raw, &mut self.last) } {
-                raw::STATUS_OK => {}
-                raw::STATUS_NONE => return Ok(None),
-                status => granted(status)?,
-            }
+        let status = self.pull();
+        self.told_by(status, of)
+    }
+
+    // Has the library tell an event, unless the last one is still to be told.
+    #[inline]
+    fn pull(&mut self) -> u32 {
+        if self.is_refused {
+            return raw::STATUS_OK;
         }
-        let text = match self.last.text_len {
+        let raw = self.raw.get_mut().unwrap_or_else(PoisonError::into_inner);
+        // SAFETY: `raw` is a parser, and `last` another value.
+        unsafe { raw::hed_parser_next(raw, &mut self.last.0) }
+    }
+
+    // What the library told by such a status.
+    #[inline]
+    fn told_by<Told>(
+        &mut self,
+        status: u32,
+        of: impl FnOnce(&raw::Event, Vec<u8>) -> Told,
+    ) -> Result<Option<Told>, AllocError> {
+        match status {
+            raw::STATUS_OK => {}
+            raw::STATUS_NONE => return Ok(None),
+            status => granted(status)?,
+        }
+        let text = match self.last.0.text_len {
             0 => Vec::new(),
             len => self.text(len)?,
         };
-        Ok(Some(of(&self.last, text)))
+        Ok(Some(of(&self.last.0, text)))
     }
 
     // The bytes that the last event brought. Once they are copied, the library keeps them no

@@ -19,10 +19,10 @@ impl Clock {
         const FIRST: u64 = 1 << 63;
         let first = self.first.unwrap_or(now);
         let millis = |time: Duration| u64::try_from(time.as_millis()).unwrap_or(FIRST);
-        let before = first.saturating_duration_since(now);
-        FIRST
-            .saturating_add(millis(now.saturating_duration_since(first)))
-            .saturating_sub(millis(before))
+        match now.checked_duration_since(first) {
+            Some(since) => FIRST.saturating_add(millis(since)),
+            None => FIRST.saturating_sub(millis(first.duration_since(now))),
+        }
     }
 }
 

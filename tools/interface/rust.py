@@ -12,10 +12,10 @@ from header import number_of
 OF_RUST = "key termwiz_mod button kitty_flag kitty_mod".split()
 # No call returns this status to Rust, whose texts are UTF-8. A constant without a use is a warning.
 UNUSED = "HED_BAD_TEXT"
-# The keys that carry something: its type in Rust, and how it is made of a detail.
+# The keys that carry something: its type in Rust, and what stands in its place in a table.
 CARRIED = {
-    "CHAR": ("(char)", "(char::from_u32(detail)?)"),
-    "FUNCTION": ("(u8)", "(u8::try_from(detail).ok()?)"),
+    "CHAR": ("(char)", "('\\0')"),
+    "FUNCTION": ("(u8)", "(0)"),
 }
 
 TYPES = {**INTEGERS, "bool": "bool", "void": "c_void", "size_t": "usize", "hed_status": "u32"}

@@ -543,6 +543,7 @@ impl Modifiers {
         .union(Modifiers::SUPER);
 
     // The set of Kitty's bits, of which the library has these alone.
+    #[inline]
     pub(crate) fn of_kitty(bits: u8) -> Modifiers {
         let set = Modifiers(u16::from(bits) << 1);
         assert!(Modifiers::OF_KITTY.contains(set), "{FAULT}");

@@ -210,7 +210,8 @@ pub enum KeyCode {
 
 impl KeyCode {
     // The number of the key in the C library.
-    pub(crate) fn number(self) -> u16 {
+    #[inline]
+    pub(crate) const fn number(self) -> u16 {
         match self {
             // hedrugal.h: key number
             KeyCode::Char(_) => 1,
@@ -316,11 +317,24 @@ impl KeyCode {
         }
     }
 
-    // The key of a number and what it carries, or `None` if there is no such key.
+    // The key of a number and what it carries, or `None` if there is no such key. Most keys are
+    // characters, which come first.
+    #[inline]
     pub(crate) fn of(number: u16, detail: u32) -> Option<KeyCode> {
+        const CHAR: u16 = KeyCode::Char('\0').number();
+        const FUNCTION: u16 = KeyCode::Function(0).number();
+        match number {
+            CHAR => char::from_u32(detail).map(KeyCode::Char),
+            FUNCTION => u8::try_from(detail).ok().map(KeyCode::Function),
+            _ => KEYS.get(usize::from(number)).copied().flatten(),
+        }
+    }
+
+    // The key of a number, whatever it carries.
+    const fn of_number(number: usize) -> Option<KeyCode> {
         Some(match number {
             // hedrugal.h: key of
-            1 => KeyCode::Char(char::from_u32(detail)?),
+            1 => KeyCode::Char('\0'),
             2 => KeyCode::Hyper,
             3 => KeyCode::Super,
             4 => KeyCode::Meta,
@@ -379,7 +393,7 @@ impl KeyCode {
             57 => KeyCode::Subtract,
             58 => KeyCode::Decimal,
             59 => KeyCode::Divide,
-            60 => KeyCode::Function(u8::try_from(detail).ok()?),
+            60 => KeyCode::Function(0),
             61 => KeyCode::NumLock,
             62 => KeyCode::ScrollLock,
             63 => KeyCode::Copy,
@@ -415,3 +429,14 @@ impl KeyCode {
         })
     }
 }
+
+// The keys by their numbers, with room for further ones. A look into a table takes less time than a
+// match of so many arms.
+static KEYS: [Option<KeyCode>; 128] = {
+    let (mut keys, mut number) = ([None; 128], 0);
+    while number < keys.len() {
+        keys[number] = KeyCode::of_number(number);
+        number += 1;
+    }
+    keys
+};
