@@ -7,6 +7,7 @@ turn, and of each the least time counts. What is printed is what docs/PERFORMANC
 
 - when and where it was
 - nanoseconds per item of an input, which is a character, a key or a report
+- the quotient of that and of what the quicker of libtermkey and crossterm takes
 - how many events each parser makes of an input, where these aren't its items
 - what many parsers cost that get reads in turn
 - what names of keys, bindings and a matcher cost, from C
@@ -179,6 +180,8 @@ PARSERS = {
     "crossterm": Builder.crossterm,
     "prompt_toolkit": lambda it: it.python("measure.py", "prompt_toolkit"),
 }
+# The other parsers that a program in C can have.
+C_PEERS = ["libtermkey", "crossterm"]
 # Those that read by one dialect.
 ALIKE = (
     ["Termwiz", "Rust", "Python"],
@@ -389,6 +392,30 @@ def events(inputs, columns, cells):
             yield [TITLES[name], f"{items:,}", *row]
 
 
+def beside(inputs, cells):
+    """The times of this library from C beside that of the quicker of C_PEERS, of those that make
+    the same events if one does, and the times in Rust beside those of arrays from C."""
+    for name in inputs:
+        own, *others = (
+            cells.get((name, it)) for it in ("Extended", "Extended arrays", "Rust Extended")
+        )
+        peers = {it: cells[name, it] for it in C_PEERS if (name, it) in cells}
+        if not (own and all(others) and peers):
+            continue
+        alike = {it: cell for it, cell in peers.items() if cell.events == own.events}
+        peer, cell = min((alike or peers).items(), key=lambda it: it[1].nanoseconds)
+        arrays, rust = others
+        ratios = (own, cell), (arrays, cell), (rust, arrays)
+        quotients = (f"{one.nanoseconds / other.nanoseconds:.2f}" for one, other in ratios)
+        yield [TITLES[name], peer if alike else f"{peer}, other events", *quotients]
+
+
+def beside_peers(inputs, cells):
+    rows = [*beside(inputs, cells)]
+    heads = ["Input", "peer", "Extended / peer", "Extended arrays / peer", "Rust Extended / arrays"]
+    return ["## Beside the quicker peer", table(heads, rows)] if rows else []
+
+
 def costs(many):
     for (column, count), found in many.items():
         making, *heap = found[0].numbers[3:]
@@ -454,6 +481,7 @@ def report(chosen, work):
         where(chosen, programs),
         "## Nanoseconds per item",
         table(["Input", "bytes each", *heads], times(inputs, columns, cells)),
+        *beside_peers(inputs, cells),
         *(["## Events of an input", table(["Input", "items", *heads], counts)] if counts else []),
         "## Many parsers",
         table(["Parser", "how many", *costs_of.split(", ")], costs(many)),
