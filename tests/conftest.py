@@ -12,6 +12,7 @@ import signal
 import subprocess
 import sys
 import threading
+import time
 from pathlib import Path
 
 import pytest
@@ -19,7 +20,9 @@ import pytest
 TOP = Path(__file__).resolve().parent.parent
 # No wait ends earlier, and no case: a machine with much to do takes ten times as long as another.
 SECONDS, CASE_SECONDS = 120, 1800
-REPEATED = []
+# A timed case that fails is run again after so many seconds, each time: what kept the machine busy
+# may be over by then.
+REPEAT_AFTER, REPEATED = [0, 5, 20], []
 
 LIBRARY = Path(os.environ.get("HEDRUGAL_LIBRARY") or TOP / "out/lib").absolute()
 LIBRARY = LIBRARY.parent if LIBRARY.is_file() else LIBRARY
@@ -152,9 +155,9 @@ def end_case(*_):
 
 @pytest.hookimpl(tryfirst=True)
 def pytest_pyfunc_call(pyfuncitem):
-    """Runs a case, which has a limit in time. A timed one is repeated once if it fails."""
+    """Runs a case, which has a limit in time. A timed one is repeated if it fails."""
     words = {it: pyfuncitem.funcargs[it] for it in pyfuncitem._fixtureinfo.argnames}
-    may_repeat = pyfuncitem.get_closest_marker("timed")
+    pauses = REPEAT_AFTER[:] if pyfuncitem.get_closest_marker("timed") else []
     signal.signal(signal.SIGALRM, end_case)
     while True:
         signal.alarm(CASE_SECONDS)
@@ -162,12 +165,12 @@ def pytest_pyfunc_call(pyfuncitem):
             pyfuncitem.obj(**words)
             return True
         except Exception as fault:
-            if not may_repeat:
+            if not pauses:
                 raise
-            may_repeat = False
             REPEATED.append(f"{pyfuncitem.nodeid}, after {str(fault).splitlines()[0]}")
         finally:
             signal.alarm(0)
+        time.sleep(pauses.pop(0))
 
 
 def pytest_terminal_summary(terminalreporter):
