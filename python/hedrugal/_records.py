@@ -118,13 +118,14 @@ class Events(Dict[bytes, Any]):
     of the focus are found again.
 
     A mouse that is moved brings many reports, and a frozen dataclass is slow to make. So of a
-    report at no place these are its fields, of which reports are made."""
+    report at no place these are its fields, of which reports are made. They lie in a dict of their
+    own: from Python 3.11 on, that of an object takes longer to copy."""
 
     def __missing__(self, record: bytes) -> Any:
         if record[0] == numbers.KIND_CURSOR_POSITION:
             return CursorPosition(*_position_of(record))
         event = event_of(record[:RECORD], memoryview(record)[RECORD:])
-        found = vars(event) if type(event) is MouseReport else event
+        found = dict(vars(event)) if type(event) is MouseReport else event
         if type(event) in _FOUND_AGAIN and len(record) <= RECORD + _KEY_TEXT:
             if len(self) >= _MOST_FOUND:
                 self.clear()

@@ -174,9 +174,12 @@ class Parser(Owned):
     def feed(self, data: Bytes, now: Optional[float] = None) -> List[Event]:
         """Takes bytes, which came now, and returns their events in order. Bytes that are no event
         yet stay buffered."""
-        text, millis = copied(data), None if now is None else millis_of_now(now)
+        # Most reads are bytes, and find the lock free: they are spared two calls.
+        text = data if type(data) is bytes else copied(data)
+        millis = None if now is None else millis_of_now(now)
+        if self.lock._is_owned():
+            self._alone()
         # It takes the lock itself.
-        self._alone()
         return _compiled.feed(self._reader, _events, text, millis)
 
     def idle(self, now: Optional[float] = None) -> List[Event]:
