@@ -233,20 +233,20 @@ static void print_chord(const hed_key_press *keys, size_t count) {
 
 /* Prints what is pending, and the chords that begin so: the rest of each, and its command. */
 static void print_menu(const edit *it) {
-  const hed_matcher *pending = &it->matcher;
-  size_t place, end;
-  if (pending->count == 0) return;
+  hed_key_press pending[HED_CHORD_MOST];
+  size_t pressed = hed_matcher_pending(&it->matcher, pending, HED_CHORD_MOST), place, end;
+  if (pressed == 0) return;
   fputs("pending: ", stdout);
-  print_chord(pending->keys, pending->count);
+  print_chord(pending, pressed);
   putchar('\n');
-  hed_bindings_continuations(&it->bindings, pending->keys, pending->count, &place, &end);
+  hed_bindings_continuations(&it->bindings, pending, pressed, &place, &end);
   for (; place < end; place++) {
     hed_key_press keys[HED_CHORD_MOST];
     size_t count;
     uint64_t command;
     hed_bindings_entry(&it->bindings, place, keys, HED_CHORD_MOST, &count, &command);
     fputs("  ", stdout);
-    print_chord(keys + pending->count, count - pending->count);
+    print_chord(keys + pressed, count - pressed);
     printf("  %s\n", commands[command]);
   }
 }

@@ -771,20 +771,23 @@ hed_status hed_bindings_entry(const hed_bindings *bindings, size_t place, hed_ke
  * are those of none or count is above HED_CHORD_MOST, or HED_NOT_INITIALIZED. */
 hed_status hed_bindings_continuations(const hed_bindings *bindings, const hed_key_press *keys, size_t count, size_t *first, size_t *end);
 
+/* The most bytes that the codes of a chord have: five for each press. */
+#define HED_CODES_MOST 160
+
 /* A matcher: it reads presses as chords and as single keys, and holds those that aren't decided yet. It owns no memory, and may be copied.
  *
  * The bindings are passed to each call. So a program may keep several, as for its modes, and change them at any time: what is pending is read
  * by those of the call. For each key a program calls hed_matcher_press, and then hed_matcher_next until that returns HED_NONE. */
 typedef struct hed_matcher {
   size_t count; /* the number of presses that are pending */
-  hed_key_press keys[HED_CHORD_MOST]; /* these presses; what is behind them doesn't count */
+  uint8_t codes[HED_CODES_MOST]; /* the library's: their codes, which hed_matcher_pending shows as presses */
 } hed_matcher;
 
 /* The value of a hed_matcher with nothing pending: all zero. */
 #define HED_MATCHER_NONE \
   {                      \
     0, {                 \
-      { 0, 0, 0 }        \
+      0                  \
     }                    \
   }
 
@@ -805,7 +808,7 @@ typedef struct hed_outcome {
 /* Puts a press behind those that are pending. No call of a matcher needs memory.
  *
  * Returns HED_OK, HED_FULL if HED_CHORD_MOST are pending, which isn't so after hed_matcher_next returned HED_NONE, or HED_BAD_NUMBER if the numbers
- * are those of no press, or the matcher has such. */
+ * are those of no press, or the matcher's bytes the codes of no presses. */
 hed_status hed_matcher_press(hed_matcher *matcher, const hed_key_press *press);
 
 /* Puts one of two presses behind those that are pending: the second if only that leads on, and else the first. A press leads on if some chord
@@ -821,7 +824,7 @@ hed_status hed_matcher_press_either(hed_matcher *matcher, const hed_bindings *bi
  * as a hed_timer tells, gives up: it makes this call with maybe_more as false until that returns HED_NONE.
  *
  * Returns HED_OK, and *outcome tells which chord or which press. Otherwise *outcome isn't written: HED_NONE if nothing is pending, or it waits,
- * HED_BAD_NUMBER if the numbers of the matcher are those of no presses, or HED_NOT_INITIALIZED if there are no bindings. */
+ * HED_BAD_NUMBER if the matcher's bytes are the codes of no presses, or HED_NOT_INITIALIZED if there are no bindings. */
 hed_status hed_matcher_next(hed_matcher *matcher, const hed_bindings *bindings, bool maybe_more, hed_outcome *outcome);
 
 /* Tells what giving up would decide first: what hed_matcher_next with maybe_more as false would write and return. It takes nothing. While that is
@@ -831,14 +834,14 @@ hed_status hed_matcher_on_pause(const hed_matcher *matcher, const hed_bindings *
 /* Returns whether what is pending is a mistake of several presses: no chord begins with them, and they begin with no chord. A program that
  * takes `ctrl+x z` as one mistake, as Emacs does, asks this after hed_matcher_press, and calls hed_matcher_cancel.
  *
- * Returns false if the numbers of the matcher are those of no presses, or there are no bindings. */
+ * Returns false if the matcher's bytes are the codes of no presses, or there are no bindings. */
 bool hed_matcher_is_dead_end(const hed_matcher *matcher, const hed_bindings *bindings);
 
 /* Copies the presses that are pending to keys, as many as room says, and returns how many they are: at most HED_CHORD_MOST. The rest of keys
- * is unchanged. Returns 0 if the numbers of the matcher are those of no presses. */
+ * is unchanged. Returns 0 if the matcher's bytes are the codes of no presses. */
 size_t hed_matcher_pending(const hed_matcher *matcher, hed_key_press *keys, size_t room);
 
-/* Does what hed_matcher_pending does, and leaves nothing pending, also if the numbers were those of no presses. */
+/* Does what hed_matcher_pending does, and leaves nothing pending, also if the bytes were the codes of no presses. */
 size_t hed_matcher_cancel(hed_matcher *matcher, hed_key_press *keys, size_t room);
 
 /* The two ages of what is pending, by which a hed_timer limits it: the field by of a hed_seen. */
@@ -1278,7 +1281,7 @@ HED_IS(event_width, offsetof(hed_event, width) == 24);
 HED_IS(event_end, offsetof(hed_event, detail) == 28 && offsetof(hed_event, base) == 36 && offsetof(hed_event, text_len) == 40);
 HED_IS(keymap, sizeof(hed_keymap) == 16 && offsetof(hed_keymap, state) == 8);
 HED_IS(bindings, sizeof(hed_bindings) == 16 && offsetof(hed_bindings, state) == 8);
-HED_IS(matcher, sizeof(hed_matcher) == 264 && offsetof(hed_matcher, keys) == 8);
+HED_IS(matcher, sizeof(hed_matcher) == 168 && offsetof(hed_matcher, codes) == 8);
 HED_IS(outcome, sizeof(hed_outcome) == 32 && offsetof(hed_outcome, press) == 16 && offsetof(hed_outcome, kind) == 24);
 HED_IS(entries, sizeof(hed_entries) == 24 && offsetof(hed_entries, count) == 8 && offsetof(hed_entries, with_alt) == 16);
 HED_IS(match, sizeof(hed_match) == 16 && offsetof(hed_match, value) == 8);

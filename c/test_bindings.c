@@ -2,7 +2,7 @@
  * for nothing are refused, and so is a handle that has no bindings. */
 #include "told.h"
 
-enum { CHORDS = 1000, MOST = 20000 };
+enum { CHORDS = 1000, MOST = 20000, CODE_LEN = HED_CODES_MOST / HED_CHORD_MOST };
 
 /* The chord with this number: three letters. */
 static void number_chord(unsigned number, hed_key_press *keys) {
@@ -71,7 +71,14 @@ static void binds_many_characters(void) {
   hed_bindings_free(&bindings);
 }
 
-/* Numbers of no press, no keys, too many keys, and a matcher with numbers of no presses. */
+/* The last bytes of the numbers of a press, as a matcher has them. */
+static void write_code(const hed_key_press *press, uint8_t *code) {
+  code[0] = (uint8_t)press->key;
+  for (size_t i = 1; i < CODE_LEN - 1; i++) code[i] = (uint8_t)(press->detail >> 8 * (3 - i));
+  code[CODE_LEN - 1] = press->held;
+}
+
+/* Numbers of no press, no keys, too many keys, and a matcher with the codes of no presses. */
 static void refuses_bad_numbers(void) {
   static const hed_key_press bad[] = {
     { HED_KEY_CHAR, 0, 0xd800 },
@@ -99,7 +106,7 @@ static void refuses_bad_numbers(void) {
     EXPECT(hed_matcher_press(&matcher, &bad[i]) == HED_BAD_NUMBER && matcher.count == 0);
     EXPECT(hed_matcher_press_either(&matcher, &bindings, keys, 2) == HED_BAD_NUMBER && matcher.count == 0);
     matcher.count = 2;
-    memcpy(matcher.keys, keys, 2 * sizeof *keys);
+    for (size_t k = 0; k < 2; k++) write_code(&keys[k], matcher.codes + k * CODE_LEN);
     EXPECT(hed_matcher_press(&matcher, keys) == HED_BAD_NUMBER && matcher.count == 2);
     EXPECT(hed_matcher_press_either(&matcher, &bindings, keys, 1) == HED_BAD_NUMBER);
     EXPECT(hed_matcher_next(&matcher, &bindings, false, &outcome) == HED_BAD_NUMBER && matcher.count == 2);

@@ -362,6 +362,9 @@ static void tell_outcome(const hed_outcome *outcome) {
   tell("%s%u", *told ? ", " : "", (unsigned)outcome->value);
 }
 
+/* How many bytes a matcher has of each press. */
+enum { CODE_LEN = HED_CODES_MOST / HED_CHORD_MOST };
+
 /* Tells all outcomes. What a call leaves unwritten stays. */
 static void take_outcomes(hed_matcher *matcher, const hed_bindings *bindings, bool more) {
   for (;;) {
@@ -377,7 +380,7 @@ static void take_outcomes(hed_matcher *matcher, const hed_bindings *bindings, bo
     EXPECT(answer == HED_OK && paused == HED_OK && outcome.kind == first.kind && outcome.keys == first.keys && outcome.value == first.value
            && outcome.press.detail == first.press.detail);
     EXPECT(matcher->count == before.count - outcome.keys);
-    EXPECT(memcmp(matcher->keys, before.keys + outcome.keys, matcher->count * sizeof *before.keys) == 0);
+    EXPECT(memcmp(matcher->codes, before.codes + outcome.keys * CODE_LEN, matcher->count * CODE_LEN) == 0);
     tell_outcome(&outcome);
   }
 }

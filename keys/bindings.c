@@ -159,8 +159,9 @@ void bindings_forget(bindings *it) {
 }
 
 bool bindings_following(const bindings *it, size_t *first, size_t *end) {
-  const hed_matcher *matcher = &it->matcher;
-  return bindings_is_pending(it) && hed_bindings_continuations(&it->chords, matcher->keys, matcher->count, first, end) == HED_OK;
+  hed_key_press keys[HED_CHORD_MOST];
+  size_t count = hed_matcher_pending(&it->matcher, keys, HED_CHORD_MOST);
+  return count > 0 && hed_bindings_continuations(&it->chords, keys, count, first, end) == HED_OK;
 }
 
 /* A chord's name behind so many keys, of which it has more. */

@@ -12,6 +12,7 @@ POINTER = ctypes.c_void_p
 # hedrugal.h: python numbers
 ENTRY_MOST = 11
 CHORD_MOST = 32
+CODES_MOST = 160
 QUESTIONS_MOST = 16
 NO_CODE = 4294967295
 NO_PARTS = 18446744073709551615
@@ -126,7 +127,7 @@ class RawPress(ctypes.Structure):
 class RawMatcher(ctypes.Structure):
     _fields_ = _fields(
         (SIZE, "count"),
-        (RawPress * CHORD_MOST, "keys"),
+        (U8 * CODES_MOST, "codes"),
     )
 
 

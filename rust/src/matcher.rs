@@ -62,7 +62,7 @@ impl Matcher {
     pub fn new() -> Matcher {
         Matcher(raw::Matcher {
             count: 0,
-            keys: [raw::KeyPress::default(); raw::CHORD_MOST],
+            codes: [0; raw::CODES_MOST],
         })
     }
 

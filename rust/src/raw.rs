@@ -7,6 +7,7 @@ use std::mem::{offset_of, size_of};
 // hedrugal.h: rust numbers
 pub const ENTRY_MOST: usize = 11;
 pub const CHORD_MOST: usize = 32;
+pub const CODES_MOST: usize = 160;
 pub const QUESTIONS_MOST: usize = 16;
 pub const NO_CODE: u32 = u32::MAX;
 pub const NO_PARTS: usize = usize::MAX;
@@ -188,13 +189,20 @@ macro_rules! structs {
         // these parsers atomically.
         unsafe impl Send for $name {}
     };
-    ($(#[$about:meta])* $name:ident { $($field:ident: $of:ty),+ }) => {
+    (@declared $(#[$about:meta])* $name:ident { $($field:ident: $of:ty),+ }) => {
         $(#[$about])*
         #[repr(C)]
-        #[derive(Debug, Clone, Copy, PartialEq, Eq, Hash, Default)]
+        #[derive(Debug, Clone, Copy, PartialEq, Eq, Hash)]
         pub struct $name {
             $(pub $field: $of,)+
         }
+    };
+    // Its array is longer than those that have a `Default`.
+    ($(#[$about:meta])* Matcher $fields:tt) => {
+        structs! { @declared $(#[$about])* Matcher $fields }
+    };
+    ($(#[$about:meta])* $name:ident { $($field:ident: $of:ty),+ }) => {
+        structs! { @declared $(#[$about])* #[derive(Default)] $name { $($field: $of),+ } }
     };
     ($($(#[$about:meta])* $name:ident $fields:tt)+) => {
         $(structs! { $(#[$about])* $name $fields })+
@@ -225,7 +233,7 @@ structs! {
     Bindings {}
     /// A matcher: it reads presses as chords and as single keys, and holds those that aren't
     /// decided yet.
-    Matcher { count: usize, keys: [KeyPress; CHORD_MOST] }
+    Matcher { count: usize, codes: [u8; CODES_MOST] }
     /// What the first of the pending presses do.
     Outcome { keys: usize, value: u64, press: KeyPress, kind: u32 }
     /// What a program tells a hed_timer: what is pending now, and what happened since the last
@@ -275,7 +283,7 @@ const _: () = {
     is_laid_out!(Entries 24 first 0 count 8 with_alt 16);
     is_laid_out!(KeyPress 8 key 0 held 2 detail 4);
     is_laid_out!(Bindings 16 live 0 state 8);
-    is_laid_out!(Matcher 264 count 0 keys 8);
+    is_laid_out!(Matcher 168 count 0 codes 8);
     is_laid_out!(Outcome 32 keys 0 value 8 press 16 kind 24);
     is_laid_out!(Seen 8 limit 0 by 4 fed 5 taken 6 empty 7);
     is_laid_out!(Timer 40 last 0 front 8 noted 16 millis 24 by 32 has_noted 33 has_limit 34

@@ -27,6 +27,7 @@
 #include <string.h>
 
 enum { MOST_CALLS = 256, ROOM_FOR = 40, MANY = 4, NAME_MAX = 64 * HED_CHORD_MOST, ANY_NUMBERS = 0xf0, ANY_CHARACTER = 0xe0 };
+enum { CODE_LEN = HED_CODES_MOST / HED_CHORD_MOST };
 
 /* A list of presses, which may have more of them than a chord has, and such that are none. */
 typedef struct chord {
@@ -323,8 +324,23 @@ static void list_longer(const chord *keys) {
 
 /* Calls of the matcher. */
 
+/* The numbers that the codes of a matcher have. */
+typedef struct pending {
+  hed_key_press keys[HED_CHORD_MOST];
+} pending;
+
+static pending pending_in(const hed_matcher *of) {
+  pending it;
+  for (size_t i = 0; i < HED_CHORD_MOST; i++) {
+    const uint8_t *code = &of->codes[i * CODE_LEN];
+    it.keys[i] = (hed_key_press){ code[0], code[4], (uint32_t)code[1] << 16 | (uint32_t)code[2] << 8 | code[3] };
+  }
+  return it;
+}
+
 static bool is_good(void) {
-  return matcher.count <= HED_CHORD_MOST && are_presses(matcher.keys, matcher.count);
+  pending now = pending_in(&matcher);
+  return matcher.count <= HED_CHORD_MOST && are_presses(now.keys, matcher.count);
 }
 
 /* Puts the matcher into its room for a call that needs no memory, and takes it back. */
@@ -342,10 +358,11 @@ static void end_call(void) {
 /* Whether the matcher is as it was, but that some presses were taken from its front, and some put behind the others. */
 static bool is_moved(const hed_matcher *before, size_t removed, const hed_key_press *added, size_t count) {
   if (removed == 0 && count == 0) return memcmp(&matcher, before, sizeof matcher) == 0;
+  pending now = pending_in(&matcher), then = pending_in(before);
   size_t kept = before->count - removed;
   bool is_so = matcher.count == kept + count;
   for (size_t i = 0; i < matcher.count && is_so; i++)
-    is_so = compare_presses(&matcher.keys[i], i < kept ? &before->keys[i + removed] : &added[i - kept]) == 0;
+    is_so = compare_presses(&now.keys[i], i < kept ? &then.keys[i + removed] : &added[i - kept]) == 0;
   return is_so;
 }
 
@@ -359,7 +376,8 @@ static hed_status answer_to(const hed_key_press *keys, size_t count, bool is_eit
 /* Whether some chord begins with the first of the pending presses and this one. */
 static bool leads_on(size_t count, const hed_key_press *press) {
   hed_key_press keys[HED_CHORD_MOST + 1];
-  memcpy(keys, matcher.keys, count * sizeof *keys);
+  pending now = pending_in(&matcher);
+  memcpy(keys, now.keys, count * sizeof *keys);
   keys[count] = *press;
   return find(keys, count + 1) || goes_on(keys, count + 1);
 }
@@ -401,9 +419,10 @@ static void press_either(input *it) {
 static hed_status decide(bool more, hed_outcome *outcome) {
   if (!is_good()) return HED_BAD_NUMBER;
   if (!is_made) return HED_NOT_INITIALIZED;
-  if (matcher.count == 0 || (more && goes_on(matcher.keys, matcher.count))) return HED_NONE;
-  const entry *longest = find_longest(matcher.keys, matcher.count);
-  *outcome = (hed_outcome){ 1, 0, matcher.keys[0], HED_OUTCOME_UNBOUND };
+  pending now = pending_in(&matcher);
+  if (matcher.count == 0 || (more && goes_on(now.keys, matcher.count))) return HED_NONE;
+  const entry *longest = find_longest(now.keys, matcher.count);
+  *outcome = (hed_outcome){ 1, 0, now.keys[0], HED_OUTCOME_UNBOUND };
   if (longest) *outcome = (hed_outcome){ longest->keys.count, longest->value, { 0, 0, 0 }, HED_OUTCOME_BOUND };
   return HED_OK;
 }
@@ -437,20 +456,22 @@ static void take_all(bool more) {
 /* Shows what is pending, or cancels it. */
 static void show_pending(size_t count, bool is_cancel) {
   hed_matcher before = matcher;
-  size_t pending = is_good() ? matcher.count : 0;
+  pending then = pending_in(&before);
+  size_t shown = is_good() ? matcher.count : 0;
   hed_key_press *keys = make_room(count);
   size_t fit = taken.len / sizeof *keys;
   hed_matcher *at = begin_call();
-  HOLDS((is_cancel ? hed_matcher_cancel(at, keys, fit) : hed_matcher_pending(at, keys, fit)) == pending);
+  HOLDS((is_cancel ? hed_matcher_cancel(at, keys, fit) : hed_matcher_pending(at, keys, fit)) == shown);
   end_call();
-  HOLDS(are_taken(before.keys, pending) && (is_cancel ? matcher.count == 0 : is_moved(&before, 0, NULL, 0)));
+  HOLDS(are_taken(then.keys, shown) && (is_cancel ? matcher.count == 0 : is_moved(&before, 0, NULL, 0)));
 }
 
-/* Writes numbers into the matcher, as a program may. */
+/* Writes the last bytes of numbers into the matcher, as a program may. */
 static void write_into_matcher(input *it) {
   uint8_t at = take_byte(it);
   hed_key_press key = take_press(it);
-  if (at < HED_CHORD_MOST) matcher.keys[at] = key;
+  uint8_t code[] = { (uint8_t)key.key, (uint8_t)(key.detail >> 16), (uint8_t)(key.detail >> 8), (uint8_t)key.detail, key.held };
+  if (at < HED_CHORD_MOST) memcpy(&matcher.codes[at * CODE_LEN], code, CODE_LEN);
   else matcher.count = at == UINT8_MAX ? SIZE_MAX : (size_t)(at - HED_CHORD_MOST);
 }
 
@@ -459,8 +480,9 @@ static void check_state(void) {
   hed_matcher before = matcher;
   hed_outcome wanted, *outcome = room_of(&taken, sizeof *outcome);
   hed_status decided = decide(false, &wanted);
+  pending now = pending_in(&matcher);
   bool is_dead_end =
-      is_made && is_good() && matcher.count > 1 && !goes_on(matcher.keys, matcher.count) && !find_longest(matcher.keys, matcher.count);
+      is_made && is_good() && matcher.count > 1 && !goes_on(now.keys, matcher.count) && !find_longest(now.keys, matcher.count);
   hed_matcher *at = begin_call();
   HOLDS(hed_matcher_on_pause(at, bindings, outcome) == decided && is_outcome(decided, &wanted));
   HOLDS(hed_matcher_is_dead_end(at, bindings) == is_dead_end && hed_bindings_len(bindings) == entry_count);

@@ -11,6 +11,7 @@ from header import number_of, start_of
 from rust import MACROS
 
 LAWS = "crates/termwiz_grammar/specs/Laws.antt"
+CHORD = "crates/termwiz_bindings/src/chord.rt"
 SOURCES = "crates/hedrugal/src/**/*.rt"
 
 
@@ -87,7 +88,8 @@ VERSION = r"(?P<it>[0-9.]*[0-9])"
 SAME = [
     ("HED_ENTRY_COUNT", LAWS, r"^row_count = (?P<it>\d+)$"),
     ("HED_ENTRY_MOST", LAWS, r"^  pub one_has_\w+_bytes .*length bytes ≡ (?P<it>\d+)\)$"),
-    ("HED_CHORD_MOST", "crates/termwiz_bindings/src/chord.rt", r"MAX_KEYS: usize = (?P<it>\d+);$"),
+    ("HED_CHORD_MOST", CHORD, r"MAX_KEYS: usize = (?P<it>\d+);$"),
+    ("HED_CODES_MOST", CHORD, r"CODES_MOST: usize = (?P<it>\d+);$"),
     ("HED_QUESTIONS_MOST", "crates/hedrugal/src/questions.rt", r" MOST: usize = (?P<it>\d+);$"),
     ("HED_NO_CODE", "crates/hedrugal/src/events.rt", r" NO_CODE: u32 = (?P<it>\w+);$"),
     ("HED_NO_CODE", "crates/hedrugal/specs/Events.antt", r"^no_code = (?P<it>\w+)$"),
@@ -156,7 +158,7 @@ def compare_usual(interface: Interface) -> Iterator[str]:
 OWN = {
     **{own: name for name, own in INTEGERS.items()},
     **{"usize": "size_t", "bool": "bool", "0": "void"},
-    **{"MAX_KEYS": "HED_CHORD_MOST", "MOST": "HED_QUESTIONS_MOST"},
+    **{"CODES_MOST": "HED_CODES_MOST", "MOST": "HED_QUESTIONS_MOST"},
     **{"ParserHandle": "hed_parser", "MapHandle": "hed_keymap", "BindingsHandle": "hed_bindings"},
     **dict.fromkeys(("ParserWord", "MapWord", "BindingsWord"), "void *"),
 }

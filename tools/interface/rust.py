@@ -22,7 +22,8 @@ TYPES = {**INTEGERS, "bool": "bool", "void": "c_void", "size_t": "usize", "hed_s
 SIZES = {"bool": 1, "u8": 1, "u16": 2, "i32": 4, "u32": 4}
 # The macros with a number that Rust and Python use, and their types in Rust.
 MACROS = {
-    **dict.fromkeys(("HED_ENTRY_MOST", "HED_CHORD_MOST", "HED_QUESTIONS_MOST"), "usize"),
+    **dict.fromkeys(("HED_ENTRY_MOST", "HED_CHORD_MOST", "HED_CODES_MOST"), "usize"),
+    "HED_QUESTIONS_MOST": "usize",
     **{"HED_NO_CODE": "u32", "HED_NO_PARTS": "usize", "HED_LIMIT_MOST": "i32"},
 }
 # The names that aren't made of the header's, and words that Rust has for itself.

@@ -1,5 +1,6 @@
 pub mod Crossing
 pub mod EventNumbers
+pub mod HeldCodes
 pub mod KeyNumbers
 pub mod Lending
 pub mod RawBoxValues

@@ -60,13 +60,6 @@ all_written (p ∷ ps) (k ∷ keys) zero few room all = let no : ⊥ = omega ari
 all_written (p ∷ ps) (k ∷ keys) (suc i) few room all =
     ap (λ (more : List CKeyPress). c_press p ∷ more) (all_written ps keys i (omega arith) (omega arith) (omega arith))
 
--- where there is room for all, all are written
-pub written_whole : (ps : List KeyPress) (keys : List CKeyPress) → length ps ≤ length keys
-    → take (length ps) (with_presses ps keys) ≡ map c_press ps
-written_whole [] keys few = refl
-written_whole (p ∷ ps) [] few = let no : ⊥ = omega arith in absurd no
-written_whole (p ∷ ps) (k ∷ keys) few = ap (λ (more : List CKeyPress). c_press p ∷ more) (written_whole ps keys (omega arith))
-
 -- one more press of a chord has its numbers
 pub one_more_read : (keys : List CKeyPress) (ps : List KeyPress) (i : ℕ) (d : CKeyPress) (p : KeyPress) → i < length keys
     → get_or keys i d ≡ c_press p → take i keys ≡ map c_press ps → take (i + 1) keys ≡ map c_press (ps ++ p ∷ [])

@@ -1,22 +1,35 @@
--- What the calls do to a matcher that C holds: to the presses that are pending, which it has in numbers.
-use Rattle.std.specs.Prelude.{◌≡◌, ◌≤◌, ℕ, Bool, false, List, [], ◌∷◌, ◌++◌, length, take, Option, Some, None}
+-- What the calls do to a matcher that C holds: to the presses that are pending, whose codes it has.
+use Rattle.std.specs.Prelude.{◌≡◌, ◌≤◌, ◌*◌, ℕ, Bool, false, List, [], ◌∷◌, ◌++◌, length, take, Option, Some, None}
 use Rattle.termwiz_bindings.specs.declared.chord.TheConstants.{MAX_KEYS}
 use Rattle.termwiz_bindings.specs.declared.matcher.Outcome.{Outcome}
 use Rattle.termwiz_bindings.specs.declared.matcher.Outcome.TheVariants.{Bound, Unbound}
 use Rattle.termwiz_bindings.specs.declared.press.KeyPress.{KeyPress}
 use Rattle.termwiz_bindings.specs.Bindings.{find}
+use Rattle.termwiz_bindings.specs.Chords.{AreCodes, IsChord}
+use Rattle.termwiz_bindings.specs.Codes.{code_len, codes}
 use Rattle.termwiz_bindings.specs.Matchers.{IsDeadEnd, IsTaken}
 use Rattle.termwiz_bindings.specs.Matching.{IsPending, Steps}
 use Rattle.hedrugal.specs.declared.chord_bindings.ChordBindings.{ChordBindings}
 use Rattle.hedrugal.specs.declared.matcher_calls.CMatcher.{CMatcher}
 use Rattle.hedrugal.specs.declared.matcher_calls.COutcome.{COutcome}
 use Rattle.hedrugal.specs.declared.press_calls.CKeyPress.{CKeyPress}
-use Rattle.hedrugal.specs.Chords.{AreOfChord, AreOfPress, AreOfPresses, with_presses}
+use Rattle.hedrugal.specs.Chords.{AreOfChord, AreOfPress, with_presses}
 use Rattle.hedrugal.specs.PressCalls.{c_press}
+
+-- the bytes that are to be the codes of the presses that are pending
+abbrev pub front : CMatcher → List ℕ
+front m = take (m.count * code_len) m.codes
 
 -- the matcher has these presses pending
 abbrev pub Holds : CMatcher → List KeyPress → Type 0
-Holds m ps = (m.count ≤ MAX_KEYS) × AreOfPresses (take m.count m.keys) ps
+Holds m ps = (m.count ≤ MAX_KEYS) × IsChord ps × (front m ≡ codes ps)
+
+-- these are the codes of the presses that are pending
+pub record AreHeld (m : CMatcher) (bytes : List ℕ) : Type 0 where
+  pub few : m.count ≤ MAX_KEYS
+  pub those : bytes ≡ front m
+  pub width : length bytes ≡ m.count * code_len
+  pub chord : AreCodes bytes
 
 -- what the matcher has is no presses
 abbrev pub HoldsNone : CMatcher → Type 0

@@ -1,11 +1,11 @@
 // Presses and chords in numbers.
 ghost use Rattle.std.specs.Prelude.{◌≡◌, ◌↔◌, List, Some, length, IfSome, IfNone, IsTrue};
 ghost use Rattle.termwiz_bindings.specs.declared.press.KeyPress.{KeyPress as Pressed};
-ghost use Rattle.hedrugal.specs.Chords.{AreOfChord, AreOfPress, AreOfPresses, with_presses};
+ghost use Rattle.hedrugal.specs.Chords.{AreOfChord, AreOfPress, AreOfPresses, IsCodeOf, with_presses};
 ghost use Rattle.hedrugal.specs.PressCalls.{c_press as numbers_of};
 
 use crate::press_calls::{CKeyPress, c_press};
-use termwiz_bindings::chord::{Chord, MAX_KEYS};
+use termwiz_bindings::chord::{CODE_LEN, Chord, MAX_KEYS, is_code};
 use termwiz_bindings::numbers::reported_key;
 use termwiz_bindings::press::KeyPress;
 
@@ -29,6 +29,24 @@ pub(crate) fn press_of(numbers: &CKeyPress) -> Option<KeyPress>
     } else {
         None
     }
+}
+
+// The code of the press that has these numbers.
+pub(crate) fn code_of(numbers: &CKeyPress) -> Option<[u8; CODE_LEN]>
+    ensures some { IfSome result (λ code. IsCodeOf numbers.now code) }
+    ensures none { IfNone result ((press : Pressed) → ¬ AreOfPress numbers.now press) }
+{
+    if numbers.key > 255 || numbers.detail > 0xff_ffff {
+        return None;
+    }
+    let code = [
+        numbers.key as u8,
+        (numbers.detail / 0x10000) as u8,
+        (numbers.detail / 0x100 % 0x100) as u8,
+        (numbers.detail % 0x100) as u8,
+        numbers.held,
+    ];
+    if is_code(&code) { Some(code) } else { None }
 }
 
 // The chord of 1 to 32 presses that have these numbers.

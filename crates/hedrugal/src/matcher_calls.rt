@@ -1,17 +1,17 @@
 // The calls of a matcher.
-ghost use Rattle.std.specs.Prelude.{◌≡◌, ◌≢◌, ◌↔◌, ◌⊎◌, ℕ, [], None, IfSome, IfNone, true, false};
+ghost use Rattle.std.specs.Prelude.{◌≡◌, ◌≢◌, ◌↔◌, ◌⊎◌, ◌<◌, ◌≤◌, ◌*◌, ◌++◌, ◌+◌, ◌-◌, ℕ, [], None, IfSome, IfNone, true, false, length, drop};
 ghost use Rattle.termwiz_bindings.specs.Matchers.{outcome_copied};
 ghost use Rattle.termwiz_bindings.specs.declared.press.KeyPress.{KeyPress as Pressed};
 ghost use Rattle.hedrugal.specs.MatcherCalls as calls;
-ghost use Rattle.hedrugal.specs.MatcherCalls.{AreOfEither, AreOfNeither, DecidesFirst, HasDeadEnd, HasNoDeadEnd, Holds, HoldsNone, IsFull, PressedEither, TakesFirst, Waits, WrotePending, c_outcome};
+ghost use Rattle.hedrugal.specs.MatcherCalls.{AreHeld, AreOfEither, AreOfNeither, DecidesFirst, HasDeadEnd, HasNoDeadEnd, Holds, HoldsNone, IsFull, PressedEither, TakesFirst, Waits, WrotePending, c_outcome, front};
 ghost use Rattle.hedrugal.specs.NameCalls.{AreOfNoPress};
 
-use crate::chords::{chord_of, copy_presses, press_of, presses_of};
+use crate::chords::{chord_of, code_of, copy_presses};
 use crate::handles::BindingsHandle;
 use crate::press_calls::{CKeyPress, c_press};
 use crate::status::{BAD_NUMBER, FULL, NONE, NOT_INITIALIZED, OK};
-use termwiz_bindings::chord::{Chord, MAX_KEYS};
-use termwiz_bindings::matcher::{Matcher, Outcome};
+use termwiz_bindings::chord::{CODE_LEN, CODES_MOST, Chord, MAX_KEYS, are_codes, of_codes};
+use termwiz_bindings::matcher::{Matcher, Outcome, first_outcome};
 use termwiz_bindings::press::KeyPress;
 
 // The kinds of outcomes.
@@ -19,14 +19,14 @@ const OUTCOME_BOUND: u32 = 1;
 
 const OUTCOME_UNBOUND: u32 = 2;
 
-/// `hed_matcher`: the presses that are pending, in numbers.
+/// `hed_matcher`: the presses that are pending, by their codes.
 #[repr(C)]
 #[derive(Clone, Copy)]
 pub struct CMatcher {
     /// How many they are.
     pub count: usize,
-    /// Their numbers, and others after them.
-    pub keys: [CKeyPress; MAX_KEYS],
+    /// Their codes, and other bytes after them.
+    pub codes: [u8; CODES_MOST],
 }
 
 /// `hed_outcome`: what the first of the pending presses do.
@@ -43,24 +43,33 @@ pub struct COutcome {
     pub kind: u32,
 }
 
-// The matcher with the presses that these numbers have.
-fn matcher_of(numbers: &CMatcher) -> Option<Matcher>
-    ensures some { IfSome result (λ presses. Holds numbers.now presses) }
-    ensures none { IfNone result (HoldsNone numbers.now) }
+// The codes of the presses that are pending.
+fn codes_of(matcher: &CMatcher) -> Option<&[u8]>
+    ensures some { IfSome result (λ bytes. AreHeld matcher.now bytes.now) }
+    ensures none { IfNone result (HoldsNone matcher.now) }
 {
-    if numbers.count > MAX_KEYS {
+    if matcher.count > MAX_KEYS {
         return None;
     }
-    Some(Matcher::with_pending(presses_of(&numbers.keys[..numbers.count])?))
+    let codes = &matcher.codes[..matcher.count * CODE_LEN];
+    if are_codes(codes) { Some(codes) } else { None }
+}
+
+// The matcher with the presses that have these codes.
+fn matcher_of(matcher: &CMatcher) -> Option<Matcher>
+    ensures some { IfSome result (λ presses. Holds matcher.now presses) }
+    ensures none { IfNone result (HoldsNone matcher.now) }
+{
+    Some(Matcher::with_pending(of_codes(codes_of(matcher)?)))
 }
 
 // Writes the presses that are pending.
-#[tactic(auto, using(crate::proofs::PressNumbers::written_whole))]
-fn write_pending(pending: &Chord, numbers: &mut CMatcher)
-    ensures { Holds numbers.new pending.now }
+fn write_pending(pending: &Chord, matcher: &mut CMatcher)
+    ensures { Holds matcher.new pending.now }
 {
-    let _codes = pending.codes();
-    numbers.count = copy_presses(pending, &mut numbers.keys);
+    let codes = pending.codes();
+    matcher.codes[..codes.len()].copy_from_slice(codes);
+    matcher.count = pending.len();
 }
 
 // An outcome in numbers.
@@ -87,6 +96,18 @@ fn c_outcome(outcome: Outcome<&u64>) -> COutcome
     }
 }
 
+// Puts a code behind those of the presses that are pending.
+fn push_code(matcher: &mut CMatcher, code: &[u8])
+    requires room { matcher.old.count < MAX_KEYS }
+    requires code { length code.now ≡ CODE_LEN }
+    ensures count { matcher.new.count ≡ matcher.old.count + 1 }
+    ensures codes { front matcher.new ≡ front matcher.old ++ code.now }
+{
+    let start = matcher.count * CODE_LEN;
+    matcher.codes[start..start + CODE_LEN].copy_from_slice(code);
+    matcher.count += 1;
+}
+
 /// Puts a press behind those that are pending, of which there are at most 32.
 #[unsafe(no_mangle)]
 pub extern "C" fn hed_matcher_press(matcher: &mut CMatcher, press: &CKeyPress) -> u32
@@ -96,16 +117,16 @@ pub extern "C" fn hed_matcher_press(matcher: &mut CMatcher, press: &CKeyPress) -
     ensures bad_number { result ≡ BAD_NUMBER → HoldsNone matcher.old ⊎ AreOfNoPress press.now }
     ensures same { result ≢ OK → matcher.new ≡ matcher.old }
 {
-    let Some(mut held) = matcher_of(matcher) else {
+    let Some(_codes) = codes_of(matcher) else {
         return BAD_NUMBER;
     };
-    let Some(told) = press_of(press) else {
+    let Some(code) = code_of(press) else {
         return BAD_NUMBER;
     };
-    if !held.press(told) {
+    if matcher.count == MAX_KEYS {
         return FULL;
     }
-    write_pending(held.pending(), matcher);
+    push_code(matcher, &code);
     OK
 }
 
@@ -127,7 +148,6 @@ fn either_of(keys: &[CKeyPress]) -> Option<(KeyPress, Option<KeyPress>)>
 }
 
 /// Puts the first of the presses behind those that are pending, or the second, if there is one, and only it leads on.
-#[tactic(auto, using(crate::proofs::PressNumbers::pressed_either))]
 #[unsafe(no_mangle)]
 pub extern "C" fn hed_matcher_press_either(
     matcher: &mut CMatcher,
@@ -158,6 +178,18 @@ pub extern "C" fn hed_matcher_press_either(
     OK
 }
 
+// Takes codes away from the front of those of the presses that are pending, so many of them.
+fn remove_first(matcher: &mut CMatcher, keys: usize)
+    requires few { matcher.old.count ≤ MAX_KEYS }
+    requires keys { keys ≤ matcher.old.count }
+    ensures count { matcher.new.count ≡ matcher.old.count - keys }
+    ensures codes { front matcher.new ≡ drop (keys * CODE_LEN) (front matcher.old) }
+{
+    let (start, end) = (keys * CODE_LEN, matcher.count * CODE_LEN);
+    matcher.codes.copy_within(start..end, 0);
+    matcher.count -= keys;
+}
+
 /// Takes what comes first of the presses that are pending, and sets `outcome` to it: a chord, or a press that begins none. There is none if nothing
 /// is pending, or more may come and may make a longer chord.
 #[unsafe(no_mangle)]
@@ -176,17 +208,17 @@ pub extern "C" fn hed_matcher_next(
     ensures outcome_same { result ≢ OK → outcome.new ≡ outcome.old }
     ensures bindings_same { bindings.new.state ≡ bindings.old.state }
 {
-    let Some(mut pending) = matcher_of(matcher) else {
+    let Some(codes) = codes_of(matcher) else {
         return BAD_NUMBER;
     };
     let Some(held) = bindings.get_mut() else {
         return NOT_INITIALIZED;
     };
-    let Some(next) = pending.next(&held.chords, maybe_more) else {
+    let Some(first) = first_outcome(&held.chords, codes, maybe_more) else {
         return NONE;
     };
-    write_pending(pending.pending(), matcher);
-    *outcome = c_outcome(next);
+    remove_first(matcher, first.keys());
+    *outcome = c_outcome(first);
     OK
 }
 
@@ -218,8 +250,8 @@ pub extern "C" fn hed_matcher_on_pause(
     OK
 }
 
-/// Whether more than one press is pending, no chord begins with them all, and they begin with no chord. It is false if the numbers are those of
-/// no presses, or there are no bindings.
+/// Whether more than one press is pending, no chord begins with them all, and they begin with no chord. It is false if the bytes are the
+/// codes of no presses, or there are no bindings.
 #[unsafe(no_mangle)]
 pub extern "C" fn hed_matcher_is_dead_end(matcher: &CMatcher, bindings: &mut BindingsHandle) -> bool
     ensures dead_end { result ≡ true → HasDeadEnd bindings.old.state.held matcher.now }
@@ -238,7 +270,7 @@ pub extern "C" fn hed_matcher_is_dead_end(matcher: &CMatcher, bindings: &mut Bin
     false
 }
 
-/// Copies the presses that are pending, as many as `keys` has room for, and returns how many they are. If the numbers are those of no
+/// Copies the presses that are pending, as many as `keys` has room for, and returns how many they are. If the bytes are the codes of no
 /// presses, the answer is 0 and `keys` is unchanged.
 #[unsafe(no_mangle)]
 pub extern "C" fn hed_matcher_pending(matcher: &CMatcher, keys: &mut [CKeyPress]) -> usize

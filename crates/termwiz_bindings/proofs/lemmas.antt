@@ -22,6 +22,7 @@ pub mod NamesReadBack
 pub mod NumberNames
 pub mod OneChord
 pub mod PendingChords
+pub mod PlainCodes
 pub mod PressesRead
 pub mod PrintedNumbers
 pub mod ReadPresses

@@ -34,6 +34,12 @@ three_bytes n = n / 0x10000 % 256 ∷ n / 0x100 % 256 ∷ n % 256 ∷ []
 unfoldable pub code : KeyPress → List ℕ
 code p = reported_number p.key ∷ three_bytes (reported_detail p.key) ++ p.held ∷ []
 
+-- the bytes are the code of a press
+pub record IsCode (bytes : List ℕ) : Type 0 where
+  pub press : KeyPress
+  pub is : IsPress press
+  pub same : bytes ≡ code press
+
 -- the codes of presses, one after another
 abbrev pub codes : List KeyPress → List ℕ
 codes [] = []

@@ -1,10 +1,10 @@
 -- What the calls of a matcher answer.
-use Rattle.std.specs.Prelude.{◌≡◌, ◌⊎◌, ◌<◌, ℕ, false, List, [], ◌∷◌, ◌++◌, length, take, Option, Some, None}
+use Rattle.std.specs.Prelude.{◌≡◌, ◌⊎◌, ◌<◌, ◌≤◌, ℕ, Bool, false, List, [], ◌∷◌, ◌++◌, length, take, drop, Option, Some, None}
 use denote.Ref.{Bor}
 use Rattle.termwiz_bindings.specs.declared.press.KeyPress.{KeyPress}
 use Rattle.termwiz_bindings.specs.declared.matcher.Outcome.{Outcome}
 use Rattle.termwiz_bindings.specs.declared.matcher.Outcome.TheVariants.{Bound, Unbound}
-use Rattle.termwiz_bindings.specs.Matching.{Chords, IsChord, BeginWithNone, IsContinued, Stands}
+use Rattle.termwiz_bindings.specs.Matching.{Chords, IsChord, BeginWithNone, IsContinued, IsPending, Stands, Steps, most_keys}
 
 -- how many presses an outcome takes
 abbrev pub keys_of : {V : Type 0} → Outcome V → ℕ
@@ -27,6 +27,13 @@ module _ {V : Type 0} where
   DecidesFirst find presses None = presses ≡ []
   DecidesFirst find presses (Some outcome) =
       Stands find false presses (take (keys_of outcome) presses) (outcome_copied outcome)
+
+  -- What comes first of the presses: the outcome of the first ones. There is none if they are open or empty. So one more is then no
+  -- more than a chord may have.
+  abbrev pub IsFirst : Chords V → Bool → List KeyPress → Option (Outcome (Bor V)) → Type 0
+  IsFirst find more presses None = IsPending find more presses × (length presses < most_keys)
+  IsFirst find more presses (Some outcome) = (keys_of outcome ≤ length presses)
+      × Steps find more presses (outcome_copied outcome ∷ []) (drop (keys_of outcome) presses)
 
   -- A mistake of several presses: no chord goes on after them, and they begin with none.
   pub record IsDeadEnd (find : Chords V) (presses : List KeyPress) : Type 0 where

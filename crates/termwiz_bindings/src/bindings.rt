@@ -56,6 +56,8 @@ impl<V: Debug + Clone + Drop> Model for Bindings<V> {
 impl<V: Debug + Clone + Drop> Bindings<V> {
     ghost use Rattle.termwiz_keymap.specs.Lookup.{ClonesEqual, found_copied};
     ghost use Rattle.termwiz_bindings.specs.Bindings.{AreBindings, AreContinuations, FindGives, IsBindingAt, IsCloneByChord, bound, find, unbound};
+    ghost use Rattle.termwiz_bindings.specs.Chords.{AreCodes};
+    ghost use Rattle.termwiz_bindings.specs.Codes.{presses_with};
     ghost use Rattle.termwiz_bindings.specs.Matching.{IsContinued};
 
     /// Bindings of no chord. Takes no memory; later calls take theirs from `alloc`.
@@ -144,7 +146,16 @@ impl<V: Debug + Clone + Drop> Bindings<V> {
         ensures found { FindGives self.now keys.now maybe_more (found_copied result) }
         ensures bindings { AreBindings self.now }
     {
-        match self.by_codes.lookup(keys.codes(), maybe_more) {
+        self.find_codes(keys.codes(), maybe_more)
+    }
+
+    // Finds what `find` does, for presses that are given by their codes.
+    pub(crate) fn find_codes(&self, codes: &[u8], maybe_more: bool) -> Found<&V>
+        requires { AreCodes codes.now }
+        ensures found { FindGives self.now (presses_with codes.now) maybe_more (found_copied result) }
+        ensures bindings { AreBindings self.now }
+    {
+        match self.by_codes.lookup(codes, maybe_more) {
             Found::Exact(len, value) => Found::Exact(len / CODE_LEN, value),
             Found::Ambiguous(len, value) => Found::Ambiguous(len / CODE_LEN, value),
             Found::NeedData => Found::NeedData,

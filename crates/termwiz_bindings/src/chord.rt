@@ -1,18 +1,29 @@
 //! Chords: the presses that a program binds a command to, one after another.
 ghost use Rattle.std.specs.Prelude.{Some, ◌≡◌, ◌↔◌, ◌<◌, ◌≤◌, ◌++◌, ◌∷◌, [], ◌*◌, ◌-◌, ◌+◌, length, take, drop, replicate, slice_get, IsTrue, IfSome, if◌then◌else◌};
 ghost use Rattle.termwiz_bindings.specs.declared.press.KeyPress.{KeyPress as Press};
-ghost use Rattle.termwiz_bindings.specs.Codes.{IsPress, code as code_of, codes};
+ghost use Rattle.termwiz_bindings.specs.Codes.{IsCode, IsPress, code as code_of, codes};
 ghost use Rattle.termwiz_bindings.specs.Chords.{AreCodes, IsChord};
+ghost use Rattle.termwiz_bindings.specs.Presses.{character_press};
 
 use crate::numbers::reported_key;
-use crate::press::KeyPress;
+use crate::press::{KeyPress, SHIFT};
 use std::marker::Model;
 
 /// The most presses that a chord has.
 pub const MAX_KEYS: usize = 32;
 
-// How many bytes the code of a press has.
-pub(crate) const CODE_LEN: usize = 5;
+/// How many bytes the code of a press has.
+pub const CODE_LEN: usize = 5;
+
+/// The most bytes that the codes of a chord have.
+pub const CODES_MOST: usize = 160;
+
+const _: () = prove!(CODES_MOST == MAX_KEYS * CODE_LEN);
+
+// The numbers of the keys that carry a character, and the number of a function key.
+const CHARACTER: u8 = 1;
+
+const FUNCTION: u8 = 60;
 
 /// A list of at most [`MAX_KEYS`] presses, as Ctrl-X and then Ctrl-S. It takes no memory beside its own.
 #[derive(Clone, Copy, PartialEq, Eq, Debug)]
@@ -119,9 +130,10 @@ fn write_code(codes: &mut [u8; MAX_KEYS * CODE_LEN], start: usize, press: KeyPre
 }
 
 // The press with a code.
-fn press_with(code: &[u8]) -> Option<KeyPress>
+pub(crate) fn press_with(code: &[u8]) -> Option<KeyPress>
     requires { length code.now ≡ CODE_LEN }
-    ensures { (press : Press) → IsPress press → code.now ≡ code_of press → result ≡ Some press }
+    ensures only { (press : Press) → IsPress press → code.now ≡ code_of press → result ≡ Some press }
+    ensures press { IfSome result IsPress }
 {
     let detail = u32::from(code[1]) * 0x10000 + u32::from(code[2]) * 0x100 + u32::from(code[3]);
     let key = reported_key(u16::from(code[0]), detail)?;
@@ -138,8 +150,65 @@ fn padded(bytes: &[u8]) -> [u8; MAX_KEYS * CODE_LEN]
     codes
 }
 
+// Whether a press of this character is left alone by all rules: it is of ASCII, no control character and no capital, and without SHIFT.
+#[tactic(auto, using(crate::proofs::lemmas::PlainCodes::character_own))]
+fn is_plain_character(character: u8, held: u8) -> bool
+    requires { held < 64 }
+    ensures { IsTrue result → IsPress (character_press character held) }
+{
+    if character < 32 || character > 126 {
+        return false;
+    }
+    !character.is_ascii_uppercase() && held & SHIFT == 0
+}
+
+// Whether these bytes are the code of a press that is known without the rules: that of a plain character, or of a function key.
+#[tactic(auto, using(crate::proofs::lemmas::PlainCodes::plain_character, crate::proofs::lemmas::PlainCodes::plain_function))]
+fn is_plain_code(code: &[u8]) -> bool
+    requires { length code.now ≡ CODE_LEN }
+    ensures { IsTrue result → IsCode code.now }
+{
+    if code[1] != 0 || code[2] != 0 || code[4] >= 64 {
+        return false;
+    }
+    if code[0] == FUNCTION {
+        return true;
+    }
+    code[0] == CHARACTER && is_plain_character(code[3], code[4])
+}
+
+/// Whether these bytes are the code of a press. Most are known without the rules.
+pub fn is_code(code: &[u8]) -> bool
+    requires { length code.now ≡ CODE_LEN }
+    ensures { IsTrue result ↔ IsCode code.now }
+{
+    if is_plain_code(code) {
+        return true;
+    }
+    match press_with(code) {
+        Some(press) => press.code().as_slice() == code,
+        None => false,
+    }
+}
+
+/// Whether these bytes are the codes of a chord, one after another.
+pub fn are_codes(bytes: &[u8]) -> bool
+    requires { length bytes.now ≤ MAX_KEYS * CODE_LEN }
+    ensures { IsTrue result ↔ AreCodes bytes.now }
+{
+    let mut rest = bytes;
+    while rest.len() >= CODE_LEN {
+        let (code, behind) = rest.split_at(CODE_LEN);
+        if !is_code(code) {
+            return false;
+        }
+        rest = behind;
+    }
+    rest.is_empty()
+}
+
 /// The chord with these codes.
-pub(crate) fn of_codes(bytes: &[u8]) -> Chord
+pub fn of_codes(bytes: &[u8]) -> Chord
     requires { AreCodes bytes.now }
     ensures codes { codes result ≡ bytes.now }
     ensures chord { IsChord result }

@@ -1,13 +1,14 @@
 //! What presses do: a matcher reads them one after another, and gives what the chords of some bindings make of them.
 ghost use Rattle.std.specs.Prelude.{◌≡◌, ◌↔◌, ◌<◌, ◌++◌, List, [], ◌∷◌, false, length, IsTrue, IfNone, IfSome, MatchOption, if◌then◌else◌};
 ghost use Rattle.termwiz_bindings.specs.Bindings.{find};
-ghost use Rattle.termwiz_bindings.specs.Codes.{IsPress};
+ghost use Rattle.termwiz_bindings.specs.Chords.{AreCodes};
+ghost use Rattle.termwiz_bindings.specs.Codes.{IsPress, presses_with};
 ghost use Rattle.termwiz_bindings.specs.declared.press.KeyPress.{KeyPress};
 ghost use Rattle.termwiz_bindings.specs.Matching.{IsChordMap, IsContinued, IsPending, Steps};
-ghost use Rattle.termwiz_bindings.specs.Matchers.{DecidesFirst, IsDeadEnd, IsPreferred, IsTaken, LeadsOn, first_unbound, keys_of, outcome_copied};
+ghost use Rattle.termwiz_bindings.specs.Matchers.{DecidesFirst, IsDeadEnd, IsFirst, IsPreferred, IsTaken, LeadsOn, first_unbound, keys_of, outcome_copied};
 
 use crate::bindings::Bindings;
-use crate::chord::{Chord, MAX_KEYS};
+use crate::chord::{CODE_LEN, Chord, MAX_KEYS, press_with};
 use crate::press::KeyPress;
 use std::fmt::Debug;
 use std::marker::Model;
@@ -72,21 +73,29 @@ struct Front<'a, V> {
     goes_on: bool,
 }
 
-// The first of some presses, as one that begins no chord; `None` if there are none.
-fn first_unbound<'a, V>(presses: &Chord) -> Option<Outcome<&'a V>>
-    ensures { result ≡ first_unbound presses.now }
+// The first of the presses with these codes, as one that begins no chord; `None` if there are none.
+fn first_unbound<'a, V>(codes: &[u8]) -> Option<Outcome<&'a V>>
+    requires { AreCodes codes.now }
+    ensures { result ≡ first_unbound (presses_with codes.now) }
 {
-    Some(Outcome::Unbound(presses.get(0)?))
+    if codes.len() < CODE_LEN {
+        return None;
+    }
+    Some(Outcome::Unbound(press_with(&codes[..CODE_LEN])?))
 }
 
-// Looks presses up in bindings.
+// Looks presses up in bindings, by their codes.
 #[tactic(auto, using(crate::proofs::lemmas::BindingChords::are_chords, crate::proofs::lemmas::MatcherSteps::chord_first, crate::proofs::lemmas::MatcherSteps::press_first))]
-fn front_of<'a, V: Debug + Clone + Drop>(bindings: &'a Bindings<V>, presses: &Chord) -> Front<'a, V>
-    ensures outcome { DecidesFirst (find bindings.now) presses.now result.outcome }
-    ensures goes_on { IsTrue result.goes_on ↔ IsContinued (find bindings.now) presses.now }
+fn front_of_codes<'a, V: Debug + Clone + Drop>(
+    bindings: &'a Bindings<V>,
+    codes: &[u8],
+) -> Front<'a, V>
+    requires { AreCodes codes.now }
+    ensures outcome { DecidesFirst (find bindings.now) (presses_with codes.now) result.outcome }
+    ensures goes_on { IsTrue result.goes_on ↔ IsContinued (find bindings.now) (presses_with codes.now) }
     ensures chords { IsChordMap (find bindings.now) }
 {
-    match bindings.find(presses, true) {
+    match bindings.find_codes(codes, true) {
         Found::Ambiguous(keys, value) => Front {
             outcome: Some(Outcome::Bound { keys, value }),
             goes_on: true,
@@ -96,14 +105,42 @@ fn front_of<'a, V: Debug + Clone + Drop>(bindings: &'a Bindings<V>, presses: &Ch
             goes_on: false,
         },
         Found::NeedData => Front {
-            outcome: first_unbound(presses),
+            outcome: first_unbound(codes),
             goes_on: true,
         },
         Found::None => Front {
-            outcome: first_unbound(presses),
+            outcome: first_unbound(codes),
             goes_on: false,
         },
     }
+}
+
+// Looks presses up in bindings.
+fn front_of<'a, V: Debug + Clone + Drop>(bindings: &'a Bindings<V>, presses: &Chord) -> Front<'a, V>
+    ensures outcome { DecidesFirst (find bindings.now) presses.now result.outcome }
+    ensures goes_on { IsTrue result.goes_on ↔ IsContinued (find bindings.now) presses.now }
+    ensures chords { IsChordMap (find bindings.now) }
+{
+    front_of_codes(bindings, presses.codes())
+}
+
+/// What comes first of the presses with these codes: the longest chord that they begin with, or else the first press. `None` if there are
+/// none, or if more may come and they may yet become a longer chord. So [`Matcher::next`] decides what is pending.
+#[tactic(auto, using(crate::proofs::lemmas::MatcherSteps::decided_within, crate::proofs::lemmas::MatcherSteps::last_step, crate::proofs::lemmas::MatcherSteps::ended_step))]
+pub fn first_outcome<'a, V: Debug + Clone + Drop>(
+    bindings: &'a Bindings<V>,
+    codes: &[u8],
+    maybe_more: bool,
+) -> Option<Outcome<&'a V>>
+    requires { AreCodes codes.now }
+    ensures { IsFirst (find bindings.now) maybe_more (presses_with codes.now) result }
+{
+    let front = front_of_codes(bindings, codes);
+    if maybe_more && front.goes_on {
+        return None;
+    }
+    let outcome = front.outcome?;
+    Some(outcome)
 }
 
 // Whether some chord begins with these presses and this one.
@@ -182,7 +219,6 @@ impl Matcher {
     ///
     /// Returns `None` if nothing is pending, or if more may come and the presses may yet become a longer chord. With no more to
     /// come it decides all: a program gives up by calling it so until it returns `None`.
-    #[tactic(auto, using(crate::proofs::lemmas::MatcherSteps::decided_within, crate::proofs::lemmas::MatcherSteps::last_step, crate::proofs::lemmas::MatcherSteps::ended_step))]
     pub fn next<'a, V: Debug + Clone + Drop>(
         &mut self,
         bindings: &'a Bindings<V>,
@@ -193,11 +229,7 @@ impl Matcher {
         ensures unchanged { IfNone result (self.new ≡ self.old) }
         ensures room { IfNone result (length self.new < MAX_KEYS) }
     {
-        let front = front_of(bindings, &self.pending);
-        if maybe_more && front.goes_on {
-            return None;
-        }
-        let outcome = front.outcome?;
+        let outcome = first_outcome(bindings, self.pending.codes(), maybe_more)?;
         self.pending.remove_first(outcome.keys());
         Some(outcome)
     }

@@ -73,7 +73,7 @@ all_fit c low = below_passes fits end c refl low
 by_range : (P : ℕ → Type 0) → ((c : ℕ) → c < end → P c) → ((c : ℕ) → end ≤ c → P c) → (c : ℕ) → P c
 by_range P low high c = ⊎_elim (low c) (high c) (cases_lt c end)
 
-none_is : (o : Option ℕ) → not (is_some o) ≡ true → o ≡ None
+pub none_is : (o : Option ℕ) → not (is_some o) ≡ true → o ≡ None
 none_is None is = refl
 none_is (Some n) is = cc
 

@@ -69,7 +69,7 @@ plain_character c plain d is =
     let same : c ≡ d = cc in
     subst (λ n. is_ascii_control n ≡ false) same plain
 
-plain_other : (key : ReportedKey) → character key ≡ None → IsPlain key
+pub plain_other : (key : ReportedKey) → character key ≡ None → IsPlain key
 plain_other key none c is = cc
 
 -- what rule 6 makes is plain

@@ -38,7 +38,7 @@ one_more ps press is one room = record {
   presses = All-push IsPress ps press is.presses one;
 }
 
-codes_push : (ps : List KeyPress) (press : KeyPress) → codes (ps ++ press ∷ []) ≡ codes ps ++ code press
+pub codes_push : (ps : List KeyPress) (press : KeyPress) → codes (ps ++ press ∷ []) ≡ codes ps ++ code press
 codes_push ps press = codes_append ps (press ∷ []) ∙ ap (λ bytes. codes ps ++ bytes) (append-nil (code press))
 
 -- its code is written behind the others

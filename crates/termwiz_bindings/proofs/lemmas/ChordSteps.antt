@@ -7,7 +7,7 @@ use Rattle.std.proofs.lemmas.Bool.Decides.{nat_tests}
 use Rattle.std.proofs.lemmas.List.{drop_all, take_all, take_more, map_push, length-map, length-take-le}
 use Rattle.termwiz_bindings.specs.declared.press.KeyPress.{KeyPress}
 use Rattle.termwiz_bindings.specs.declared.names.ReadError.{ReadError}
-use Rattle.termwiz_bindings.specs.Names.{read_key, printed}
+use Rattle.termwiz_bindings.specs.Names.{printed}
 use Rattle.termwiz_bindings.specs.ChordNames.{is_blank, is_refused, control_at, with_key, read_keys, printed_chord}
 use Rattle.termwiz_bindings.proofs.lemmas.TextPlaces.{part_to_end, byte_and_rest, part_length, part_grown}
 

@@ -1,5 +1,5 @@
 -- Presses and their codes.
-use Rattle.std.proofs.Common.{◌≡◌, ◌∙◌, ⊎_elim, ℕ, ◌+◌, ◌*◌, ◌/◌, ◌%◌, ◌<◌, ◌≤◌, List, [], ◌∷◌, ◌++◌, length, take, drop, get_or, Bool, true, false, ◌&&◌, Some, None, refl, sym, ap, ap₂, append_assoc, arith}
+use Rattle.std.proofs.Common.{◌≡◌, ◌∙◌, ⊎_elim, ℕ, ◌+◌, ◌*◌, ◌/◌, ◌%◌, ◌<◌, ◌≤◌, List, [], ◌∷◌, ◌++◌, length, take, drop, get_or, Bool, true, false, ◌&&◌, Some, None, refl, sym, ap, ap₂, subst, append_assoc, arith}
 use Rattle.std.specs.Char.{IsScalar}
 use Rattle.std.specs.List.{All}
 use Rattle.std.proofs.Math.Utf8.{scalar_cases}
@@ -13,6 +13,7 @@ use Rattle.termwiz_extended_events.specs.declared.types.KeyEventKind.TheVariants
 use Rattle.termwiz_extended_events.specs.KeyReports.{report_of}
 use Rattle.termwiz_bindings.specs.declared.press.KeyPress.{KeyPress}
 use Rattle.termwiz_bindings.specs.Codes.{IsKeyInRange, IsPress, code, code_len, codes, key_with, press_with, presses_with}
+use Rattle.termwiz_bindings.specs.Chords.{AreCodes, IsChord}
 use Rattle.termwiz_bindings.specs.CodeLaws.{BeginPresses, CodesBeginAsPresses, CodesHaveOneWidth, CodesTellPresses}
 use Rattle.termwiz_bindings.specs.MainKeys.{makes_no_press}
 use Rattle.termwiz_bindings.specs.Numbers.{StandForReported, key_detail, reported_detail, reported_number}
@@ -51,6 +52,9 @@ detail_below (Named (Function n)) inside makes = omega arith
 detail_below (Named key) inside makes = omega arith
 detail_below (Functional n) inside makes = functional_below n makes
 
+pub press_detail_below : (p : KeyPress) → IsPress p → reported_detail p.key < 0x1000000
+press_detail_below p is = detail_below p.key is.in_range (makes_one p is.own)
+
 -- a number by its three bytes
 from_bytes : (n : ℕ) → n < 0x1000000 → n / 0x10000 % 256 * 0x10000 + n / 0x100 % 256 * 0x100 + n % 256 ≡ n
 from_bytes n below = omega arith
@@ -60,7 +64,7 @@ pub own_press : (p : KeyPress) → IsPress p
     → press_with (reported_number p.key) (reported_detail p.key / 0x10000 % 256) (reported_detail p.key / 0x100 % 256) (reported_detail p.key % 256) p.held ≡ p
 own_press p is =
     ap (λ detail. record { key = key_with (reported_number p.key) detail; held = p.held })
-    (from_bytes (reported_detail p.key) (detail_below p.key is.in_range (makes_one p is.own)))
+    (from_bytes (reported_detail p.key) (press_detail_below p is))
     ∙ ap (λ key. record { key = key; held = p.held }) (own_key p.key)
 
 -- presses are those with their codes
@@ -139,7 +143,7 @@ unfolding code
 read_from bytes p is same = record {
   number = ap (λ xs. get_or xs 0 0) same;
   detail = ap (λ xs. get_or xs 1 0 * 0x10000 + get_or xs 2 0 * 0x100 + get_or xs 3 0) same
-      ∙ from_bytes (reported_detail p.key) (detail_below p.key is.in_range (makes_one p is.own));
+      ∙ from_bytes (reported_detail p.key) (press_detail_below p is);
   held = ap (λ xs. get_or xs 4 0) same;
 }
 
@@ -156,3 +160,47 @@ pub press_read : (bytes : List ℕ) (p : KeyPress) (key : ReportedKey) (held : �
 press_read bytes p key held is same key_is held_is =
     let read : IsReadFrom bytes p = read_from bytes p is same in
     ap₂ (λ k (h : ℕ). canonical (report_of k (record { modifiers = h; kind = Press }))) key_is (held_is ∙ read.held) ∙ is.own
+
+-- the presses with the codes of a chord
+pub read_chord : (bytes : List ℕ) → AreCodes bytes → IsChord (presses_with bytes)
+read_chord bytes (ps, is, same) = subst IsChord (sym (ap presses_with same ∙ presses_of ps is.presses)) is
+
+pub read_codes : (bytes : List ℕ) → AreCodes bytes → bytes ≡ codes (presses_with bytes)
+read_codes bytes (ps, is, same) = same ∙ ap codes (sym (ap presses_with same ∙ presses_of ps is.presses))
+
+pub read_as : (bytes : List ℕ) (ps : List KeyPress) → bytes ≡ codes ps → IsChord ps → presses_with bytes ≡ ps
+read_as bytes ps same is = ap presses_with same ∙ presses_of ps is.presses
+
+-- the first of them
+pub no_first_press : (bytes : List ℕ) → AreCodes bytes → length bytes < code_len → presses_with bytes ≡ []
+no_first_press bytes (ps, is, same) few = go ps same
+  where
+    go : (ps : List KeyPress) → bytes ≡ codes ps → presses_with bytes ≡ []
+    go [] same = ap presses_with same
+    go (p ∷ ps) same =
+        let wide : length bytes ≡ length (p ∷ ps) * code_len = ap length same ∙ codes_length (p ∷ ps) in
+        absurd (omega (arith, wide, few))
+
+-- its code comes first
+pub record IsFirstPress (bytes : List ℕ) (p : KeyPress) : Type 0 where
+  pub is : IsPress p
+  pub its_code : take code_len bytes ≡ code p
+  pub rest : List KeyPress
+  pub first : presses_with bytes ≡ p ∷ rest
+
+pub first_press : (bytes : List ℕ) → AreCodes bytes → code_len ≤ length bytes → (p : KeyPress) × IsFirstPress bytes p
+first_press bytes (ps, is, same) some = go ps is.presses same
+  where
+    go : (ps : List KeyPress) → All IsPress ps → bytes ≡ codes ps → (p : KeyPress) × IsFirstPress bytes p
+    go [] are same =
+        let none : length bytes ≡ 0 = ap length same in
+        absurd (omega (arith, none, some))
+    go (p ∷ ps) are same = (
+      p,
+      record {
+        is = All-head IsPress p ps are;
+        its_code = ap (take code_len) same ∙ take_at (code p) (codes ps) code_len (code_length p);
+        rest = ps;
+        first = ap presses_with same ∙ presses_of (p ∷ ps) are;
+      },
+    )

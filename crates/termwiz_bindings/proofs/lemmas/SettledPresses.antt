@@ -36,7 +36,7 @@ no_text true = refl
 no_text false = refl
 
 -- it is its own press
-own_press : (p : KeyPress) → IsUnchanged p → canonical (report_of_press p) ≡ Some p
+pub own_press : (p : KeyPress) → IsUnchanged p → canonical (report_of_press p) ≡ Some p
 unfolding canonical settled plain_press
 own_press p is =
     rw (no_text (may_type p.key), is.main.makes, main_stays p is.main, plain_stays p is.plain, none_told p.key p.held, is.cased) refl

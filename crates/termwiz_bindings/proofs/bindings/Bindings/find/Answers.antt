@@ -1,23 +1,14 @@
-use Rattle.termwiz_keymap.specs.declared.keymap.Found.TheVariants.{None as Nothing, Exact, Ambiguous, NeedData}
-use Rattle.termwiz_bindings.proofs.lemmas.BoundChords.{found_by}
+use Rattle.std.proofs.Common.{List, subst}
+use Rattle.termwiz_keymap.specs.Lookup.{found_copied}
+use Rattle.termwiz_bindings.specs.declared.press.KeyPress.{KeyPress}
+use Rattle.termwiz_bindings.specs.Bindings.{FindGives}
+use Rattle.termwiz_bindings.proofs.lemmas.CodedPresses.{read_as}
 use Rattle.termwiz_bindings.proofs.bindings.Bindings.find.Goals as goal
 
-pub returns-in-Exact-clause-found : goal.returns-in-Exact-clause-found
-returns-in-Exact-clause-found g c =
-    found_by c.self.inside.by_codes c.args.self.now c.self.view_is c.self.invariant c.codes.result.now c.args.keys.now c.codes.ensures.chord c.codes.ensures.codes
-    c.args.maybe_more (Exact c.in-Exact.len c.in-Exact.value.now) c.in-Exact.ensures
+pub find_codes-requires : goal.find_codes-requires
+find_codes-requires g c = (c.args.keys.now, c.codes.ensures.chord, c.codes.ensures.codes)
 
-pub returns-in-Ambiguous-clause-found : goal.returns-in-Ambiguous-clause-found
-returns-in-Ambiguous-clause-found g c =
-    found_by c.self.inside.by_codes c.args.self.now c.self.view_is c.self.invariant c.codes.result.now c.args.keys.now c.codes.ensures.chord c.codes.ensures.codes
-    c.args.maybe_more (Ambiguous c.in-Ambiguous.len c.in-Ambiguous.value.now) c.in-Ambiguous.ensures
-
-pub returns-in-NeedData-clause-found : goal.returns-in-NeedData-clause-found
-returns-in-NeedData-clause-found g c =
-    found_by c.self.inside.by_codes c.args.self.now c.self.view_is c.self.invariant c.codes.result.now c.args.keys.now c.codes.ensures.chord c.codes.ensures.codes
-    c.args.maybe_more NeedData c.in-NeedData.ensures
-
-pub returns-in-None-clause-found : goal.returns-in-None-clause-found
-returns-in-None-clause-found g c =
-    found_by c.self.inside.by_codes c.args.self.now c.self.view_is c.self.invariant c.codes.result.now c.args.keys.now c.codes.ensures.chord c.codes.ensures.codes
-    c.args.maybe_more Nothing c.in-None.ensures
+pub returns-clause-found : goal.returns-clause-found
+returns-clause-found g c =
+    subst (λ (ps : List KeyPress). FindGives c.args.self.now ps c.args.maybe_more (found_copied c.find_codes.result))
+    (read_as c.codes.result.now c.args.keys.now c.codes.ensures.codes c.codes.ensures.chord) c.find_codes.ensures.found
