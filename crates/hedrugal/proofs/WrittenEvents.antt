@@ -1,8 +1,10 @@
 -- Events that are written to an array one after another, with their bytes.
 use Rattle.std.proofs.Common.{◌≡◌, ◌∙◌, ℕ, ◌+◌, ◌-◌, ◌<◌, ◌≤◌, List, [], ◌∷◌, ◌++◌, length, take, drop, get_or, map, inl, inr, refl, sym, ap, subst, arith}
 use Rattle.std.specs.List.{slice_set}
-use Rattle.std.proofs.lemmas.List.{append-nil, append_assoc, drop_all, drop_at, length-append, length-drop, set-get_or, take-append-drop, take_all, take_at}
+use Rattle.std.proofs.lemmas.List.{append-nil, append_assoc, drop_all, drop_at, length-append, length-drop, length-map, set-get_or, take-append-drop, take_all, take_at}
 use borrow.Rule.Slice.PartMut.{mid_of, put_mid}
+use Rattle.termwiz_extended_events.specs.declared.types.Event.{Event}
+use Rattle.termwiz_extended_events.specs.Meanings.{NeedsMemory}
 use Rattle.termwiz_extended_events.specs.declared.types.Event.TheVariants.{Key, Mouse, Paste, FocusGained, FocusLost, CursorPosition, Resized, KeyboardFlags, Csi, Osc, Dcs, Apc, StringPart, StringCut}
 use Rattle.termwiz_timed.specs.declared.parser.TimedEvent.{TimedEvent}
 use Rattle.termwiz_timed.specs.declared.parser.TimedEvent.TheVariants.{Whole, PastePart}
@@ -12,7 +14,7 @@ use Rattle.termwiz_timed.specs.Timed.{Timed}
 use Rattle.hedrugal.specs.declared.events.CEvent.{CEvent}
 use Rattle.hedrugal.specs.declared.parser_and_text.ParserAndText.{ParserAndText}
 use Rattle.hedrugal.specs.Calls.{MeetsMemory, Took, copied}
-use Rattle.hedrugal.specs.EventArrays.{AreWritten, Stops, TellsAll, TookAll, TookWithBytes, WroteEvents, joined_bytes, text_after_all}
+use Rattle.hedrugal.specs.EventArrays.{AreWhole, AreWritten, Stops, TellsAll, TookAll, TookWithBytes, WritesOn, WroteEvents, WroteWhole, joined_bytes, text_after_all}
 use Rattle.hedrugal.specs.EventArrays.Stops.{all_told, full, refused}
 use Rattle.hedrugal.specs.Events.{brought, c_event, c_told, own_bytes}
 
@@ -44,20 +46,37 @@ told_len (Whole (StringCut kind bytes)) = refl
 shown_len : (event : TimedEvent) (c : CEvent) → c ≡ c_told event → c.text_len ≡ length (brought event)
 shown_len event c is = ap (λ (e : CEvent). e.text_len) is ∙ told_len event
 
+no_text : (text : List ℕ) → ((text ≡ [] → ⊥) → ⊥) → text ≡ []
+no_text [] light = refl
+no_text (b ∷ text) light = absurd (light (λ e. cc (e)))
+
+-- an event that needs no memory brings no bytes
+pub brings_none : (event : Event) → (NeedsMemory event → ⊥) → brought (Whole event) ≡ []
+unfolding own_bytes
+brings_none (Mouse report) light = refl
+brings_none (Paste text) light = absurd (light tt)
+brings_none (Key report) light = no_text report.text light
+brings_none FocusGained light = refl
+brings_none FocusLost light = refl
+brings_none (CursorPosition row column) light = refl
+brings_none (Resized rows columns height width) light = refl
+brings_none (KeyboardFlags flags) light = refl
+brings_none (Csi bytes) light = absurd (light tt)
+brings_none (Osc bytes) light = absurd (light tt)
+brings_none (Dcs bytes) light = absurd (light tt)
+brings_none (Apc bytes) light = absurd (light tt)
+brings_none (StringPart kind bytes) light = absurd (light tt)
+brings_none (StringCut kind bytes) light = absurd (light tt)
+
+-- nor do its numbers say so
+pub bare_len : (event : Event) (c : CEvent) → c ≡ c_told (Whole event) → (NeedsMemory event → ⊥) → c.text_len ≡ 0
+bare_len event c is light = shown_len (Whole event) c is ∙ ap length (brings_none event light)
+
 -- an event was told, and it brings no bytes
 pub no_bytes_copied : (before after : ParserAndText) (c : CEvent) (room : List ℕ) → Took before c after → c.text_len ≤ 0
     → TookWithBytes before c room room after
 no_bytes_copied before after c room (event, step, is, text) none =
     (event, step, is, text, nothing_copied (brought event) room (omega (arith, shown_len event c is)))
-
--- Events are written, all of their bytes too: there are so many events, and so many bytes.
-pub record AreWhole (events : List TimedEvent) (count used : ℕ) (array array' : List CEvent) (room room' : List ℕ) : Type 0 where
-  pub counted : count ≡ length events
-  pub measured : used ≡ length (joined_bytes events)
-  pub inside : length events ≤ length array
-  pub fits : length (joined_bytes events) ≤ length room
-  pub shown_there : array' ≡ map c_told events ++ drop (length events) array
-  pub bytes : room' ≡ joined_bytes events ++ drop (length (joined_bytes events)) room
 
 -- the end of a list, from a place on, and a list with another end
 rest_at : (front rest : List ℕ) (at k : ℕ) → length front ≡ at → length rest ≤ k → mid_of at k (front ++ rest) ≡ rest
@@ -170,6 +189,12 @@ room_len : (events : List TimedEvent) (count used : ℕ) (array array' : List CE
 room_len events count used array array' room room' whole =
     omega (arith, ap length whole.bytes, whole.fits, length-append (joined_bytes events) (drop (length (joined_bytes events)) room), length-drop (length (joined_bytes events)) room)
 
+-- and so many places
+array_len : (events : List TimedEvent) (count used : ℕ) (array array' : List CEvent) (room room' : List ℕ)
+    → AreWhole events count used array array' room room' → length array' ≡ length array
+array_len events count used array array' room room' whole =
+    omega (arith, ap length whole.shown_there, whole.inside, length-append (map c_told events) (drop (length events) array), length-drop (length events) array, length-map events c_told)
+
 -- the bytes of one event more are so many
 more_bytes : (events : List TimedEvent) (event : TimedEvent) (used : ℕ) (c : CEvent) → used ≡ length (joined_bytes events)
     → c ≡ c_told event → length (joined_bytes (events ++ event ∷ [])) ≡ used + c.text_len
@@ -213,12 +238,7 @@ one_more_whole events count used array array' room room' event c array'' room'' 
     }
 
 module _ (before : ParserAndText) (array : List CEvent) (room : List ℕ) where
-  -- events were told, and all of them are written with all of their bytes
-  abbrev pub WroteWhole : ℕ → ℕ → List CEvent → List ℕ → ParserAndText → Type 0
-  WroteWhole count used array' room' here =
-      (events : List TimedEvent) × TookAll before events here × AreWhole events count used array array' room room'
-
-  module _ (count used : ℕ) (array' : List CEvent) (room' : List ℕ) (here : ParserAndText) (wrote : WroteWhole count used array' room' here) where
+  module _ (count used : ℕ) (array' : List CEvent) (room' : List ℕ) (here : ParserAndText) (wrote : WroteWhole before array room count used array' room' here) where
     -- it stops there
     stopped : (answer : ℕ) (after : ParserAndText) → ((events : List TimedEvent) → count ≡ length events → length events ≤ length array
         → Stops events array room here answer after) → WroteEvents before array array' room room' count answer after
@@ -258,7 +278,7 @@ module _ (before : ParserAndText) (array : List CEvent) (room : List ℕ) where
         (took : TookWithBytes here c (mid_of used (length room' - used) room') part next) where
       -- one more event
       pub one_more_wrote : c.text_len ≤ length room' - used
-          → WroteWhole (count + 1) (used + c.text_len) (slice_set array' count c) (put_mid used (length room' - used) room' part) next
+          → WroteWhole before array room (count + 1) (used + c.text_len) (slice_set array' count c) (put_mid used (length room' - used) room' part) next
       one_more_wrote few =
           let (events, taken, whole) = wrote in
           let (event, step, is, text, copy) = took in
@@ -281,3 +301,27 @@ module _ (before : ParserAndText) (array : List CEvent) (room : List ℕ) where
             one_more_written events count used array array' room room' event c part whole inside is copy,
             full (inr (many_bytes events count used array array' room room' event c whole is many)),
           )
+
+-- one event more, which brings no bytes
+pub one_more_bare : (here next : ParserAndText) (count : ℕ) (array' : List CEvent) (c : CEvent) → count < length array'
+    → Took here c next → c.text_len ≡ 0 → WritesOn here count array' next (count + 1) (slice_set array' count c)
+one_more_bare here next count array' c inside took none = λ before array room room' used wrote.
+    let part = mid_of used (length room' - used) room' in
+    let within : count < length array = omega (arith, inside, array_len wrote.0 count used array array' room room' wrote.2) in
+    let more = one_more_wrote before array room count used array' room' here wrote c next part within
+    (no_bytes_copied here next c part took (omega (arith, none))) (omega (arith, none)) in
+    let len : used + c.text_len ≡ used = omega (arith, none) in
+    subst (λ n. WroteWhole before array room (count + 1) n (slice_set array' count c) room' next) len
+    (subst (λ r. WroteWhole before array room (count + 1) (used + c.text_len) (slice_set array' count c) r next) (put_back used room') more)
+
+-- no event more
+pub none_more : (here next : ParserAndText) (count : ℕ) (array' : List CEvent) (c d : CEvent) → next ≡ here → c ≡ get_or array' count d
+    → WritesOn here count array' next count (slice_set array' count c)
+none_more here next count array' c d same kept = λ before array room room' used wrote. rw (same, unset array' count c d kept) wrote
+
+-- events behind others
+pub written_on : (here between next : ParserAndText) (count count' count'' : ℕ) (array array' array'' : List CEvent)
+    → WritesOn here count array between count' array' → WritesOn between count' array' next count'' array''
+    → WritesOn here count array next count'' array''
+written_on here between next count count' count'' array array' array'' one more = λ before all room room' used wrote.
+    more before all room room' used (one before all room room' used wrote)

@@ -37,6 +37,25 @@ pub record AreWritten (events : List TimedEvent) (array array' : List CEvent) (r
   pub bytes : room' ≡ copied (joined_bytes events) room
   pub whole : length (joined_bytes (take (length events - 1) events)) ≤ length room
 
+-- Events are written, all of their bytes too: there are so many events, and so many bytes.
+pub record AreWhole (events : List TimedEvent) (count used : ℕ) (array array' : List CEvent) (room room' : List ℕ) : Type 0 where
+  pub counted : count ≡ length events
+  pub measured : used ≡ length (joined_bytes events)
+  pub inside : length events ≤ length array
+  pub fits : length (joined_bytes events) ≤ length room
+  pub shown_there : array' ≡ map c_told events ++ drop (length events) array
+  pub bytes : room' ≡ joined_bytes events ++ drop (length (joined_bytes events)) room
+
+-- so many events were told and written so, with so many bytes
+abbrev pub WroteWhole : ParserAndText → List CEvent → List ℕ → ℕ → ℕ → List CEvent → List ℕ → ParserAndText → Type 0
+WroteWhole before array room count used array' room' here =
+    (events : List TimedEvent) × TookAll before events here × AreWhole events count used array array' room room'
+
+-- Further events, which bring no bytes, were told and written behind those before.
+abbrev pub WritesOn : ParserAndText → ℕ → List CEvent → ParserAndText → ℕ → List CEvent → Type 0
+WritesOn here count array' here' count' array'' = (before : ParserAndText) (array : List CEvent) (room room' : List ℕ) (used : ℕ)
+    → WroteWhole before array room count used array' room' here → WroteWhole before array room count' used array'' room' here'
+
 -- the array is full, or bytes of the last event have no room
 abbrev pub IsFull : List TimedEvent → List CEvent → List ℕ → Type 0
 IsFull events array room = (length events ≡ length array) ⊎ (length room < length (joined_bytes events))

@@ -3,7 +3,7 @@ ghost use Rattle.std.specs.Prelude.{◌≡◌, ◌≢◌, ◌≤◌, ◌↔◌, 
 ghost use Rattle.termwiz_timed.specs.Steps.{Step};
 ghost use Rattle.termwiz_timed.specs.Steps.Call.{AllTold};
 ghost use Rattle.hedrugal.specs.Calls.{MeetsMemory};
-ghost use Rattle.hedrugal.specs.EventArrays.{TookWithBytes, Wrote, WroteEvents};
+ghost use Rattle.hedrugal.specs.EventArrays.{TookWithBytes, WritesOn, Wrote, WroteEvents};
 
 use crate::copying::copy_prefix;
 use crate::events::CEvent;
@@ -34,6 +34,20 @@ fn tell(held: &mut ParserAndText, shown: &mut CEvent, room: &mut [u8]) -> Result
     Ok(true)
 }
 
+// Writes the keys of the characters that come first to the array, from its place `count` on: text is typed in runs.
+#[inline(always)]
+fn write_characters(held: &mut ParserAndText, events: &mut [CEvent], count: &mut usize)
+    ensures written { WritesOn held.old count.old events.old held.new count.new events.new }
+    ensures count { count.old ≤ count.new }
+{
+    while *count < events.len() {
+        if !held.next_character(&mut events[*count]) {
+            return;
+        }
+        *count += 1;
+    }
+}
+
 // Writes events to the array, and their bytes one after another to `room`, up to the first event whose bytes don't fit.
 fn write_events(
     held: &mut ParserAndText,
@@ -47,6 +61,10 @@ fn write_events(
     *count = 0;
     let mut used = 0;
     while *count < events.len() {
+        write_characters(held, events, count);
+        if *count >= events.len() {
+            return OK;
+        }
         let left = room.len() - used;
         let shown = &mut events[*count];
         match tell(held, shown, &mut room[used..]) {

@@ -1,5 +1,5 @@
 // What the handle of a parser leads to.
-ghost use Rattle.std.specs.Prelude.{◌≡◌, ◌+◌, ◌≤◌, ℕ, List, [], length, true, false, Ok, OnErr, OnOk};
+ghost use Rattle.std.specs.Prelude.{◌≡◌, ◌+◌, ◌≤◌, ℕ, List, [], length, true, false, IsTrue, Ok, OnErr, OnOk};
 ghost use Rattle.std.specs.FinMap as map;
 ghost use Rattle.termwiz_input.specs.KeyEvent.{KeyEvent};
 ghost use Rattle.termwiz_input.specs.Table.{table};
@@ -72,6 +72,24 @@ impl EventSink for ShownEvent<'_> {
             other => self.emit(other.event(alloc)?),
         }
         Ok(())
+    }
+}
+
+// Where an event that brings no bytes is shown as C has it.
+#[derive(Drop)]
+struct ShownBare<'a> {
+    event: &'a mut CEvent,
+}
+
+impl EventSink for ShownBare<'_> {
+    ghost use Rattle.std.specs.Prelude.{◌≡◌};
+    ghost use Rattle.hedrugal.specs.Events.{c_event};
+
+    ghost takes = { λ before event after. (after.event.now ≡ c_event event) × (after.event.ghost_name ≡ before.event.ghost_name) };
+
+    #[inline(always)]
+    fn emit(&mut self, event: Event) {
+        show(&event, self.event);
     }
 }
 
@@ -155,6 +173,27 @@ impl ParserAndText {
             text: &mut self.text,
         };
         self.parser.emit_next(&mut sink)
+    }
+
+    // Shows the key of the character that comes next. The answer is false if none does, or if `next` frees a long place first. Inlined, since a
+    // run of characters is one loop.
+    #[inline(always)]
+    pub(crate) fn next_character(&mut self, shown: &mut CEvent) -> bool
+        ensures told { IsTrue result → Took self.old shown.new self.new }
+        ensures bare { IsTrue result → shown.new.text_len ≡ 0 }
+        ensures none_same { result ≡ false → self.new ≡ self.old }
+        ensures none_shown { result ≡ false → shown.new ≡ shown.old }
+    {
+        if self.text.capacity() > KEPT_ROOM {
+            return false;
+        }
+        let mut sink = ShownBare { event: shown };
+        if self.parser.emit_character(&mut sink) {
+            self.text.clear();
+            true
+        } else {
+            false
+        }
     }
 
     // Copies as much of the row at a place as `out` has room for, shows its key, and returns the row's length; 0 if no row is there.

@@ -6,3 +6,4 @@ pub mod ReportEnds
 pub mod PlainReports
 pub mod ReplyExamples
 pub mod ReplyLemmas
+pub mod UnreadEnds

@@ -78,15 +78,15 @@ no_o : key_report (79 ∷ []) ≡ None
 unfolding key_report character_key lettered_key numbered_key other_key other_held before_end
 no_o = refl
 
-none_otherwise : (b : ℕ) → (b == 73) ≡ false → (b == 79) ≡ false → focus (b ∷ []) ≡ None
+pub none_otherwise : (b : ℕ) → (b == 73) ≡ false → (b == 79) ≡ false → focus (b ∷ []) ≡ None
 unfolding focus
 none_otherwise b i o = rw (i, o) refl
 
-none_of_none : focus [] ≡ None
+pub none_of_none : focus [] ≡ None
 unfolding focus
 none_of_none = refl
 
-none_of_more : (b d : ℕ) (t : List ℕ) → focus (b ∷ d ∷ t) ≡ None
+pub none_of_more : (b d : ℕ) (t : List ℕ) → focus (b ∷ d ∷ t) ≡ None
 unfolding focus
 none_of_more b d t = refl
 

@@ -20,7 +20,7 @@ drop_to_last [] b e = cc (e)
 drop_to_last (x ∷ t) b e = drop_to (x ∷ t) (length (x ∷ t) - 1) b (omega arith) e
 
 -- a text with another last byte doesn't end so
-other_end : (t : List ℕ) (b end : ℕ) → slice_get t (length t - 1) ≡ Some b → b ≢ end → before_end (end ∷ []) t ≡ None
+pub other_end : (t : List ℕ) (b end : ℕ) → slice_get t (length t - 1) ≡ Some b → b ≢ end → before_end (end ∷ []) t ≡ None
 unfolding before_end
 other_end t b end e n =
     let other : (b == end) ≡ false = grind (arith, nat_tests) in

@@ -1,5 +1,5 @@
 -- What a sequence means that the port doesn't know.
-use Rattle.std.specs.Prelude.{◌≡◌, ◌≢◌, ℕ, ◌==◌, Bool, List, [], ◌∷◌, Option, Some, None, if◌then◌else◌, option_map, unwrap_or}
+use Rattle.std.specs.Prelude.{◌≡◌, ◌≢◌, ◌≤◌, ◌⊎◌, ℕ, ◌==◌, Bool, List, [], ◌∷◌, Option, Some, None, if◌then◌else◌, option_map, unwrap_or}
 use Rattle.termwiz_extended_events.specs.declared.types.KeyReport.{KeyReport}
 use Rattle.termwiz_extended_events.specs.declared.types.Event.{Event}
 use Rattle.termwiz_extended_events.specs.declared.types.Event.TheVariants.{Csi, Osc, Dcs, Apc, Key, Mouse, Paste, FocusGained, FocusLost, CursorPosition, Resized, KeyboardFlags, StringPart, StringCut}
@@ -21,6 +21,10 @@ reported asks t = first_some (
     focus t ∷ option_map Key (key_report t) ∷ option_map Key (unasked_key asks t) ∷ reply t ∷ option_map Key (third_function_key t)
     ∷ option_map Key (rxvt_key t) ∷ option_map Mouse (mouse_report t) ∷ option_map Mouse (side_button t)
     ∷ option_map Key (console_key t) ∷ option_map Key (further_key t) ∷ [])
+
+-- A small letter but m, t and u. What ends so behind ESC [ is read by no rule, unless M comes first.
+abbrev pub IsUnreadEnd : ℕ → Type 0
+IsUnreadEnd b = ((97 ≤ b) × (b ≤ 108)) ⊎ (((110 ≤ b) × (b ≤ 115)) ⊎ ((118 ≤ b) × (b ≤ 122)))
 
 -- the event of what follows ESC O, by the first rule that fits
 unfoldable pub keypad_reported : List ℕ → Option Event

@@ -1,10 +1,10 @@
 // What a sequence means that the port doesn't know.
-ghost use Rattle.std.specs.Prelude.{◌≡◌, ◌↔◌, true, false, option_map, IfOk, IfSome, IsSome, IsTrue, OnErr, Some, unwrap_or};
+ghost use Rattle.std.specs.Prelude.{◌≡◌, ◌↔◌, Bool, true, false, None, option_map, IfOk, IfSome, IsSome, IsTrue, OnErr, Some, unwrap_or};
 ghost use Rattle.termwiz_extended_events.specs.declared.types.Event.{Event};
 ghost use Rattle.termwiz_extended_events.specs.declared.types.Event.TheVariants.{Csi, Key};
 ghost use Rattle.termwiz_extended_events.specs.KeyReports.{plain_report};
 ghost use Rattle.termwiz_extended_events.specs.Meanings as meaning;
-ghost use Rattle.termwiz_extended_events.specs.Meanings.{reported, command_text, string_text, event_after, event_from, IsKey, IsPosition, IsKeyOrPosition, NeedsMemory};
+ghost use Rattle.termwiz_extended_events.specs.Meanings.{reported, command_text, string_text, event_after, event_from, IsKey, IsPosition, IsKeyOrPosition, IsUnreadEnd, NeedsMemory};
 
 use crate::fields::before_end;
 use crate::key_reports;
@@ -165,11 +165,31 @@ fn unasked_key(t: &[u8], asks: bool) -> Option<PlainReport>
     if asks { None } else { third_function_key(t) }
 }
 
+// Whether a byte is such an end.
+fn is_unread_end(byte: u8) -> bool
+    ensures { IsTrue result ↔ IsUnreadEnd byte }
+{
+    matches!(byte, b'a'..=b'l' | b'n'..=b's' | b'v'..=b'z')
+}
+
+// Whether the last byte of what follows ESC [ tells that no rule reads it, as that of a reply to DA1 does.
+fn is_unread(t: &[u8]) -> bool
+    ensures { IsTrue result → (asks : Bool) → meaning.reported asks t.now ≡ None }
+{
+    match (t.first(), t.last()) {
+        (Some(first), Some(last)) if *first != b'M' => is_unread_end(*last),
+        _ => false,
+    }
+}
+
 // What follows ESC [, by the first rule that fits. What none reads is a control sequence.
 #[tactic(auto, unfolding(crate::specs::Meanings::reported))]
 fn reported(t: &[u8], asks: bool) -> Meaning<'_>
     ensures { event_from result ≡ Some (unwrap_or (reported asks t.now) (Csi t.now)) }
 {
+    if is_unread(t) {
+        return Meaning::Csi(t);
+    }
     if let Some(meaning) = focus(t) {
         return meaning;
     }
@@ -254,15 +274,28 @@ fn plain_report_behind(t: &[u8]) -> Option<PlainReport>
     key_reports::plain_report(t)
 }
 
-/// The key report of a whole sequence, if it says no more than a key and its manner: a small value, and quicker than [`meaning_of`]. It is
-/// the same whether a question for the cursor's position is open or not. `None` decides nothing: the sequence may still be a key report.
+// The same of a whole sequence. It isn't inlined, so that what ends otherwise pays for no frame.
 #[tactic(auto, unfolding(crate::specs::Meanings::event_of, crate::specs::Meanings::event_after))]
-pub fn plain_report(text: &[u8]) -> Option<PlainReport>
+#[inline(never)]
+fn plain_report_of(text: &[u8]) -> Option<PlainReport>
     ensures asked { IfSome result (λ report. meaning.event_of true text.now ≡ Key (plain_report report)) }
     ensures unasked { IfSome result (λ report. meaning.event_of false text.now ≡ Key (plain_report report)) }
 {
     match text {
         [0x1b, b'[', t @ ..] => plain_report_behind(t),
+        _ => None,
+    }
+}
+
+/// The key report of a whole sequence, if it says no more than a key and its manner: a small value, and quicker than [`meaning_of`]. It is
+/// the same whether a question for the cursor's position is open or not. `None` decides nothing: the sequence may still be a key report.
+#[inline(always)]
+pub fn plain_report(text: &[u8]) -> Option<PlainReport>
+    ensures asked { IfSome result (λ report. meaning.event_of true text.now ≡ Key (plain_report report)) }
+    ensures unasked { IfSome result (λ report. meaning.event_of false text.now ≡ Key (plain_report report)) }
+{
+    match text.last() {
+        Some(b'u' | b'~' | b'A'..=b'F' | b'H' | b'P' | b'Q' | b'S') => plain_report_of(text),
         _ => None,
     }
 }

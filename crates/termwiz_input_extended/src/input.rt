@@ -2,20 +2,18 @@
 ghost use Rattle.std.specs.Prelude.{◌≡◌, ◌≢◌, ◌++◌, ◌+◌, ◌≤◌, ◌<◌, max, min, ℕ, Bool, List, [], ◌∷◌, length, take, drop, true, false, OnErr, IfOk, IfErr, IfSome, IfNone, IsTrue, ◌⊎◌, OnOk, IsOk, IsErrOf, Ok, unwrap_or, vec_len, vec_capacity};
 ghost use Rattle.termwiz_keymap.specs.Bytes.{Begins};
 ghost use Rattle.termwiz_keys.specs.Introducers.{ESC, START};
-ghost use Rattle.termwiz_grammar.specs.MouseReports.{IsMouseReport};
 ghost use Rattle.termwiz_grammar.specs.PasteParts.{HasPart, IsSkipped, IsTaken};
 ghost use Rattle.termwiz_grammar.specs.WaitingKinds.{IsOpenPaste};
 ghost use Rattle.termwiz_extended_events.specs.declared.types.Event.{Event};
 ghost use Rattle.termwiz_extended_events.specs.PortEvents.{pressed_key, with_key};
 ghost use Rattle.termwiz_extended_grammar.specs.ExtraSequences.{with_alt};
-ghost use Rattle.termwiz_extended_grammar.specs.Readings.{ReadsMore, after_event, after_events, asking, first_reading};
+ghost use Rattle.termwiz_extended_grammar.specs.Readings.{after_event, after_events, asking, first_reading};
 ghost use Rattle.termwiz_extended_grammar.specs.ExtendedGrammar.{HasItem, IsRest, Means, Steps};
 ghost use Rattle.termwiz_extended_grammar.specs.ExtendedKinds.{IsKind};
 ghost use Rattle.termwiz_extended_grammar.specs.ExtendedLaws.{Waits};
 ghost use Rattle.termwiz_input_extended.specs.Buffered.{IsToldByBytes};
 ghost use Rattle.termwiz_input_extended.specs.EventCallbacks.{MayBeCalledOn, WasCalledOn};
-ghost use Rattle.termwiz_input_extended.specs.NextItems.{Emits, IsEmitted, GivesNoneThatNeedsMemory, HasItemThatNeedsMemory, IsBareKeyAt, IsNextItem, IsFormAt, IsPasteEvent, IsPortsOwn, Stores, told_by};
-ghost use Rattle.termwiz_input_extended.specs.StringAnswers.{IsOpeningOf};
+ghost use Rattle.termwiz_input_extended.specs.NextItems.{GivesNoneThatNeedsMemory, HasItemThatNeedsMemory, IsNextItem, IsPasteEvent, Stores, told_by};
 
 use crate::next_item::{NextItem, is_extra_at, meaning_in, next_item};
 use crate::string::{OpeningAt, StringAt, opening_at, string_at};

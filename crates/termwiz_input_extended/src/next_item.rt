@@ -269,7 +269,7 @@ pub(crate) fn is_extra_at(
 
 // The key report of the form of so many bytes at the front of a text, if it is read as one that says no more than a key and its manner. It
 // is a small value, from which the event is built once, and so it is quicker than a meaning. `None` decides nothing.
-#[inline(never)]
+#[inline(always)]
 pub(crate) fn plain_report_at(text: &[u8], len: usize) -> Option<PlainReport>
     requires { len ≤ length text.now }
     ensures { (reading : Reading) → IsFormAt reading text.now len
@@ -447,6 +447,10 @@ fn extended_item(
     requires scanned { IsScannedTo text.now scanned }
     ensures { IsNextItem reading text.now maybe_more result }
 {
+    // Nearly every sequence begins so.
+    if let [ESCAPE, b'[', ..] = text {
+        return item_of_sequence(reading, text, scanned, maybe_more);
+    }
     match follows_escape(text) {
         None => item_without_escape(text),
         Some(after) => match follows_escape(after) {

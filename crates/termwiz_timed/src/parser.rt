@@ -2,6 +2,8 @@
 ghost use Rattle.std.specs.Prelude.{◌≡◌, ◌≢◌, ◌⊎◌, ◌↔◌, ℕ, Bool, [], length, true, false, None, Some, IsTrue, Ok, IfOk, IfSome, IfNone, IfErr, OnOk, OnErr, IsOk, IsErrOf, if◌then◌else◌};
 ghost use Rattle.termwiz_grammar.specs.PasteParts.{IsSkipped};
 ghost use Rattle.termwiz_grammar.specs.WaitingKinds.{IsOpenPaste};
+ghost use Rattle.termwiz_extended_events.specs.declared.types.Event.{Event};
+ghost use Rattle.termwiz_extended_events.specs.Meanings.{NeedsMemory};
 ghost use Rattle.termwiz_input_extended.specs.Buffered.{IsToldByBytes};
 ghost use Rattle.termwiz_input_extended.specs.ExtendedExpiry.{IsLimitOf};
 ghost use Rattle.termwiz_input_extended.specs.NextItems.{HasItemThatNeedsMemory};
@@ -15,7 +17,7 @@ ghost use Rattle.termwiz_timed.specs.Steps.Call.{AllTold, End, ExpectPosition, F
 ghost use Rattle.termwiz_timed.specs.Timed.{HasPassed, IsFlushing, IsLeft, IsPasteOrString, IsTimeout, emptied, flushed, more_comes, new_timed, read_again, sooner, while_buffered};
 
 use crate::ages::Ages;
-use crate::sink::{LastTold, Noting, TimedSink};
+use crate::sink::{EventSink, LastTold, Noting, TimedSink};
 use std::alloc::{AllocError, Global};
 use std::marker::Model;
 use termwiz_extended_events::types::{Dialect, Event, Reading};
@@ -595,6 +597,27 @@ impl TimedParser {
             return Ok(false);
         }
         self.emit_of_paste(sink)
+    }
+
+    /// Emits the key of the character at the front of the buffer, as [`TimedParser::emit_next`] does, and answers whether one is there. It asks
+    /// for no memory, and so a run of characters can be one loop.
+    #[inline(always)]
+    pub fn emit_character<S: EventSink>(&mut self, sink: &mut S) -> bool
+        ensures told { IsTrue result → (event : Event) × S.takes sink.old event sink.new × Step self.old (Told (TimedEvent.Whole event)) self.new
+            × (¬ NeedsMemory event) }
+        ensures none_same { result ≡ false → self.new ≡ self.old }
+        ensures none_sink { result ≡ false → sink.new ≡ sink.old }
+    {
+        let mut noting = Noting {
+            sink: &mut *sink,
+            interrupted: &mut self.interrupted,
+        };
+        if self.parser.emit_character(&mut noting) {
+            self.note_gone();
+            true
+        } else {
+            false
+        }
     }
 
     /// Emits the next event to `sink`, and answers whether there was one: if not, all is told, and the sink is unchanged.

@@ -8,7 +8,7 @@ ghost use Rattle.termwiz_extended_events.specs.Meanings.{IsPosition};
 ghost use Rattle.termwiz_extended_grammar.specs.Readings.{ReadsMore, after_event};
 ghost use Rattle.termwiz_extended_grammar.specs.ExtendedGrammar.{IsRest};
 ghost use Rattle.termwiz_extended_grammar.specs.ExtendedLaws.{Waits};
-ghost use Rattle.termwiz_input_extended.specs.NextItems.{Emits, IsEmitted, HasItemThatNeedsMemory, IsBareKeyAt, IsFormAt, IsPortsOwn};
+ghost use Rattle.termwiz_input_extended.specs.NextItems.{Emits, IsEmitted, IsLightlyEmitted, HasItemThatNeedsMemory, IsBareKeyAt, IsFormAt, IsPortsOwn};
 ghost use Rattle.termwiz_input_extended.specs.StringAnswers.{IsOpeningOf};
 
 use super::{ExtendedParser, key_event, told_event, with_alt};
@@ -222,6 +222,24 @@ impl ExtendedParser {
         }
     }
 
+    /// Consumes the character at the front of the buffer, and emits its key to `sink`, as [`ExtendedParser::emit_next`] does. The answer is
+    /// false if none is there. It asks for no memory, and so a run of characters can be one loop.
+    #[inline(always)]
+    pub fn emit_character<S: EventSink>(&mut self, sink: &mut S) -> bool
+        ensures emitted { IsTrue result → (more : Bool) → IsLightlyEmitted S.takes self.old sink.old more self.new sink.new }
+        ensures none_same { result ≡ false → self.new ≡ self.old }
+        ensures none_sink { result ≡ false → sink.new ≡ sink.old }
+    {
+        match match_character(self.waiting_text()) {
+            Some((character, len)) => {
+                self.consume(len);
+                sink.emit(key_event(self.alloc, plain_key(character), None));
+                true
+            }
+            None => false,
+        }
+    }
+
     /// Consumes the item at the front of the buffer, and emits its event to `sink`. The answer is false if there is no item: then all buffered
     /// bytes are the rest, and neither the parser nor the sink changed.
     ///
@@ -251,13 +269,9 @@ impl ExtendedParser {
         // At most 256 bytes stay buffered, an open string of at most 65535, or an open paste.
         ensures waits { result ≡ Ok false → Waits self.new.reading self.new.text maybe_more }
     {
-        match match_character(self.waiting_text()) {
-            Some((character, len)) => {
-                self.consume(len);
-                sink.emit(key_event(self.alloc, plain_key(character), None));
-                Ok(true)
-            }
-            None => self.emit_item(sink, maybe_more),
+        if self.emit_character(sink) {
+            return Ok(true);
         }
+        self.emit_item(sink, maybe_more)
     }
 }

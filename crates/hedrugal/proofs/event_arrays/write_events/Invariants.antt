@@ -1,5 +1,5 @@
 use Rattle.std.proofs.Common.{◌-◌, length}
-use Rattle.hedrugal.proofs.WrittenEvents.{WroteWhole}
+use Rattle.hedrugal.specs.EventArrays.{WroteWhole}
 use Rattle.hedrugal.proofs.event_arrays.write_events.Given as goal
 
 abbrev pub invariant-loop-count : goal.invariant-loop-count

@@ -80,6 +80,11 @@ module _ (reading : Reading) (u y : List ℕ) (m : Meaning) (long : 2 < length y
 no_opening_bracket : (u t : List ℕ) → u ≡ 27 ∷ 91 ∷ t → StartsWithOpening u → ⊥
 no_opening_bracket u t e o = no_opening_after 27 91 t (λ first second. omega arith) (subst StartsWithOpening e o)
 
+-- what begins with ESC [ begins with one ESC alone
+pub one_before_bracket : (u : List ℕ) → slice_index_or u 1 0 ≡ 91 → Begins (ESC ++ ESC) u → ⊥
+one_before_bracket u second b =
+    let other : slice_index_or u 1 0 ≡ 27 = ap (λ z. slice_index_or z 1 0) b.1 in omega (arith, second, other)
+
 pub own_start : (reading : Reading) (u : List ℕ) (f : Bool) → Begins START u → IsPortsOwn reading u f
 own_start reading u f b = own_by_sequence reading u START (Row start) (omega arith) start_is_sequence b f
     (codes "[200~" ++ b.0, b.1) (λ two. let second : ◌≡◌ {A = ℕ} 91 27 = cc (b.1, two.1) in omega arith)

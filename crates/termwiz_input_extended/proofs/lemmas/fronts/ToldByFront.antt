@@ -30,12 +30,13 @@ use Rattle.termwiz_extended_events.specs.declared.types.Dialect.TheVariants.{Ext
 use Rattle.termwiz_extended_events.specs.declared.types.Event.{Event}
 use Rattle.termwiz_extended_events.specs.declared.types.Event.TheVariants.{Key}
 use Rattle.termwiz_extended_events.specs.declared.types.Reading.{Reading}
+use Rattle.termwiz_extended_events.specs.Meanings.{NeedsMemory}
 use Rattle.termwiz_extended_events.specs.PortEvents.{decided_key, pressed_key, told, typed_byte, typed_key, with_key}
 use Rattle.termwiz_extended_grammar.specs.ExtendedGrammar.{Steps}
 use Rattle.termwiz_extended_grammar.proofs.lemmas.cuts.PortTold.{decided_none}
 use Rattle.termwiz_extended_grammar.proofs.lemmas.forms.PortLayouts.{Layout, Past, sequence_layout}
 use Rattle.termwiz_extended_grammar.proofs.lemmas.forms.PortLayouts.Layout.{alone, paired, longer}
-use Rattle.termwiz_input_extended.specs.NextItems.{Emits, IsPortsOwn, decided_at, front_key, told_by}
+use Rattle.termwiz_input_extended.specs.NextItems.{Emits, IsLightlyEmitted, IsPortsOwn, decided_at, front_key, told_by}
 use Rattle.termwiz_input_extended.specs.Buffered.{Buffered}
 use Rattle.termwiz_extended_grammar.specs.Readings.{after_event}
 use Rattle.termwiz_input_extended.proofs.lemmas.fronts.EmittedItems.{emits_event}
@@ -187,16 +188,31 @@ key_step reading u k len f own is = own_step reading u (drop len u) (input.Key k
     (take len u, drop len u, is.1, sym (take-append-drop len u), refl)
 
 -- what a call answers that consumes such a key
+pub key_lightly_emitted : {S : Type 0} (takes : S → Event → S → Type 0) (old new : Buffered) (before after : S) (more : Bool) (k : KeyEvent) (len : ℕ)
+    (decided : Option KeyCode) (made : Event) → made ≡ told_by decided (input.Key k)
+    → decided ≡ front_key old.reading.dialect old.reading old.text → IsPortsOwn old.reading old.text more
+    → IsItemAt old.text more (input.Key k) len → new ≡ record old { text = drop len old.text } → takes before made after
+    → IsLightlyEmitted takes old before more new after
+key_lightly_emitted takes old new before after more k len decided made made_is decided_is own is new_is taken = (
+  record {
+    event = made;
+    steps = subst (λ e. Steps old.reading old.text more (e ∷ []) new.text) (sym (made_is ∙ ap (λ found. told_by found (input.Key k)) decided_is))
+        (subst (λ t. Steps old.reading old.text more (told_by (front_key old.reading.dialect old.reading old.text) (input.Key k) ∷ []) t)
+        (sym (ap (λ (b : Buffered). b.text) new_is)) (key_step old.reading old.text k len more own is));
+    reading = ap (λ (b : Buffered). b.reading) new_is ∙ sym (ap (after_event old.reading) made_is);
+    taken = taken;
+  },
+  λ needs. (subst NeedsMemory made_is needs) refl,
+)
+
 pub key_emitted : {S F : Type 0} (takes : S → Event → S → Type 0) (old new : Buffered) (before after : S) (more : Bool) (k : KeyEvent) (len : ℕ)
     (decided : Option KeyCode) (made : Event) → made ≡ told_by decided (input.Key k)
     → decided ≡ front_key old.reading.dialect old.reading old.text → IsPortsOwn old.reading old.text more
     → IsItemAt old.text more (input.Key k) len → new ≡ record old { text = drop len old.text } → takes before made after
     → Emits {F = F} takes old before more new after (Ok true)
-key_emitted takes old new before after more k len decided made made_is decided_is own is new_is taken = emits_event takes old new before after more made
-    (subst (λ e. Steps old.reading old.text more (e ∷ []) new.text) (sym (made_is ∙ ap (λ found. told_by found (input.Key k)) decided_is))
-    (subst (λ t. Steps old.reading old.text more (told_by (front_key old.reading.dialect old.reading old.text) (input.Key k) ∷ []) t)
-    (sym (ap (λ (b : Buffered). b.text) new_is)) (key_step old.reading old.text k len more own is)))
-    (ap (λ (b : Buffered). b.reading) new_is ∙ sym (ap (after_event old.reading) made_is)) taken
+key_emitted takes old new before after more k len decided made made_is decided_is own is new_is taken =
+    let light = key_lightly_emitted takes old new before after more k len decided made made_is decided_is own is new_is taken in
+    emits_event takes old new before after more light.0.event light.0.steps light.0.reading light.0.taken
 
 -- where the first byte isn't ESC, it decides
 pub first_key : (reading : Reading) (x : ℕ) (rest : List ℕ) → reading.dialect ≡ Extended → x ≢ 27

@@ -1,3 +1,5 @@
+use Rattle.std.proofs.Common.{arith}
+use Rattle.termwiz_input_extended.proofs.lemmas.fronts.KnownFronts.{one_before_bracket}
 use Rattle.termwiz_input_extended.proofs.lemmas.fronts.ScannedPlaces.{no_second_escape}
 use Rattle.termwiz_input_extended.proofs.next_item.extended_item.Goals as goal
 
@@ -15,3 +17,7 @@ item_of_one_escape-requires-clause-scanned c = c.requires.scanned.here
 
 pub returns-in-Some-follows_escape : goal.returns-in-Some-follows_escape
 returns-in-Some-follows_escape c = rw c.in-Some.ensures.some c.item_of_two_escapes.ensures
+
+pub item_of_sequence-requires-clause-scanned : goal.item_of_sequence-requires-clause-scanned
+item_of_sequence-requires-clause-scanned c =
+    c.requires.scanned.here (one_before_bracket c.args.text.now (omega arith))

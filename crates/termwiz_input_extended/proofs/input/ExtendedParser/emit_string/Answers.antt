@@ -2,7 +2,6 @@ use Rattle.std.proofs.Common.{◌≡◌, ◌∷◌, [], ◌++◌, refl, sym, ap,
 use Rattle.std.specs.Prelude.{IfSome}
 use Rattle.termwiz_extended_events.specs.Meanings.{NeedsMemory, event_from}
 use Rattle.termwiz_extended_grammar.specs.Strings.{IsOpenString}
-use Rattle.termwiz_extended_grammar.specs.Readings.{after_event}
 use Rattle.termwiz_extended_grammar.specs.ExtendedGrammar.{Steps}
 use Rattle.termwiz_extended_grammar.proofs.lemmas.items.ExtendedRests.{string_rests}
 use Rattle.termwiz_input_extended.specs.Buffered.{Buffered}
