@@ -19,8 +19,8 @@ from pexpect.fdpexpect import fdspawn
 # Longer than the 100 ms after which ESC and a byte are a key with Alt, and shorter than the second
 # after which a longer prefix is flushed; and longer than both.
 PAUSE, LONG_PAUSE = 0.2, 1.3
-# The time of a reply over a line that takes 300 ms each way. It is longer than the 200 ms for which a
-# program that ends waits at least, and leaves 400 of the second that it waits at most.
+# The time of a reply over a line that takes 300 ms each way. It is longer than the 200 ms that a
+# program waits at least when it ends, and leaves 400 of the second that it waits at most.
 SLOW_LINE = 0.6
 START, END = b"\033[200~", b"\033[201~"
 END_OF_OUTPUT = b"\x1e\x1e"

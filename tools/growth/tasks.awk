@@ -7,7 +7,7 @@ BEGIN {
     GROWS["bind"] = GROWS["unbind"] = GROWS["lookup"] = GROWS["continuations"] = 1.25
     GROWS["entry"] = GROWS["send"] = 1.05
     # The most instructions among 500 chords of one press, beside those of a row of five bytes. A press takes two calls.
-    BESIDE_ROW["lookup one"] = 2; BESIDE_ROW["press one"] = 3.5
+    BESIDE_ROW["lookup one"] = BESIDE_ROW["press one"] = 1.5
     # The most instructions of one time: of a byte that is sent as it is.
     COSTS["send plain"] = COSTS["send lines"] = 20
     # The most bytes of memory of a chord, beside those where there are fewer, and the most seconds that it takes to bind or unbind all.
