@@ -75,7 +75,7 @@ def readme():
 
 def kit():
     name = found_in(r"kit: (\S+)", "prebuilt/x86_64-linux/PROVENANCE")
-    yield f" or {name}"
+    yield f"`rt` of {name} on the path"
 
 
 def port():
