@@ -6,7 +6,7 @@ ghost use Rattle.hedrugal.specs.Calls.{MeetsMemory};
 ghost use Rattle.hedrugal.specs.EventArrays.{TookWithBytes, WritesOn, Wrote, WroteEvents};
 
 use crate::copying::copy_prefix;
-use crate::events::CEvent;
+use crate::events::{CEvent, KEY_CHAR};
 use crate::handles::ParserHandle;
 use crate::parser_and_text::ParserAndText;
 use crate::status::{NO_MEMORY, NONE, NOT_INITIALIZED, OK};
@@ -34,7 +34,7 @@ fn tell(held: &mut ParserAndText, shown: &mut CEvent, room: &mut [u8]) -> Result
     Ok(true)
 }
 
-// Writes the keys of the characters that come first to the array, from its place `count` on: text is typed in runs.
+// Writes the keys of the characters that come first to the array, from its place `count` on.
 #[inline(always)]
 fn write_characters(held: &mut ParserAndText, events: &mut [CEvent], count: &mut usize)
     ensures written { WritesOn held.old count.old events.old held.new count.new events.new }
@@ -61,10 +61,6 @@ fn write_events(
     *count = 0;
     let mut used = 0;
     while *count < events.len() {
-        write_characters(held, events, count);
-        if *count >= events.len() {
-            return OK;
-        }
         let left = room.len() - used;
         let shown = &mut events[*count];
         match tell(held, shown, &mut room[used..]) {
@@ -74,6 +70,10 @@ fn write_events(
                     return OK;
                 }
                 used += shown.text_len;
+                // Text is typed in runs.
+                if shown.key == KEY_CHAR {
+                    write_characters(held, events, count);
+                }
             }
             Ok(false) => return NONE,
             Err(_) => return NO_MEMORY,

@@ -60,6 +60,9 @@ pub(crate) const KEY_EVENT_KIND_REPEAT: u8 = 2;
 
 pub(crate) const KEY_EVENT_KIND_RELEASE: u8 = 3;
 
+// The number of a key that types a character.
+pub(crate) const KEY_CHAR: u16 = 1;
+
 // What stands for a code point that the terminal didn't report.
 pub(crate) const NO_CODE: u32 = 0xffff_ffff;
 
