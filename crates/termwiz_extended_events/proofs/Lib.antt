@@ -2,6 +2,7 @@ pub mod Examples
 pub mod FieldLemmas
 pub mod MouseCodes
 pub mod NumberLemmas
+pub mod OneFields
 pub mod ReportEnds
 pub mod PlainReports
 pub mod ReplyExamples

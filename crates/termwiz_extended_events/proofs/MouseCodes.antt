@@ -9,7 +9,7 @@ use Rattle.std.proofs.lemmas.List.{drop_more}
 use Rattle.termwiz_base.specs.Mouse.{largest_code}
 use Rattle.termwiz_extended_events.specs.MouseReports.{code_of_fields}
 use Rattle.termwiz_extended_events.specs.Numbers.{fields, few_digits, number_within}
-use Rattle.termwiz_extended_events.proofs.PlainReports.{are_digits}
+use Rattle.termwiz_extended_events.proofs.NumberLemmas.{are_digits}
 
 -- no digit is a semicolon
 digits_first : (xs ys : List ℕ) → list_all is_ascii_digit xs ≡ true → fields (xs ++ 59 ∷ ys) ≡ xs ∷ fields ys

@@ -1,10 +1,9 @@
 -- Reports of a key that say no more than its manner.
-use Rattle.std.proofs.Common.{◌≡◌, ℕ, ◌==◌, ◌&&◌, Bool, true, false, not, List, [], ◌∷◌, length, nat_lt, nat_le, refl, sym, ap, ◌∙◌, subst, arith, bytes_eq, codes, Option, Some, None}
+use Rattle.std.proofs.Common.{◌≡◌, ℕ, ◌==◌, ◌<◌, ◌≤◌, ◌&&◌, Bool, true, false, List, [], ◌∷◌, length, get_or, nat_lt, nat_le, refl, sym, ap, ◌∙◌, subst, arith, codes, Option, Some, None}
 use Rattle.std.specs.Prelude.{option_map, option_and_then, IfSome, if◌then◌else◌}
 use Rattle.std.specs.List.{list_all, slice_split}
 use Rattle.std.specs.Char.{is_ascii_digit}
 use Rattle.std.proofs.lemmas.Bool.{and_parts}
-use Rattle.std.proofs.lemmas.Slice.Eq.{bytes_eq-Decides}
 use Rattle.std.proofs.lemmas.Bool.Decides.{nat_tests}
 use Rattle.termwiz_grammar.specs.MouseReports.{value_of}
 use Rattle.termwiz_extended_events.specs.declared.types.KeyReport.{KeyReport}
@@ -13,35 +12,13 @@ use Rattle.termwiz_extended_events.specs.declared.types.PlainReport.{PlainReport
 use Rattle.termwiz_extended_events.specs.Numbers.{before_end, fields, first_some, is_digits, most_digits, number, number_within, parts, scalar}
 use Rattle.termwiz_extended_events.specs.KeyReports.{character_of_fields, character_report, codes_of, key_report, plain_report, report_behind, report_of, character_key, lettered_key, numbered_key, numbered_of_fields, other_key, other_held, other_of_fields}
 use Rattle.termwiz_extended_events.specs.ReportedKeys.{key_of, tilde_key}
+use Rattle.termwiz_extended_events.proofs.OneFields.{number_unparted}
 use Rattle.termwiz_extended_events.specs.Replies.{focus}
 use Rattle.termwiz_extended_events.specs.Meanings.{reported}
 use Rattle.termwiz_extended_events.specs.declared.types.Event.TheVariants.{Key}
 
--- no digit is a colon
-digits_one_part : (xs : List ℕ) → list_all is_ascii_digit xs ≡ true → slice_split (λ b. b == 58) xs ≡ xs ∷ []
-digits_one_part [] e = refl
-digits_one_part (x ∷ xs) e =
-    let both = and_parts (is_ascii_digit x) (list_all is_ascii_digit xs) e in
-    let other : (x == 58) ≡ false = grind (arith, nat_tests, both.0) in
-    rw (other, digits_one_part xs both.1) refl
-
--- what is there passed the test
-passed : (b : Bool) (v n : ℕ) → (if b then Some v else None) ≡ Some n → b ≡ true
-passed true v n e = refl
-passed false v n e = cc (e)
-
--- a number has digits alone
-pub are_digits : (most least limit : ℕ) (text : List ℕ) (n : ℕ) → number_within most least limit text ≡ Some n
-    → list_all is_ascii_digit text ≡ true
-unfolding number_within
-are_digits most least limit text n e =
-    let read = passed (is_digits most text && nat_le least (value_of text) && nat_le (value_of text) limit) (value_of text) n e in
-    (and_parts (nat_lt 0 (length text) && nat_le (length text) most) (list_all is_ascii_digit text)
-    (and_parts (is_digits most text) (nat_le least (value_of text))
-    (and_parts (is_digits most text && nat_le least (value_of text)) (nat_le (value_of text) limit) read).0).0).1
-
 number_one_part : (field : List ℕ) (n : ℕ) → number 0 0x10ffff field ≡ Some n → parts field ≡ field ∷ []
-number_one_part field n e = digits_one_part field (are_digits most_digits 0 0x10ffff field n e)
+number_one_part field n e = number_unparted 58 (omega arith) 0 0x10ffff field n e
 
 was_some : (test : ℕ → Option ℕ) (number : Option ℕ) (c : ℕ) → option_and_then test number ≡ Some c → (n : ℕ) × (number ≡ Some n)
 was_some test None c e = cc (e)
@@ -118,17 +95,20 @@ no_key_of_27 : (more : List (List ℕ)) → numbered_of_fields (codes "27" ∷ m
 unfolding number_within tilde_key
 no_key_of_27 more = refl
 
-is_true : (b : Bool) → false ≡ not b → b ≡ true
-is_true true e = refl
-is_true false e = cc (e)
+-- the text of these two bytes
+two_bytes : (text : List ℕ) → 2 ≤ length text → length text < 3 → get_or text 0 0 ≡ 50 → get_or text 1 0 ≡ 55 → codes "27" ≡ text
+two_bytes [] l h first second = absurd (omega arith)
+two_bytes (x ∷ []) l h first second = absurd (omega arith)
+two_bytes (x ∷ y ∷ []) l h first second = cc (first, second)
+two_bytes (x ∷ y ∷ z ∷ t) l h first second = absurd (omega arith)
 
 -- behind 27 a tilde ends the report of no key, where it doesn't end one of xterm's modifyOtherKeys
 pub none_behind_27 : (t body front : List ℕ) (more : List (List ℕ)) → before_end (codes "~") t ≡ Some body → fields body ≡ front ∷ more
-    → false ≡ not (bytes_eq front (codes "27")) → other_of_fields (codes "27" ∷ more) ≡ None
+    → 2 ≤ length front → length front < 3 → get_or front 0 0 ≡ 50 → get_or front 1 0 ≡ 55 → other_of_fields (codes "27" ∷ more) ≡ None
     → None ≡ first_some (numbered_key t ∷ other_key t ∷ [])
 unfolding numbered_key other_key other_held
-none_behind_27 t body front more end split is none =
-    let same : codes "27" ≡ front = sym ((bytes_eq-Decides front (codes "27")).0 (is_true _ is)) in
+none_behind_27 t body front more end split l h first second none =
+    let same : codes "27" ≡ front = two_bytes front l h first second in
     let number : numbered_of_fields (front ∷ more) ≡ None = subst (λ f. numbered_of_fields (f ∷ more) ≡ None) same (no_key_of_27 more) in
     let other : other_of_fields (front ∷ more) ≡ None = subst (λ f. other_of_fields (f ∷ more) ≡ None) same none in
     rw (end, split, number, other) refl

@@ -2,7 +2,7 @@
 ghost use Rattle.std.specs.Prelude.{◌≡◌, ◌≢◌, [], IfOk, IfSome, IsSome, OnErr, Some, is_some};
 ghost use Rattle.termwiz_extended_events.specs.KeyReports.{modifiers_of, kind_of, manner_of, optional_scalar, codes_of, text_of};
 
-use crate::fields::Fields;
+use crate::fields::{Fields, cut};
 use crate::numbers::{number, scalar};
 use crate::types::{KeyEventKind, KeyText, Manner};
 use std::alloc::{AllocError, Global};
@@ -45,16 +45,13 @@ fn kind_of(digits: &[u8]) -> Option<KeyEventKind>
 pub(crate) fn manner_of(field: &[u8]) -> Option<Manner>
     ensures { result ≡ manner_of field.now }
 {
-    let mut parts = Fields::new(field, b':');
-    let modifiers = modifiers_of(parts.next()?)?;
-    let kind = match parts.next() {
+    let (modifiers, kind) = cut(field, b':');
+    let modifiers = modifiers_of(modifiers)?;
+    let kind = match kind {
         Some(digits) => kind_of(digits)?,
         None => KeyEventKind::Press,
     };
-    match parts.next() {
-        Some(_) => None,
-        None => Some(Manner { modifiers, kind }),
-    }
+    Some(Manner { modifiers, kind })
 }
 
 // A character that may be missing.

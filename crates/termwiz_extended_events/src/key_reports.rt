@@ -1,14 +1,17 @@
 // The sequences that report a key.
 ghost use Rattle.std.specs.Prelude.{◌≡◌, ◌≢◌, ◌∷◌, [], IfOk, IfSome, IsSome, OnErr, Some, codes, option_map};
 ghost use Rattle.termwiz_extended_events.specs.declared.types.ReportedKey.{ReportedKey as Key};
-ghost use Rattle.termwiz_extended_events.specs.Numbers.{first_some};
+ghost use Rattle.termwiz_extended_events.specs.declared.types.ReportedKey.TheVariants.{Named};
+ghost use Rattle.termwiz_extended_events.specs.Numbers.{fields, first_some};
 ghost use Rattle.termwiz_extended_events.specs.Numbers as numbers;
 ghost use Rattle.termwiz_extended_events.specs.KeyReports as rules;
-ghost use Rattle.termwiz_extended_events.specs.KeyReports.{IsSpelled, numbered_of_fields, other_of_fields, report_of, report_behind, plain_report, spelled_report};
+ghost use Rattle.termwiz_extended_events.specs.KeyReports.{IsSpelled, numbered_of_fields, other_of_fields, report_of, report_behind, lettered_of_fields, plain_report, spelled_report};
+ghost use Rattle.termwiz_keys.specs.declared.types.KeyCode.{KeyCode as Code};
+ghost use Rattle.termwiz_grammar.specs.MouseReports.{semicolon};
 ghost use Rattle.termwiz_grammar.specs.Table.{key_of_code};
-ghost use Rattle.termwiz_extended_events.specs.FieldsLeft.{fields_left};
+ghost use Rattle.termwiz_extended_events.specs.FieldsLeft.{fields_in};
 
-use crate::fields::{Fields, before_end};
+use crate::fields::{Fields, before_end, cut};
 use crate::key_fields::{codes_of, is_text, manner_of, text_of};
 use crate::numbers::{number, number_within, scalar};
 use crate::reported_keys;
@@ -53,8 +56,8 @@ impl<'t> SpelledReport<'t> {
         }
     }
 
-    /// The report with its text. Only a text needs memory.
-    pub fn whole(self, alloc: Global) -> Result<KeyReport, AllocError>
+    // The report with its text. Only a text needs memory.
+    pub(crate) fn whole(self, alloc: Global) -> Result<KeyReport, AllocError>
         requires { IsSome (spelled_report self) }
         ensures ok { IfOk result (λ report. spelled_report self.entry ≡ Some report) }
         ensures refused { OnErr result (IfSome (spelled_report self.entry) (λ report. report.text ≢ [])) }
@@ -112,18 +115,28 @@ fn character_key(t: &[u8]) -> Option<SpelledReport<'_>>
     })
 }
 
-// The manner that the fields after the first one say.
+// The manner that what follows the first field says.
 #[inline(always)]
-fn manner_behind(mut fields: Fields) -> Option<Manner>
-    ensures { (key : Key) → option_map (rules.report_of key) result ≡ report_behind key (fields_left fields.entry) }
+fn manner_behind(rest: Option<&[u8]>) -> Option<Manner>
+    ensures { (key : Key) → option_map (rules.report_of key) result ≡ report_behind key (fields_in semicolon rest.entry) }
 {
-    let Some(field) = fields.next() else {
-        return Some(PRESSED);
-    };
-    let manner = manner_of(field)?;
-    match fields.next() {
-        Some(_) => None,
-        None => Some(manner),
+    match rest {
+        Some(field) => manner_of(field),
+        None => Some(PRESSED),
+    }
+}
+
+// 1 ; modifiers : kind, of which nothing must be there: the manner of a key that the last byte tells. It isn't inlined, so that it stays in
+// registers.
+#[inline(never)]
+fn manner_behind_one(t: &[u8]) -> Option<Manner>
+    ensures { (code : Code) → option_map (rules.report_of (Named code)) result ≡ lettered_of_fields code (fields t.now) }
+{
+    match t {
+        [] | [b'1'] => Some(PRESSED),
+        [b';', field @ ..] => manner_of(field),
+        [b'1', b';', field @ ..] => manner_of(field),
+        _ => None,
     }
 }
 
@@ -134,23 +147,17 @@ fn lettered_key(t: &[u8]) -> Option<PlainReport>
     ensures { option_map plain_report result ≡ rules.lettered_key t.now }
 {
     let key = reported_keys::lettered_key(*t.last()?)?;
-    let mut fields = Fields::new(&t[..t.len() - 1], b';');
-    match fields.next()? {
-        [] | [b'1'] => {
-            let manner = manner_behind(fields)?;
-            Some(PlainReport::new(ReportedKey::Named(key), manner))
-        }
-        _ => None,
-    }
+    let manner = manner_behind_one(&t[..t.len() - 1])?;
+    Some(PlainReport::new(ReportedKey::Named(key), manner))
 }
 
 // n ; modifiers : kind ~, of which only n must be there: a key by its number, which is the first field.
 #[inline(always)]
-fn numbered_report(n: &[u8], fields: Fields) -> Option<PlainReport>
-    ensures { option_map plain_report result ≡ numbered_of_fields (n.now ∷ fields_left fields.entry) }
+fn numbered_report(n: &[u8], rest: Option<&[u8]>) -> Option<PlainReport>
+    ensures { option_map plain_report result ≡ numbered_of_fields (n.now ∷ fields_in semicolon rest.entry) }
 {
     let key = reported_keys::tilde_key(number(n, 0, LAST_FUNCTIONAL)?)?;
-    let manner = manner_behind(fields)?;
+    let manner = manner_behind(rest)?;
     Some(PlainReport::new(key, manner))
 }
 
@@ -167,16 +174,13 @@ fn key_of_code(c: char) -> KeyCode
     }
 }
 
-// 27 ; m ; c ~: the bits of the modifiers, and c, of the fields behind the first one.
-fn other_held(mut fields: Fields) -> Option<(u8, char)>
-    ensures { result ≡ other_of_fields (codes "27" ∷ fields_left fields.entry) }
+// 27 ; m ; c ~: the bits of the modifiers, and c, of what follows the first field.
+fn other_held(rest: Option<&[u8]>) -> Option<(u8, char)>
+    ensures { result ≡ other_of_fields (codes "27" ∷ fields_in semicolon rest.entry) }
 {
-    let one_more = number(fields.next()?, 1, 256)?;
-    let c = scalar(fields.next()?)?;
-    match fields.next() {
-        Some(_) => None,
-        None => Some(((one_more - 1) as u8, c)),
-    }
+    let (m, c) = cut(rest?, b';');
+    let one_more = number(m, 1, 256)?;
+    Some(((one_more - 1) as u8, scalar(c?)?))
 }
 
 // The key of this character as xterm reports it.
@@ -217,31 +221,34 @@ fn other_report(modifiers: u8, c: char) -> PlainReport
 
 // The report of a key that a tilde ends: by its number, or behind 27 by its character, as xterm's modifyOtherKeys reports it.
 #[tactic(auto, unfolding(crate::specs::KeyReports::numbered_key, crate::specs::KeyReports::other_key, crate::specs::KeyReports::other_held))]
-#[inline(always)]
+#[inline(never)]
 fn tilde_report(t: &[u8]) -> Option<PlainReport>
     ensures { option_map plain_report result ≡ first_some (rules.numbered_key t.now ∷ rules.other_key t.now ∷ []) }
 {
-    let mut fields = Fields::new(before_end(t, b"~")?, b';');
-    let first = fields.next()?;
-    if first != b"27".as_slice() {
-        return numbered_report(first, fields);
+    let (n, rest) = cut(before_end(t, b"~")?, b';');
+    match n {
+        [b'2', b'7'] => {
+            let (modifiers, c) = other_held(rest)?;
+            Some(other_report(modifiers, c))
+        }
+        _ => numbered_report(n, rest),
     }
-    let (modifiers, c) = other_held(fields)?;
-    Some(other_report(modifiers, c))
 }
 
 // c ; modifiers : kind u, of which only c must be there: the key of c, if it is reported with no other character and no text.
 #[tactic(auto, unfolding(crate::specs::KeyReports::character_key))]
+#[inline(never)]
 fn plain_character_key(t: &[u8]) -> Option<PlainReport>
     ensures { IfSome result (λ report. rules.character_key t.now ≡ Some (plain_report report)) }
 {
-    let mut fields = Fields::new(before_end(t, b"u")?, b';');
-    let own = scalar(fields.next()?)?;
-    let manner = manner_behind(fields)?;
+    let (own, rest) = cut(before_end(t, b"u")?, b';');
+    let own = scalar(own)?;
+    let manner = manner_behind(rest)?;
     Some(PlainReport::new(reported_keys::key_of(own), manner))
 }
 
 // The report of a key, if it has no base and no text. `None` decides nothing. The last byte tells which rules can fit.
+#[inline(always)]
 pub(crate) fn plain_report(t: &[u8]) -> Option<PlainReport>
     ensures { IfSome result (λ report. rules.key_report t.now ≡ Some (plain_report report)) }
 {
@@ -284,14 +291,8 @@ pub(crate) fn key_report(t: &[u8]) -> Option<SpelledReport<'_>>
 pub(crate) fn third_function_key(t: &[u8]) -> Option<PlainReport>
     ensures { option_map plain_report result ≡ rules.third_function_key t.now }
 {
-    let mut fields = Fields::new(before_end(t, b"R")?, b';');
-    match fields.next()? {
-        [] | [b'1'] => {
-            let manner = manner_behind(fields)?;
-            Some(PlainReport::new(ReportedKey::Named(KeyCode::Function(3)), manner))
-        }
-        _ => None,
-    }
+    let manner = manner_behind_one(before_end(t, b"R")?)?;
+    Some(PlainReport::new(ReportedKey::Named(KeyCode::Function(3)), manner))
 }
 
 // 1 ; modifiers : kind Z, of which ; and Z must be there: Tab with Shift and these modifiers.

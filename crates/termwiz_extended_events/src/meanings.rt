@@ -165,7 +165,7 @@ fn unasked_key(t: &[u8], asks: bool) -> Option<PlainReport>
     if asks { None } else { third_function_key(t) }
 }
 
-// Whether a byte is such an end.
+// Whether a byte ends only what no rule reads.
 fn is_unread_end(byte: u8) -> bool
     ensures { IsTrue result ↔ IsUnreadEnd byte }
 {
@@ -274,28 +274,16 @@ fn plain_report_behind(t: &[u8]) -> Option<PlainReport>
     key_reports::plain_report(t)
 }
 
-// The same of a whole sequence. It isn't inlined, so that what ends otherwise pays for no frame.
-#[tactic(auto, unfolding(crate::specs::Meanings::event_of, crate::specs::Meanings::event_after))]
-#[inline(never)]
-fn plain_report_of(text: &[u8]) -> Option<PlainReport>
-    ensures asked { IfSome result (λ report. meaning.event_of true text.now ≡ Key (plain_report report)) }
-    ensures unasked { IfSome result (λ report. meaning.event_of false text.now ≡ Key (plain_report report)) }
-{
-    match text {
-        [0x1b, b'[', t @ ..] => plain_report_behind(t),
-        _ => None,
-    }
-}
-
 /// The key report of a whole sequence, if it says no more than a key and its manner: a small value, and quicker than [`meaning_of`]. It is
 /// the same whether a question for the cursor's position is open or not. `None` decides nothing: the sequence may still be a key report.
+#[tactic(auto, unfolding(crate::specs::Meanings::event_of, crate::specs::Meanings::event_after))]
 #[inline(always)]
 pub fn plain_report(text: &[u8]) -> Option<PlainReport>
     ensures asked { IfSome result (λ report. meaning.event_of true text.now ≡ Key (plain_report report)) }
     ensures unasked { IfSome result (λ report. meaning.event_of false text.now ≡ Key (plain_report report)) }
 {
-    match text.last() {
-        Some(b'u' | b'~' | b'A'..=b'F' | b'H' | b'P' | b'Q' | b'S') => plain_report_of(text),
+    match text {
+        [0x1b, b'[', t @ ..] => plain_report_behind(t),
         _ => None,
     }
 }
