@@ -163,9 +163,9 @@ pub record IsEmitted {S : Type 0} (takes : S → Event → S → Type 0) (old : 
   pub reading : new.reading ≡ after_event old.reading event
   pub taken : takes before event after
 
--- the same of an event that has no text and no bytes of its own
-abbrev pub IsLightlyEmitted : {S : Type 0} → (S → Event → S → Type 0) → Buffered → S → Bool → Buffered → S → Type 0
-IsLightlyEmitted takes old before more new after =
+-- the same of an event that needs no memory, since it has no text and no bytes of its own
+abbrev pub IsEmittedWithoutMemory : {S : Type 0} → (S → Event → S → Type 0) → Buffered → S → Bool → Buffered → S → Type 0
+IsEmittedWithoutMemory takes old before more new after =
     (emitted : IsEmitted takes old before more new after) × (¬ NeedsMemory emitted.event)
 
 -- What a call answers that consumes the item at the front and emits its event to a sink: whether an item is there.

@@ -1,6 +1,6 @@
 // Forms of extra sequences, recognised at the front of a text: control sequences, X10 mouse reports, console and keypad keys, and
 // titles.
-ghost use Rattle.std.specs.Prelude.{◌≡◌, ◌≢◌, ◌+◌, ◌<◌, ◌≤◌, ◌↔◌, List, [], ◌∷◌, ◌++◌, length, take, slice_index, Bool, true, codes, IfSome, IfNone, IsTrue, ℕ};
+ghost use Rattle.std.specs.Prelude.{◌≡◌, ◌≢◌, ◌+◌, ◌<◌, ◌≤◌, ◌↔◌, [], ◌∷◌, ◌++◌, length, take, slice_index, Bool, true, false, IfSome, IfNone, IsTrue, ℕ};
 ghost use Rattle.std.specs.List.{AllByRecursion};
 ghost use Rattle.termwiz_keys.specs.Introducers.{ESC, CSI, SS3};
 ghost use Rattle.termwiz_extended_grammar.specs.Forms.{
@@ -145,6 +145,33 @@ fn is_row(rest: &[u8]) -> bool
     matches!(rest, [b'1'..=b'8', b'$', ..])
 }
 
+// Whether the second or the third byte of what follows ESC [ is `$`. Else neither such a key nor a row begins it.
+fn has_dollar(rest: &[u8]) -> bool
+    ensures no_key { result ≡ false → ¬ StartsShifted rest.now }
+    ensures no_row { result ≡ false → ¬ IsRow rest.now }
+{
+    matches!(rest, [_, b'$', ..] | [_, _, b'$', ..])
+}
+
+// The form at the front of ESC [ and the rest, if `$` decides it: that of a key with Shift, and none where a row begins.
+fn dollar_at(rest: &[u8]) -> Option<FormAt>
+    ensures form { IfSome result (λ form. (x10_mouse : Bool) → HasForm x10_mouse (CSI ++ rest.now) form) }
+    ensures no_key { IfNone result (¬ StartsShifted rest.now) }
+    ensures no_row { IfNone result (¬ IsRow rest.now) }
+{
+    if !has_dollar(rest) {
+        return None;
+    }
+    if let Some(len) = shifted_len(rest) {
+        return Some(FormAt::Whole(INTRODUCED + len));
+    }
+    if is_row(rest) {
+        Some(FormAt::Absent)
+    } else {
+        None
+    }
+}
+
 // The form at the front of ESC [ and the rest, where [ doesn't come first, nor M, if it begins a mouse report.
 #[inline(always)]
 pub(crate) fn control_at(rest: &[u8], scanned: usize, x10_mouse: bool) -> FormAt
@@ -153,11 +180,8 @@ pub(crate) fn control_at(rest: &[u8], scanned: usize, x10_mouse: bool) -> FormAt
     requires scanned { AllByRecursion IsInner (take scanned rest.now) }
     ensures { HasForm x10_mouse (CSI ++ rest.now) result }
 {
-    if let Some(len) = shifted_len(rest) {
-        return FormAt::Whole(INTRODUCED + len);
-    }
-    if is_row(rest) {
-        return FormAt::Absent;
+    if let Some(form) = dollar_at(rest) {
+        return form;
     }
     for len in scanned..rest.len().min(MOST_CONTROL - INTRODUCED) {
         let byte = rest[len];
@@ -297,7 +321,7 @@ fn keypad_key_at(rest: &[u8]) -> FormAt
 }
 
 // The form at the front of ESC [ and the rest, of which the first bytes were looked at before.
-fn bracketed_at(rest: &[u8], scanned: usize, x10_mouse: bool) -> FormAt
+pub(crate) fn bracketed_at(rest: &[u8], scanned: usize, x10_mouse: bool) -> FormAt
     requires { AllByRecursion IsInner (take scanned rest.now) }
     ensures { HasForm x10_mouse (CSI ++ rest.now) result }
 {

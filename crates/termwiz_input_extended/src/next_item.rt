@@ -1,7 +1,7 @@
 // What is at the front of a text: an extra sequence, a string, the Escape key before one, or what the port finds there.
-ghost use Rattle.std.specs.Prelude.{◌≡◌, ◌≢◌, ◌≤◌, length, ◌↔◌, ◌⊎◌, ◌++◌, ℕ, Bool, false, List, [], take, IfSome, IsTrue, Some, Contains};
+ghost use Rattle.std.specs.Prelude.{◌≡◌, ◌≢◌, ◌≤◌, length, ◌↔◌, ◌⊎◌, ◌++◌, Bool, false, [], take, IfSome, IsTrue, Some, Contains};
 ghost use Rattle.termwiz_keymap.specs.Bytes.{Begins};
-ghost use Rattle.termwiz_keys.specs.Introducers.{ESC, CSI, START};
+ghost use Rattle.termwiz_keys.specs.Introducers.{ESC, CSI};
 ghost use Rattle.termwiz_keys.specs.declared.types.KeyEvent.{KeyEvent as Key};
 ghost use Rattle.termwiz_keys.specs.declared.types.MouseEvent.{MouseEvent as Mouse};
 ghost use Rattle.termwiz_grammar.specs.MouseReports.{IsMouseReport};
@@ -13,12 +13,12 @@ ghost use Rattle.termwiz_extended_events.specs.Meanings.{event_from};
 ghost use Rattle.termwiz_extended_grammar.specs.Forms.{IsForm, IsKeypadKey};
 ghost use Rattle.termwiz_extended_grammar.specs.ExtraSequences.{EndsAsRxvt, EndsWithZ, IsBackTab, IsBareKey, IsBeginKey, IsCursorLetter, IsLetteredKey, IsRxvtFunction, IsShortKey};
 ghost use Rattle.termwiz_extended_grammar.specs.Readings.{ReadsMore, event_in};
-ghost use Rattle.termwiz_input_extended.specs.FormAnswers.{IsScanned};
+ghost use Rattle.termwiz_input_extended.specs.FormAnswers.{HasForm, IsScanned};
 ghost use Rattle.termwiz_input_extended.specs.StringAnswers.{HasOpening, string_event};
 ghost use Rattle.termwiz_input_extended.specs.NextItems.{IsFocus, IsFormMatch, IsNextItem, IsExtraAt, IsFormAt, IsPortsOwn, IsPrivate, IsReadAfterEscape, IsScannedTo, IsSomeExtra, front_key};
 
 use crate::characters::is_control_key;
-use crate::form::{ESCAPE, FormAt, form_at, is_keypad_letter, next_scan};
+use crate::form::{ESCAPE, FormAt, INTRODUCED, bracketed_at, form_at, is_keypad_letter, next_scan};
 use crate::string::{OpeningAt, StringItem, StringManner, opening_at};
 use termwiz_extended_events::meanings::{Meaning, meaning_of, plain_report};
 use termwiz_extended_events::port_events::decided_key;
@@ -367,17 +367,17 @@ fn item_of_two_escapes(
     }
 }
 
-// What is at the front of a text that begins with one ESC alone, and with no part of a mouse report: a form, or what the port finds.
+// What is at the front of a text that begins with one ESC alone, and with no part of a mouse report, by the form that is there.
 #[inline(always)]
-fn item_of_form(text: &[u8], scanned: usize, x10_mouse: bool, maybe_more: bool) -> NextItem
+fn item_of_form(text: &[u8], form: FormAt, x10_mouse: bool, maybe_more: bool) -> NextItem
     requires escape { Begins ESC text.now }
     requires one { ¬ Begins (ESC ++ ESC) text.now }
     requires no_mouse { HasNoPartInMouseReports text.now }
     requires no_opening { HasOpening text.now OpeningAt.Absent }
-    requires scanned { IsScanned text.now scanned }
+    requires form { HasForm x10_mouse text.now form }
     ensures { (reading : Reading) → ReadsMore reading → reading.x10_mouse ≡ x10_mouse → IsNextItem reading text.now maybe_more result }
 {
-    match form_at(text, scanned, x10_mouse) {
+    match form {
         FormAt::Whole(len) => NextItem::Form(len),
         FormAt::Unfinished if maybe_more => NextItem::Incomplete(next_scan(text)),
         FormAt::Unfinished => NextItem::Usual,
@@ -399,8 +399,40 @@ fn item_of_sequence(reading: Reading, text: &[u8], scanned: usize, maybe_more: b
         FrontReport::Whole(event, len) => NextItem::MouseReport(len, event),
         FrontReport::Begun if maybe_more => NextItem::Incomplete(next_scan(text)),
         FrontReport::Begun => NextItem::Usual,
-        FrontReport::Absent if begins_paste(text) => NextItem::Paste,
-        FrontReport::Absent => item_of_form(text, scanned, reading.x10_mouse, maybe_more),
+        FrontReport::Absent => {
+            let x10_mouse = reading.x10_mouse;
+            item_of_form(
+                text,
+                form_at(text, scanned, x10_mouse),
+                x10_mouse,
+                maybe_more,
+            )
+        }
+    }
+}
+
+// What is at the front of a text that is ESC [ and the rest. Behind `<` it may be a mouse report, and behind 2 the start of a paste.
+#[inline(always)]
+fn item_of_control(
+    reading: Reading,
+    text: &[u8],
+    rest: &[u8],
+    scanned: usize,
+    maybe_more: bool,
+) -> NextItem
+    requires reads { ReadsMore reading }
+    requires introduced { text.now ≡ CSI ++ rest.now }
+    requires scanned { IsScanned text.now scanned }
+    ensures { IsNextItem reading text.now maybe_more result }
+{
+    match rest.first() {
+        None | Some(b'<') => item_of_sequence(reading, text, scanned, maybe_more),
+        Some(b'2') if begins_paste(text) => NextItem::Paste,
+        Some(_) => {
+            let x10_mouse = reading.x10_mouse;
+            let form = bracketed_at(rest, scanned.saturating_sub(INTRODUCED), x10_mouse);
+            item_of_form(text, form, x10_mouse, maybe_more)
+        }
     }
 }
 
@@ -434,6 +466,13 @@ fn item_without_escape(text: &[u8]) -> NextItem
     }
 }
 
+// Whether a text begins with three ESC. Before the third one the first two are a key, whatever comes.
+fn is_alt_escape(text: &[u8]) -> bool
+    ensures { (reading : Reading) (more : Bool) → IsTrue result → IsNextItem reading text.now more NextItem.AltEscape }
+{
+    matches!(text, [ESCAPE, ESCAPE, ESCAPE, ..])
+}
+
 // What is at the front of a text to which more belongs than the port's sequences.
 #[inline(always)]
 fn extended_item(
@@ -448,8 +487,11 @@ fn extended_item(
     ensures { IsNextItem reading text.now maybe_more result }
 {
     // Nearly every sequence begins so.
-    if let [ESCAPE, b'[', ..] = text {
-        return item_of_sequence(reading, text, scanned, maybe_more);
+    if let [ESCAPE, b'[', rest @ ..] = text {
+        return item_of_control(reading, text, rest, scanned, maybe_more);
+    }
+    if is_alt_escape(text) {
+        return NextItem::AltEscape;
     }
     match follows_escape(text) {
         None => item_without_escape(text),
@@ -481,12 +523,9 @@ pub(crate) fn next_item(
     requires { IsScannedTo text.now scanned }
     ensures { IsNextItem reading text.now maybe_more result }
 {
-    // Before a third ESC the first two are a key, whatever comes.
-    if let [ESCAPE, ESCAPE, ESCAPE, ..] = text {
-        return NextItem::AltEscape;
-    }
     match reading.dialect {
         Dialect::Extended => extended_item(parser, reading, text, scanned, maybe_more),
+        Dialect::Termwiz if is_alt_escape(text) => NextItem::AltEscape,
         Dialect::Termwiz => NextItem::Usual,
     }
 }

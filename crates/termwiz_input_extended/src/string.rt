@@ -1,7 +1,7 @@
 // Strings at the front of a text: a string is known by its opening, and its data are bytes of any kind up to its end.
 //
 // A string may come in many reads, so data that were looked at before are not looked at again.
-ghost use Rattle.std.specs.Prelude.{◌≡◌, ◌≢◌, ◌<◌, ◌≤◌, ◌↔◌, ℕ, List, [], ◌++◌, length, take, slice_index, IsTrue};
+ghost use Rattle.std.specs.Prelude.{◌≡◌, ◌≢◌, ◌<◌, ◌≤◌, ◌↔◌, [], ◌++◌, length, take, slice_index, IsTrue};
 ghost use Rattle.std.specs.List.{AllByRecursion};
 ghost use Rattle.termwiz_grammar.specs.MouseReports.{IsDigit};
 ghost use Rattle.termwiz_extended_grammar.specs.Forms.{introducer, IsData, IsTitleLetter};

@@ -8,7 +8,7 @@ ghost use Rattle.termwiz_extended_events.specs.Meanings.{IsPosition};
 ghost use Rattle.termwiz_extended_grammar.specs.Readings.{ReadsMore, after_event};
 ghost use Rattle.termwiz_extended_grammar.specs.ExtendedGrammar.{IsRest};
 ghost use Rattle.termwiz_extended_grammar.specs.ExtendedLaws.{Waits};
-ghost use Rattle.termwiz_input_extended.specs.NextItems.{Emits, IsEmitted, IsLightlyEmitted, HasItemThatNeedsMemory, IsBareKeyAt, IsFormAt, IsPortsOwn};
+ghost use Rattle.termwiz_input_extended.specs.NextItems.{Emits, IsEmitted, IsEmittedWithoutMemory, HasItemThatNeedsMemory, IsBareKeyAt, IsFormAt, IsPortsOwn};
 ghost use Rattle.termwiz_input_extended.specs.StringAnswers.{IsOpeningOf};
 
 use super::{ExtendedParser, key_event, told_event, with_alt};
@@ -226,7 +226,7 @@ impl ExtendedParser {
     /// false if none is there. It asks for no memory, and so a run of characters can be one loop.
     #[inline(always)]
     pub fn emit_character<S: EventSink>(&mut self, sink: &mut S) -> bool
-        ensures emitted { IsTrue result → (more : Bool) → IsLightlyEmitted S.takes self.old sink.old more self.new sink.new }
+        ensures emitted { IsTrue result → (more : Bool) → IsEmittedWithoutMemory S.takes self.old sink.old more self.new sink.new }
         ensures none_same { result ≡ false → self.new ≡ self.old }
         ensures none_sink { result ≡ false → sink.new ≡ sink.old }
     {

@@ -29,7 +29,7 @@ all_before P r run rest scanned e all l = subst (AllByRecursion P)
     (sym (ap (take (scanned - 2)) e ∙ take-append-le (scanned - 2) run rest (omega arith)))
     (true_of_first P run (scanned - 2) all)
 
-scanned_control : (r : List ℕ) (scanned : ℕ) → IsScanned (27 ∷ 91 ∷ r) scanned → AllByRecursion IsInner (take (scanned - 2) r)
+pub scanned_control : (r : List ℕ) (scanned : ℕ) → IsScanned (27 ∷ 91 ∷ r) scanned → AllByRecursion IsInner (take (scanned - 2) r)
 scanned_control r scanned (at_start l) = none_before IsInner r scanned l
 scanned_control r scanned (in_control inner rest e each l) = all_before IsInner r inner rest scanned (cc (e)) each l
 scanned_control r scanned (in_string kind head bytes after is l) = absurd (

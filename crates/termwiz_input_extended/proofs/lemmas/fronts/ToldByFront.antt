@@ -36,7 +36,7 @@ use Rattle.termwiz_extended_grammar.specs.ExtendedGrammar.{Steps}
 use Rattle.termwiz_extended_grammar.proofs.lemmas.cuts.PortTold.{decided_none}
 use Rattle.termwiz_extended_grammar.proofs.lemmas.forms.PortLayouts.{Layout, Past, sequence_layout}
 use Rattle.termwiz_extended_grammar.proofs.lemmas.forms.PortLayouts.Layout.{alone, paired, longer}
-use Rattle.termwiz_input_extended.specs.NextItems.{Emits, IsLightlyEmitted, IsPortsOwn, decided_at, front_key, told_by}
+use Rattle.termwiz_input_extended.specs.NextItems.{Emits, IsEmittedWithoutMemory, IsPortsOwn, decided_at, front_key, told_by}
 use Rattle.termwiz_input_extended.specs.Buffered.{Buffered}
 use Rattle.termwiz_extended_grammar.specs.Readings.{after_event}
 use Rattle.termwiz_input_extended.proofs.lemmas.fronts.EmittedItems.{emits_event}
@@ -192,7 +192,7 @@ pub key_lightly_emitted : {S : Type 0} (takes : S → Event → S → Type 0) (o
     (decided : Option KeyCode) (made : Event) → made ≡ told_by decided (input.Key k)
     → decided ≡ front_key old.reading.dialect old.reading old.text → IsPortsOwn old.reading old.text more
     → IsItemAt old.text more (input.Key k) len → new ≡ record old { text = drop len old.text } → takes before made after
-    → IsLightlyEmitted takes old before more new after
+    → IsEmittedWithoutMemory takes old before more new after
 key_lightly_emitted takes old new before after more k len decided made made_is decided_is own is new_is taken = (
   record {
     event = made;

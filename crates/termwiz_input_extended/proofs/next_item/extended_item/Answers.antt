@@ -18,6 +18,6 @@ item_of_one_escape-requires-clause-scanned c = c.requires.scanned.here
 pub returns-in-Some-follows_escape : goal.returns-in-Some-follows_escape
 returns-in-Some-follows_escape c = rw c.in-Some.ensures.some c.item_of_two_escapes.ensures
 
-pub item_of_sequence-requires-clause-scanned : goal.item_of_sequence-requires-clause-scanned
-item_of_sequence-requires-clause-scanned c =
+pub item_of_control-requires-clause-scanned : goal.item_of_control-requires-clause-scanned
+item_of_control-requires-clause-scanned c =
     c.requires.scanned.here (one_before_bracket c.args.text.now (omega arith))

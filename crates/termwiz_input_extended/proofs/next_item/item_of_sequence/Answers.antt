@@ -23,5 +23,5 @@ returns-in-Begun-2 c =
     (no_extra_without_form c.args.reading c.args.text.now (begun_no_form c.args.text.now c.in-Begun-2.ensures) c.requires.no_opening.0)
     (λ m. absurd (cc (m, c.if-maybe_more.false)))
 
-pub returns-in-Absent-2 : goal.returns-in-Absent-2
-returns-in-Absent-2 c = c.item_of_form.ensures c.args.reading c.requires.reads refl
+pub returns-in-Absent : goal.returns-in-Absent
+returns-in-Absent c = c.item_of_form.ensures c.args.reading c.requires.reads refl
