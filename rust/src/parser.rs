@@ -8,6 +8,9 @@ use std::fmt;
 use std::sync::{Mutex, MutexGuard, PoisonError};
 use std::time::{Duration, Instant};
 
+// So many bytes of an event have a place that is used again for those of the next one.
+const FEW_BYTES: usize = 4096;
+
 /// What stays buffered, as [`Parser::waiting`] returns it. A [`Policy`] says how long each may.
 #[derive(Clone, Copy, Debug, PartialEq, Eq, Hash)]
 pub enum Waiting {
@@ -192,8 +195,8 @@ impl Parser {
         Ok(Some(of(&self.last.0, text)))
     }
 
-    // The bytes that the last event brought. Once they are copied, the library keeps them no
-    // longer.
+    // The bytes that the last event brought. Once they are copied, the library frees the place of
+    // many. That of few it keeps for the next event.
     fn text(&mut self, len: usize) -> Result<Vec<u8>, AllocError> {
         let mut text = Vec::new();
         self.is_refused = text.try_reserve_exact(len).is_err();
@@ -207,7 +210,9 @@ impl Parser {
             let whole = raw::hed_parser_text(raw, text.as_mut_ptr(), len);
             assert_eq!(whole, len, "{FAULT}");
             text.set_len(len);
-            raw::hed_parser_drop_text(raw);
+            if len > FEW_BYTES {
+                raw::hed_parser_drop_text(raw);
+            }
         }
         Ok(text)
     }
