@@ -1,6 +1,6 @@
-# prebuilt/: for machines without the kit, the archive of the library and the program keyshow as an object, for two processors; python/prebuilt/:
-# the shared library for Python, made of that archive, and the part of the Python package that is compiled. PROVENANCE beside them says of what they were made, and by which proofs. What is built again
-# has to be the same bytes: make prebuilt-check.
+# prebuilt/: for machines without the kit, the archive of the library and the program keyshow as an object, for two processors.
+# python/prebuilt/: the shared library for Python, made of that archive, and the part of the Python package that is compiled.
+# PROVENANCE beside them says of what they were made, and by which proofs. What is built again has to be the same bytes: make prebuilt-check.
 .PHONY: prebuilt prebuilt-check python-prebuilt
 prebuilt_folders := $(processors:%=prebuilt/%-linux)
 python_folders := $(processors:%=python/prebuilt/%-linux)
