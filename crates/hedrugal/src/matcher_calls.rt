@@ -1,5 +1,5 @@
 // The calls of a matcher.
-ghost use Rattle.std.specs.Prelude.{◌≡◌, ◌≢◌, ◌↔◌, ◌⊎◌, ◌<◌, ◌≤◌, ◌*◌, ◌++◌, ◌+◌, ◌-◌, ℕ, [], None, IfSome, IfNone, true, false, length, drop};
+ghost use Rattle.std.specs.Prelude.{◌≡◌, ◌≢◌, ◌↔◌, ◌⊎◌, ◌<◌, ◌≤◌, ◌*◌, ◌++◌, ◌+◌, ◌-◌, [], None, IfSome, IfNone, true, false, length, drop};
 ghost use Rattle.termwiz_bindings.specs.Matchers.{outcome_copied};
 ghost use Rattle.termwiz_bindings.specs.declared.press.KeyPress.{KeyPress as Pressed};
 ghost use Rattle.hedrugal.specs.MatcherCalls as calls;

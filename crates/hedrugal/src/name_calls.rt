@@ -1,7 +1,6 @@
 // The calls that read and print the names of keys.
 ghost use Rattle.std.specs.Prelude.{◌≡◌, ◌≢◌, ◌≤◌, ◌↔◌, ◌⊎◌, ◌∷◌, [], IfOk, IfErr};
-ghost use Rattle.std.specs.Str.{IsUtf8, IsValidUpTo};
-ghost use Rattle.hedrugal.specs.NameCalls.{AreOfNoChord, AreOfNoPress, HasChord, IsNoName, IsWrong, PrintedKeys, PrintedPress, ReadKeys, WroteText, error_number};
+ghost use Rattle.hedrugal.specs.NameCalls.{AreOfNoChord, AreOfNoPress, HasChord, IsNoName, PrintedKeys, PrintedPress, ReadKeys, WroteText, error_number};
 
 use crate::chords::{chord_of, copy_presses, press_of};
 use crate::copying::{copy_prefix, copy_with_zero};

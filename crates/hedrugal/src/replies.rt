@@ -1,6 +1,5 @@
 // What a reply says, as C has it.
 ghost use Rattle.std.specs.Prelude.{◌≡◌};
-ghost use Rattle.hedrugal.specs.Replies as rules;
 ghost use Rattle.hedrugal.specs.Replies.{bytes_in, c_reply, name_number, numbers_of, palette_index, report_number, scheme_number, state_number};
 
 use termwiz_extended_events::reply_types::{

@@ -1,5 +1,5 @@
 // A pointer that owns a block, or nothing.
-ghost use Rattle.std.specs.Prelude.{◌≡◌, Option, Some, None, IfSome, IfNone, is_some, true};
+ghost use Rattle.std.specs.Prelude.{◌≡◌, Option, Some, None, is_some, true};
 ghost use Rattle.std.specs.Coded.{coded_option};
 
 use crate::raw_box::RawBox;

@@ -1,5 +1,5 @@
 // The numbers of a terminal's attributes.
-ghost use Rattle.std.specs.Prelude.{◌≡◌, ◌<◌, ◌∷◌, [], IfOk, IfSome, IsSome, OnErr, Some, is_some, option_map, option_copied, option_and_then};
+ghost use Rattle.std.specs.Prelude.{◌≡◌, ◌<◌, ◌∷◌, IfOk, IfSome, IsSome, OnErr, Some, is_some, option_map, option_copied, option_and_then};
 ghost use Rattle.termwiz_extended_events.specs.FieldsLeft.{fields_left};
 ghost use Rattle.termwiz_extended_events.specs.Numbers.{after_start, before_end};
 ghost use Rattle.termwiz_extended_events.specs.ReplyValues as rules;

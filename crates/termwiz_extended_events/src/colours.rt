@@ -1,9 +1,7 @@
 // The colours of replies.
 ghost use Rattle.std.specs.Prelude.{◌≡◌, ◌-◌, ◌<◌, ◌≤◌, ◌^◌, IfSome, length};
-ghost use Rattle.std.specs.List.{slice_split};
-ghost use Rattle.termwiz_extended_events.specs.FieldsLeft.{fields_left};
 ghost use Rattle.termwiz_extended_events.specs.ReplyValues as rules;
-ghost use Rattle.termwiz_extended_events.specs.ReplyValues.{colour_of_parts, colour_part};
+ghost use Rattle.termwiz_extended_events.specs.ReplyValues.{colour_part};
 
 use crate::attributes::hex_digit;
 use crate::fields::{Fields, after_start};

@@ -1,6 +1,5 @@
 //! What a mouse report tells beside where the mouse was, which buttons are down and which modifiers are held.
 ghost use Rattle.std.specs.Prelude.{◌≡◌, ◌+◌, ◌≤◌, ◌<◌, IfSome};
-ghost use Rattle.termwiz_extended_events.specs.FieldsLeft.{fields_left};
 ghost use Rattle.termwiz_extended_events.specs.MouseReports as rules;
 ghost use Rattle.termwiz_extended_events.specs.Numbers.{fields};
 

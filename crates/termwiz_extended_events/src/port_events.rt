@@ -1,5 +1,5 @@
 //! What an event of the port is, as it is read.
-ghost use Rattle.std.specs.Prelude.{◌≡◌, ◌≢◌, List, [], ℕ, Some};
+ghost use Rattle.std.specs.Prelude.{◌≡◌, Some};
 ghost use Rattle.termwiz_extended_events.specs.declared.types.Event.TheVariants.{Mouse};
 ghost use Rattle.termwiz_extended_events.specs.PortEvents as rules;
 

@@ -1,6 +1,5 @@
 //! What a terminal's replies say.
 ghost use Rattle.std.specs.Prelude.{◌≡◌, ◌∷◌, [], IfOk, OnErr};
-ghost use Rattle.termwiz_extended_events.specs.FieldsLeft.{fields_left};
 ghost use Rattle.termwiz_extended_events.specs.Numbers.{fields, first_some};
 ghost use Rattle.termwiz_extended_events.specs.ReplyValues as rules;
 ghost use Rattle.termwiz_extended_events.specs.ReplyValues.{NeedsMemory, mode_of_fields, reply_of, state_at};

@@ -1,5 +1,5 @@
 //! The parser: bytes of a terminal to events.
-ghost use Rattle.std.specs.Prelude.{◌≡◌, ◌≢◌, ◌++◌, ◌+◌, ◌^◌, ◌<◌, ◌≤◌, max, ℕ, Bool, List, [], ◌∷◌, length, take, drop, Contains, Some, true, false, OnErr, IfOk, IfErr, IfSome, IfNone, IsSome, IsTrue, ◌↔◌, ◌==◌, ◌⊎◌, slice_index_or, if◌then◌else◌, OnOk, IsOk, IsErrOf, vec_len, vec_capacity};
+ghost use Rattle.std.specs.Prelude.{◌≡◌, ◌≢◌, ◌++◌, ◌+◌, ◌^◌, ◌<◌, ◌≤◌, max, ℕ, Bool, List, [], ◌∷◌, length, take, drop, Contains, Some, true, false, OnErr, IfOk, IfErr, IfSome, IfNone, IsSome, IsTrue, ◌↔◌, ◌==◌, ◌⊎◌, if◌then◌else◌, OnOk, IsOk, IsErrOf, vec_len, vec_capacity};
 ghost use Rattle.termwiz_keys.specs.declared.types.KeyEvent.{KeyEvent};
 ghost use Rattle.termwiz_keymap.specs.Bytes.{Begins};
 ghost use Rattle.termwiz_keys.specs.Introducers.{START};
@@ -17,7 +17,7 @@ ghost use Rattle.termwiz_input.specs.Matches.{IsItemAt};
 ghost use Rattle.termwiz_input.specs.Promise.{IsExactReading, IsRefusedReading};
 ghost use Rattle.termwiz_input.specs.WaitingBytes.{IsToldByBytes};
 ghost use Rattle.termwiz_input.specs.Callbacks.{MayBeCalledOn, MayBeCalledOnNumbered, WasCalledOn, WasCalledOnNumbered};
-ghost use Rattle.termwiz_input.specs.Pieces.{AreNumbered, NumberedEvent, ReadsFirst, events_of, flag_at, join, numbered, pieces_or_one, taken_or_one, texts};
+ghost use Rattle.termwiz_input.specs.Pieces.{AreNumbered, NumberedEvent, ReadsFirst, events_of, join, numbered, pieces_or_one, texts};
 ghost use Rattle.termwiz_keys.specs.declared.types.InputEvent.{InputEvent as Event};
 
 pub use crate::completions::Completions;

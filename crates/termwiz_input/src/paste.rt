@@ -5,7 +5,7 @@ ghost use Rattle.termwiz_keys.specs.declared.types.InputEvent.{InputEvent as Eve
 ghost use Rattle.termwiz_keymap.specs.Bytes.{Begins};
 ghost use Rattle.termwiz_keys.specs.Introducers.{START};
 ghost use Rattle.termwiz_input.specs.Matches.{IsItemAt};
-ghost use Rattle.termwiz_grammar.specs.Grammar.{HasPaste, IsRest};
+ghost use Rattle.termwiz_grammar.specs.Grammar.{IsRest};
 ghost use Rattle.termwiz_grammar.specs.WaitingKinds.{IsOpenPaste};
 ghost use Rattle.termwiz_input.specs.PasteSearch.{IsPasteSoFar, NoEndBefore};
 

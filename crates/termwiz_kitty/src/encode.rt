@@ -1,5 +1,5 @@
 //! Keys to the bytes that a terminal writes for them under Kitty's keyboard protocol.
-ghost use Rattle.std.specs.Prelude.{◌≡◌, ◌++◌, ◌↔◌, ◌≤◌, ◌<◌, Some, None, Err, [], IfOk, OnOk, length, string_bytes, encode_utf8};
+ghost use Rattle.std.specs.Prelude.{◌≡◌, ◌++◌, ◌↔◌, ◌≤◌, ◌<◌, Some, None, Err, IfOk, OnOk, length, string_bytes, encode_utf8};
 ghost use Rattle.termwiz_kitty.specs.KeyForms.{form_of};
 ghost use Rattle.termwiz_kitty.specs.Telling as rules;
 ghost use Rattle.termwiz_kitty.specs.KittyTexts as texts;

@@ -1,5 +1,5 @@
 // Keys to bytes that are read as them.
-ghost use Rattle.std.specs.Prelude.{◌≡◌, ◌≢◌, ℕ, List, ◌∷◌, IfOk, IfSome, IfNone, encode_utf8};
+ghost use Rattle.std.specs.Prelude.{◌≡◌, ℕ, List, ◌∷◌, IfOk, IfSome, IfNone};
 ghost use Rattle.termwiz_senders.specs.KeyTexts as rules;
 ghost use Rattle.termwiz_senders.specs.KeyTexts.{IsCharacterText, IsEscapedText, IsFirstRow, IsPlainKeyText, IsSentText, IsTypedText};
 

@@ -1,5 +1,5 @@
 //! How old what is buffered is, by the clock's steps forward from call to call.
-ghost use Rattle.std.specs.Prelude.{◌≡◌, ◌↔◌, ℕ, true};
+ghost use Rattle.std.specs.Prelude.{◌≡◌, ◌↔◌, true};
 ghost use Rattle.termwiz_timed.specs.AgesInTime.{IsReached, age_at, at_time, came, first_ages, left_of};
 
 pub use termwiz_input::time::{Age, Limit};

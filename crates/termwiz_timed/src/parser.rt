@@ -1,5 +1,5 @@
 //! The parser with a clock.
-ghost use Rattle.std.specs.Prelude.{◌≡◌, ◌≢◌, ◌⊎◌, ◌↔◌, ℕ, Bool, [], length, true, false, None, Some, IsTrue, Ok, IfOk, IfSome, IfNone, IfErr, OnOk, OnErr, IsOk, IsErrOf, if◌then◌else◌};
+ghost use Rattle.std.specs.Prelude.{◌≡◌, ◌≢◌, ◌⊎◌, ◌↔◌, Bool, [], length, true, false, None, Some, IsTrue, Ok, IfOk, IfSome, IfNone, OnOk, OnErr, IsOk, IsErrOf, if◌then◌else◌};
 ghost use Rattle.termwiz_grammar.specs.PasteParts.{IsSkipped};
 ghost use Rattle.termwiz_grammar.specs.WaitingKinds.{IsOpenPaste};
 ghost use Rattle.termwiz_extended_events.specs.declared.types.Event.{Event};

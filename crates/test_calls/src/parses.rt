@@ -1,7 +1,7 @@
 //! The calls of the parser, with no more to come. If one is refused memory, the call that goes on is made: what both give is
 //! what the bytes mean.
 
-ghost use Rattle.std.specs.Prelude.{◌≡◌, List, IfOk, IfSome};
+ghost use Rattle.std.specs.Prelude.{List, IfOk};
 ghost use Rattle.termwiz_input.specs.InputEvent.{InputEvent as Event};
 ghost use Rattle.termwiz_input.specs.Callbacks.{WasCalledOn, WasCalledOnNumbered};
 ghost use Rattle.termwiz_input.specs.Grammar.{Means, Steps};

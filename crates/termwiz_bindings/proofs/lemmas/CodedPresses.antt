@@ -171,17 +171,7 @@ read_codes bytes (ps, is, same) = same ∙ ap codes (sym (ap presses_with same �
 pub read_as : (bytes : List ℕ) (ps : List KeyPress) → bytes ≡ codes ps → IsChord ps → presses_with bytes ≡ ps
 read_as bytes ps same is = ap presses_with same ∙ presses_of ps is.presses
 
--- the first of them
-pub no_first_press : (bytes : List ℕ) → AreCodes bytes → length bytes < code_len → presses_with bytes ≡ []
-no_first_press bytes (ps, is, same) few = go ps same
-  where
-    go : (ps : List KeyPress) → bytes ≡ codes ps → presses_with bytes ≡ []
-    go [] same = ap presses_with same
-    go (p ∷ ps) same =
-        let wide : length bytes ≡ length (p ∷ ps) * code_len = ap length same ∙ codes_length (p ∷ ps) in
-        absurd (omega (arith, wide, few))
-
--- its code comes first
+-- the first of them: its code comes first
 pub record IsFirstPress (bytes : List ℕ) (p : KeyPress) : Type 0 where
   pub is : IsPress p
   pub its_code : take code_len bytes ≡ code p

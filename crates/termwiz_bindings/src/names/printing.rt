@@ -1,6 +1,5 @@
 // The printed names of presses.
 ghost use Rattle.std.specs.Prelude.{◌≡◌, ◌++◌, OnOk, string_bytes};
-ghost use Rattle.std.specs.Fmt.{decimal};
 ghost use Rattle.termwiz_bindings.specs.Names as rules;
 
 use super::words::printed_word;
