@@ -583,6 +583,56 @@ def test_removed_keys():
     check("map", asked)
 
 
+# Many keys, which are bound and unbound in several orders: the digits of numbers.
+MANY_KEYS = 2500
+ORDERS = ["rising", "falling", "drawn"]
+
+
+def numbers_in(draws, order):
+    numbers = list(range(0, 3 * MANY_KEYS, 3))
+    if order == "drawn":
+        draws.shuffle(numbers)
+    return numbers[::-1] if order == "falling" else numbers
+
+
+def digits(number):
+    return f"{number:04}".encode()
+
+
+def questions(draws, entries):
+    """What a map with these entries answers about some places and texts."""
+    keys = sorted(entries)
+    yield "len", str(len(keys))
+    for place in draws.sample(range(len(keys)), min(3, len(keys))):
+        yield f"get_index {place}", entry(keys[place], entries[keys[place]])
+    for number in draws.sample(range(3 * MANY_KEYS), 5):
+        text = digits(number)[: draws.randrange(2, 5)]
+        yield command("lookup", 1, text), found_among(entries, text, 1)
+        longer = [place for place, key in enumerate(keys) if key.startswith(text) and key != text]
+        if longer:
+            yield command("extensions", 0, text), f"{longer[0]}..{longer[-1] + 1}"
+
+
+@pytest.mark.parametrize("removed", ORDERS)
+@pytest.mark.parametrize("inserted", ORDERS)
+def test_many_keys(inserted, removed):
+    """Far more keys than stand in one block of rows. Ranges are remembered half way, which makes
+    one block of all."""
+    draws, entries, asked = random.Random(1), {}, []
+    for count, number in enumerate(numbers_in(draws, inserted)):
+        entries[digits(number)] = number
+        asked.append(insert(digits(number), number))
+        if count % 250 == 0:
+            asked += questions(draws, entries)
+        if count == MANY_KEYS // 2:
+            asked += [("remember", ""), *questions(draws, entries)]
+    for count, number in enumerate(numbers_in(draws, removed)):
+        asked.append((command("remove", 0, digits(number)), str(entries.pop(digits(number)))))
+        if count % 250 == 0:
+            asked += [(command("remove", 0, digits(number)), "None"), *questions(draws, entries)]
+    check("map", [*asked, ("len", "0"), *lookups([(b"0000", 1, "None")])])
+
+
 # Drawn keys and texts, looked up in a map and a plain one.
 def five(draws):
     return b"\x00\xff" + bytes(draws.choices(b"\x00\x01\xfe\xff", k=3))

@@ -222,9 +222,9 @@ TASKS = {
     "lookup row": "to look up five bytes in a key map of all rows",
     "bind rising": "to bind a chord, of 100,000 in rising order",
     "lookup rising": "to look up a chord among these",
-    "unbind falling": "to unbind a chord of these, in falling order",
+    "unbind rising/falling": "to unbind a chord of these, in falling order",
     "bind drawn": "to bind a chord, of 10,000 in no order",
-    "unbind drawn": "to unbind a chord of these, in no order",
+    "unbind drawn/drawn": "to unbind a chord of these, in no order",
 }
 # Those that write events.
 KINDS = {

@@ -2,9 +2,11 @@
 # task, as tools/growth/tasks.c prints it. Unless the task was only timed, its instructions follow. A task of a larger size comes after the one
 # of a smaller size.
 BEGIN {
-    # The most instructions of one time, beside those of the smaller size. A search among four times the chords takes two steps more.
+    # The most instructions of one time, beside those of the smaller size. A search among four times the chords takes two steps more, and
+    # continuations take two searches.
     GROWS["read"] = GROWS["print"] = 1.1
-    GROWS["bind"] = GROWS["unbind"] = GROWS["lookup"] = GROWS["continuations"] = 1.25
+    GROWS["bind"] = GROWS["unbind"] = GROWS["lookup"] = 1.25
+    GROWS["continuations"] = 1.35
     GROWS["entry"] = GROWS["send"] = 1.05
     # The most instructions among 500 chords of one press, beside those of a row of five bytes. A press takes two calls.
     BESIDE_ROW["lookup one"] = BESIDE_ROW["press one"] = 1.5
@@ -12,7 +14,7 @@ BEGIN {
     COSTS["send plain"] = COSTS["send lines"] = 20
     # The most bytes of memory of a chord, beside those where there are fewer, and the most seconds that it takes to bind or unbind all.
     HOLDS = 1.1; SECONDS = 1
-    line = "%-13s %-10s %8s %12s %8s %8s\n"
+    line = "%-13s %-15s %8s %12s %8s %8s\n"
 }
 
 FILENAME == ARGV[3] && FNR == 1 { printf "\n" line, "task", "of", "size", "one time", "ratio", "memory" }

@@ -292,9 +292,8 @@ static void draw_places(work *it, size_t below) {
   for (it->count = 0; it->count < PROBES; it->count++) it->order[it->count] = draw(below);
 }
 
-/* Bindings of so many chords, which are bound in an order and unbound in the opposite one. */
+/* Binds so many chords in an order, and unbinds them in each order: in that of binding, in the opposite one, or in none. */
 static void show_binding(size_t count, enum order order) {
-  static const enum order opposite[] = { FALLING, RISING, DRAWN };
   static work it = { .chords = many, .rounds = 1 };
   it.count = count;
   put_in_order(&it, order);
@@ -305,8 +304,14 @@ static void show_binding(size_t count, enum order order) {
   show("entry", order_names[order], count, it.count, list_all, &it);
   show("continuations", order_names[order], count, it.count, continue_all, &it);
   it.count = count;
-  put_in_order(&it, opposite[order]);
-  show("unbind", order_names[opposite[order]], count, count, unbind_all, &it);
+  for (enum order next = RISING; next <= DRAWN; next++) {
+    char names[32];
+    snprintf(names, sizeof names, "%s/%s", order_names[order], order_names[next]);
+    put_in_order(&it, next);
+    show("unbind", names, count, count, unbind_all, &it);
+    put_in_order(&it, order);
+    bind_all(&it);
+  }
   hed_bindings_free(&it.bindings);
 }
 
@@ -399,8 +404,8 @@ int main(int argc, char **argv) {
   show_reading();
   show_printing();
   show_lookups(1);
-  for (size_t count = FEWER; count <= 4 * FEWER; count *= 4)
-    for (enum order order = RISING; order < DRAWN; order++) show_binding(count, order);
+  for (size_t count = MANY / 4; count <= MANY; count *= 4)
+    for (enum order order = RISING; order <= DRAWN; order++) show_binding(count, order);
   show_sending();
   return 0;
 }

@@ -16,7 +16,8 @@ use Rattle.std_alloc.proofs.SendSync.{lies}
 use Rattle.termwiz_keys.specs.contracts.types.KeyCode as KeyCode
 use Rattle.termwiz_keys.specs.contracts.types.KeyEvent as KeyEvent
 use Rattle.termwiz_keymap.specs.contracts.keymap.KeyMap as KeyMap
-use Rattle.termwiz_keymap.specs.contracts.keymap.gap_buffer.GapBuffer as GapBuffer
+use Rattle.termwiz_keymap.specs.contracts.keymap.blocks.Block as Block
+use Rattle.termwiz_keymap.specs.contracts.keymap.blocks.Blocks as Blocks
 use Rattle.termwiz_keymap.specs.contracts.keymap.remembered.Remembered as Remembered
 use Rattle.termwiz_keymap.specs.contracts.keymap.row.Row as Row
 use Rattle.termwiz_keymap.specs.contracts.readbuf.ReadBuffer as ReadBuffer
@@ -71,11 +72,17 @@ row_send V s = search (sendable, crosses) depth 10
 row_sync : (V : RattleType) → IsSync V → IsSync (Row.the_row V)
 row_sync V s = search (sendable, crosses) depth 10
 
-gap_send : (T : RattleType) → IsSend T → IsSend (GapBuffer.the_row T)
-gap_send T s = search (sendable, crosses) depth 10
+block_send : (T : RattleType) → IsSend T → IsSend (Block.the_row T)
+block_send T s = search (sendable, crosses) depth 10
 
-gap_sync : (T : RattleType) → IsSync T → IsSync (GapBuffer.the_row T)
-gap_sync T s = search (sendable, crosses) depth 10
+block_sync : (T : RattleType) → IsSync T → IsSync (Block.the_row T)
+block_sync T s = search (sendable, crosses) depth 10
+
+blocks_send : (T : RattleType) → IsSend T → IsSend (Blocks.the_row T)
+blocks_send T s = search (sendable, crosses, block_send) depth 20
+
+blocks_sync : (T : RattleType) → IsSync T → IsSync (Blocks.the_row T)
+blocks_sync T s = search (sendable, crosses, block_sync) depth 20
 
 remembered_send : IsSend Remembered.the_row
 remembered_send = search (sendable, crosses) depth 10
@@ -84,10 +91,10 @@ remembered_sync : IsSync Remembered.the_row
 remembered_sync = search (sendable, crosses) depth 10
 
 map_send : (V : RattleType) (d : Debug V.Denot) (c : Clone V.Denot) → IsSend V → IsSend (KeyMap.the_row V d c)
-map_send V d c s = search (sendable, crosses, row_send, gap_send, remembered_send) depth 12
+map_send V d c s = search (sendable, crosses, row_send, blocks_send, remembered_send) depth 12
 
 map_sync : (V : RattleType) (d : Debug V.Denot) (c : Clone V.Denot) → IsSync V → IsSync (KeyMap.the_row V d c)
-map_sync V d c s = search (sendable, crosses, row_sync, gap_sync, remembered_sync) depth 12
+map_sync V d c s = search (sendable, crosses, row_sync, blocks_sync, remembered_sync) depth 12
 
 chord_map_send : (V : RattleType) (d : Debug V.Denot) (c : Clone V.Denot) → IsSend V → IsSend (ChordMap.the_row V d c)
 chord_map_send V d c s = search (sendable, crosses, map_send) depth 12

@@ -1,9 +1,10 @@
 -- A map from byte lists as the list of its rows, in ascending order of their keys.
-use Rattle.std.specs.Prelude.{◌≡◌, ◌≢◌, ◌<◌, ◌≤◌, ℕ, List, get_or, length, take, min, map as each}
+use Rattle.std.specs.Prelude.{◌≡◌, ◌≢◌, ◌-◌, ◌<◌, ◌≤◌, ℕ, List, get_or, length, take, min, map as each}
 use Rattle.std.specs.Ordering.{nat_cmp}
 use Rattle.std.specs.declared.cmp.Ordering.TheVariants.{Less}
 use Rattle.std.specs.Cmp.Lexicographic.{slice_cmp}
 use Rattle.std.specs.List.{AllZip}
+use Rattle.termwiz_keymap.specs.declared.keymap.blocks.Block.{Block}
 use Rattle.termwiz_keymap.specs.declared.keymap.row.TheConstants.{SHORT}
 use Rattle.termwiz_keymap.specs.declared.keymap.row.Key.{Key}
 use Rattle.termwiz_keymap.specs.declared.keymap.row.Key.TheVariants.{Short, Long}
@@ -81,3 +82,11 @@ module _ {V : Type 0} where
   -- the first rows, so many of them, are those whose keys aren't after this one
   abbrev pub IsCountUpTo : List (Row V) → List ℕ → ℕ → Type 0
   IsCountUpTo rows key count = IsBounded rows key count count
+
+  -- of the first so many blocks the last begins with a key that isn't after this one, and the next block begins with one that is
+  pub record IsBegun (blocks : List (Block (Row V))) (key : List ℕ) (count : ℕ) : Type 0 where
+    pub inside : count ≤ length blocks
+    pub up_to : (b : Block (Row V)) (r : Row V) → 0 < count
+        → slice_cmp nat_cmp key (key_of (get_or (get_or blocks (count - 1) b).items.items 0 r)) ≢ Less
+    pub after : (b : Block (Row V)) (r : Row V) → count < length blocks
+        → slice_cmp nat_cmp key (key_of (get_or (get_or blocks count b).items.items 0 r)) ≡ Less

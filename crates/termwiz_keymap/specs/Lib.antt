@@ -1,5 +1,6 @@
 pub mod Bytes
 pub mod Entries
+pub mod InBlocks
 pub mod KeyRanges
 pub mod KeyRows
 pub mod KeysInOrder

@@ -3,7 +3,7 @@
 ghost use Rattle.std.specs.Prelude.{◌≡◌, ◌↔◌, IsTrue, IfOk, IfSome, IfNone, OnOk, OnErr};
 ghost use Rattle.std.specs.FinMap as map;
 
-mod gap_buffer;
+mod blocks;
 mod range;
 mod remembered;
 mod row;
@@ -11,7 +11,7 @@ mod search;
 mod text_range;
 mod text_search;
 
-use gap_buffer::GapBuffer;
+use blocks::Blocks;
 use remembered::{Remembered, remembered_ranges};
 use row::{Row, copied, new_row};
 use search::place_of;
@@ -19,8 +19,7 @@ use std::alloc::{AllocError, Global};
 use std::fmt::Debug;
 use std::marker::Model;
 use std::ops::Range;
-use text_range::range_of;
-use text_search::found_for;
+use text_search::{extensions_of, found_for};
 
 /// The answer of [`KeyMap::lookup`].
 #[derive(Clone, PartialEq, Eq, Debug, Drop)]
@@ -39,7 +38,7 @@ pub enum Found<Value> {
 /// their bytes.
 #[derive(Debug, Drop)]
 pub struct KeyMap<V: Debug + Clone + Drop> {
-    rows: GapBuffer<Row<V>>,
+    rows: Blocks<Row<V>>,
     // Remembered ranges of these rows. They follow from the rows, and say nothing more of the map.
     places: Vec<Remembered>,
     alloc: Global,
@@ -72,7 +71,7 @@ impl<V: Debug + Clone + Drop> KeyMap<V> {
         ensures { result ≡ map.empty }
     {
         KeyMap {
-            rows: GapBuffer::from_vec(alloc, Vec::new(alloc)),
+            rows: Blocks::from_vec(alloc, Vec::new(alloc)),
             places: Vec::new(alloc),
             alloc,
         }
@@ -89,7 +88,7 @@ impl<V: Debug + Clone + Drop> KeyMap<V> {
     {
         let row = new_row(self.alloc, key, value)?;
         self.places.clear();
-        match place_of(&self.rows, key, self.rows.gap()) {
+        match place_of(&self.rows, key, self.rows.near()) {
             Ok(place) => {
                 self.rows.set(place, row);
                 Ok(())
@@ -104,7 +103,7 @@ impl<V: Debug + Clone + Drop> KeyMap<V> {
         ensures value { result ≡ map.get self.old key.now }
         ensures others { self.new ≡ map.remove self.old key.now }
     {
-        match place_of(&self.rows, key, self.rows.gap()) {
+        match place_of(&self.rows, key, self.rows.near()) {
             Ok(place) => {
                 self.places.clear();
                 let row = self.rows.remove(place);
@@ -142,12 +141,13 @@ impl<V: Debug + Clone + Drop> KeyMap<V> {
         ensures keys { AreExtensions self.now text.now result.start result.end }
         ensures some { (result.start < result.end) ↔ IsExtended self.now text.now }
     {
-        let range = range_of(&self.rows, &self.places, text);
-        range.low.min(range.high)..range.high
+        let (low, high) = extensions_of(&self.rows, &self.places, text);
+        low.min(high)..high
     }
 
-    /// Asks once for the memory of so many keys more, so that inserts needn't ask for it again and again. A long key still takes
-    /// memory of its own. The map stays the same. Fails only if memory is refused.
+    /// Asks once for the memory of so many keys more, so that inserts needn't ask for it again and again. It is that of 512 keys at most:
+    /// more of them take memory for every 512, and a long key takes memory of its own. The map stays the same. Fails only if memory is
+    /// refused.
     pub fn reserve(&mut self, additional: usize) -> Result<(), AllocError>
         ensures { self.new ≡ self.old }
     {
@@ -212,7 +212,7 @@ impl<V: Debug + Clone + Drop> KeyMap<V> {
         ensures same { ClonesEqual V.is_clone → IfOk result (λ copy. copy ≡ self.now) }
     {
         Ok(KeyMap {
-            rows: GapBuffer::from_vec(self.alloc, copied(self.alloc, &self.rows)?),
+            rows: Blocks::from_vec(self.alloc, copied(self.alloc, &self.rows)?),
             places: Vec::new(self.alloc),
             alloc: self.alloc,
         })

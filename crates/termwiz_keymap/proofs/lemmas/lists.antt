@@ -1,4 +1,4 @@
 pub mod CommonPrefixes
 pub mod FindFromOffset
-pub mod GapLists
+pub mod BlockLists
 pub mod PrefixTest

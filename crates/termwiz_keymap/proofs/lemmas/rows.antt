@@ -1,5 +1,6 @@
 pub mod AscendingRows
 pub mod BinarySearch
+pub mod BlockSearch
 pub mod ByteSearch
 pub mod ClonedRows
 pub mod GoingOn

@@ -4,7 +4,6 @@ ghost use Rattle.std.specs.Prelude.{◌≡◌, ◌+◌, ◌-◌, ◌<◌, ◌≤
 ghost use Rattle.termwiz_keymap.specs.KeyRows.{AreAscending};
 ghost use Rattle.termwiz_keymap.specs.KeyRanges.{AreRising, IsFirstFrom, IsRangeOf};
 
-use super::gap_buffer::GapBuffer;
 use super::row::Row;
 
 /// The range of some bytes: the rows from `low` up to but not including `high`, which are those whose keys begin with these bytes
@@ -26,7 +25,7 @@ impl Range {
 }
 
 /// The range of the empty text.
-pub fn whole<V>(rows: &GapBuffer<Row<V>>) -> Range
+pub fn whole<V>(rows: &[Row<V>]) -> Range
     requires { AreAscending rows.now }
     ensures { IsRangeOf rows.now [] result }
 {
@@ -48,7 +47,7 @@ pub fn whole<V>(rows: &GapBuffer<Row<V>>) -> Range
 
 /// The range of one byte more of a text, from the range of so many first bytes of it. If a key is as long as the new depth, its row is
 /// the first of those with the byte.
-pub fn narrowed<V>(rows: &GapBuffer<Row<V>>, range: Range, text: &[u8], depth: usize) -> Range
+pub fn narrowed<V>(rows: &[Row<V>], range: Range, text: &[u8], depth: usize) -> Range
     requires ascending { AreAscending rows.now }
     requires inside { depth < length text.now }
     requires ordered { range.low ≤ range.high }
@@ -84,13 +83,7 @@ pub fn narrowed<V>(rows: &GapBuffer<Row<V>>, range: Range, text: &[u8], depth: u
 
 // As `first_from`. Where each byte from the first on has one row, the place is as far ahead as the limit is above the first byte: it
 // is tried before the search.
-fn first_of<V>(
-    rows: &GapBuffer<Row<V>>,
-    depth: usize,
-    limit: usize,
-    low: usize,
-    high: usize,
-) -> usize
+fn first_of<V>(rows: &[Row<V>], depth: usize, limit: usize, low: usize, high: usize) -> usize
     requires ordered { low ≤ high }
     requires rising { AreRising rows.now depth low high }
     ensures { IsFirstFrom rows.now depth limit low high result }
@@ -110,7 +103,7 @@ fn first_of<V>(
 
 // The first place of a range at which the byte of the key at a depth isn't below the limit, or the range's end.
 fn first_from<V>(
-    rows: &GapBuffer<Row<V>>,
+    rows: &[Row<V>],
     depth: usize,
     limit: usize,
     mut low: usize,

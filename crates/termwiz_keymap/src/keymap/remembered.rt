@@ -5,7 +5,7 @@ ghost use Rattle.termwiz_keymap.specs.KeyRows.{AreAscending};
 ghost use Rattle.termwiz_keymap.specs.KeyRanges.{IsRangeOf};
 ghost use Rattle.termwiz_keymap.specs.Remembering.{AreRemembered, IsFoundFor, IsAmongPlaces, number_of, range_in};
 
-use super::gap_buffer::GapBuffer;
+use super::blocks::Blocks;
 use super::range::{Range, narrowed, whole};
 use super::row::Row;
 use std::alloc::{AllocError, Global};
@@ -172,15 +172,18 @@ fn last_found<'a>(
     found
 }
 
-/// Ranges of the rows, remembered in new memory.
+/// Ranges of the rows, remembered in new memory. Of rows in many blocks none is.
 pub fn remembered_ranges<V>(
     alloc: Global,
-    rows: &GapBuffer<Row<V>>,
+    rows: &Blocks<Row<V>>,
 ) -> Result<Vec<Remembered>, AllocError>
     requires { AreAscending rows.now }
     ensures { IfOk result (λ places. AreRemembered rows.now places.items) }
 {
     let mut places = vec![in alloc; NOTHING; PLACES]?;
+    let Some(rows) = rows.in_one() else {
+        return Ok(places);
+    };
     if rows.len() >= ROWS {
         return Ok(places);
     }
@@ -190,7 +193,7 @@ pub fn remembered_ranges<V>(
 
 // Remembers the ranges within the range of so many first bytes of a text: each by its next byte.
 fn remember_within<V>(
-    rows: &GapBuffer<Row<V>>,
+    rows: &[Row<V>],
     places: &mut [Remembered],
     range: Range,
     text: &[u8],
@@ -231,7 +234,7 @@ fn with_byte(text: &[u8], depth: usize, byte: u8) -> [u8; FIRST]
 
 // Where a short text's range has many rows, remembers the ranges within it by each printable byte, also where no row has that.
 fn remember_printable<V>(
-    rows: &GapBuffer<Row<V>>,
+    rows: &[Row<V>],
     places: &mut [Remembered],
     range: Range,
     text: &[u8],
@@ -273,13 +276,7 @@ fn free_place_of(places: &[Remembered], number: u64, depth: u16) -> usize {
 }
 
 // Remembers the range of so many first bytes of a text, unless its places have others that don't yield to it.
-fn remember<V>(
-    rows: &GapBuffer<Row<V>>,
-    places: &mut [Remembered],
-    range: Range,
-    text: &[u8],
-    depth: usize,
-)
+fn remember<V>(rows: &[Row<V>], places: &mut [Remembered], range: Range, text: &[u8], depth: usize)
     requires few { length rows.now < 2 ^ 16 }
     requires inside { depth ≤ length text.now }
     requires deep { depth ≤ DEEPEST }

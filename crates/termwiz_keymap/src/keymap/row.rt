@@ -2,7 +2,7 @@
 ghost use Rattle.std.specs.Prelude.{◌≡◌, ◌<◌, ◌≤◌, length, get_or, take, IfOk};
 ghost use Rattle.termwiz_keymap.specs.KeyRows.{AreRowClones, IsRowOf, bytes_of};
 
-use super::gap_buffer::GapBuffer;
+use super::blocks::Blocks;
 use std::alloc::{AllocError, Global};
 
 /// The length of the longest key that is in its row. With its length and the kind of key it fills 16 bytes.
@@ -99,7 +99,7 @@ pub fn new_row<V: Drop>(alloc: Global, key: &[u8], value: V) -> Result<Row<V>, A
 #[tactic(auto, using(crate::proofs::lemmas::rows::ClonedRows::one_more_copied))]
 pub fn copied<V: Clone + Drop>(
     alloc: Global,
-    rows: &GapBuffer<Row<V>>,
+    rows: &Blocks<Row<V>>,
 ) -> Result<Vec<Row<V>>, AllocError>
     ensures { IfOk result (λ copies. AreRowClones V.is_clone rows.now copies.items) }
 {

@@ -3,13 +3,14 @@ ghost use Rattle.std.specs.Prelude.{◌≡◌, ◌↔◌, IsTrue, IfOk, IfErr};
 ghost use Rattle.std.specs.Ordering.{nat_cmp};
 ghost use Rattle.std.specs.Cmp.Lexicographic.{slice_cmp};
 ghost use Rattle.std.specs.declared.cmp.Ordering.TheVariants.{Less};
-ghost use Rattle.termwiz_keymap.specs.KeyRows.{AgreeFor, AreAscending, IsAt, IsBounded, IsCountUpTo, IsGapFor, ShareFirst};
+ghost use Rattle.termwiz_keymap.specs.InBlocks.{AreFilled};
+ghost use Rattle.termwiz_keymap.specs.KeyRows.{AgreeFor, AreAscending, IsAt, IsBounded, IsBegun, IsCountUpTo, IsGapFor, ShareFirst};
 
-use super::gap_buffer::GapBuffer;
+use super::blocks::{Block, Blocks};
 use super::row::Row;
 
 /// The place of the row with a key, or the place at which it would be inserted. The search looks at the place `near` first.
-pub fn place_of<V>(rows: &GapBuffer<Row<V>>, key: &[u8], near: usize) -> Result<usize, usize>
+pub fn place_of<V>(rows: &Blocks<Row<V>>, key: &[u8], near: usize) -> Result<usize, usize>
     requires { AreAscending rows.now }
     ensures found { IfOk result (IsAt rows.now key.now) }
     ensures absent { IfErr result (IsGapFor rows.now key.now) }
@@ -23,19 +24,50 @@ pub fn place_of<V>(rows: &GapBuffer<Row<V>>, key: &[u8], near: usize) -> Result<
 }
 
 /// How many rows have keys that aren't after this one, in the order of bytes: they come first. The search tries `near` first.
-pub fn count_up_to<V>(rows: &GapBuffer<Row<V>>, key: &[u8], near: usize) -> usize
+pub fn count_up_to<V>(rows: &Blocks<Row<V>>, key: &[u8], near: usize) -> usize
     requires { AreAscending rows.now }
     ensures { IsCountUpTo rows.now key.now result }
 {
     if is_between(rows, key, near) {
         near
     } else {
-        count_between(rows, key, 0, rows.len())
+        count_anywhere(rows, key)
     }
 }
 
+/// As `count_up_to`, of any key.
+pub fn count_anywhere<V>(rows: &Blocks<Row<V>>, key: &[u8]) -> usize
+    requires { AreAscending rows.now }
+    ensures { IsCountUpTo rows.now key.now result }
+{
+    let (first, rest) = rows.parts();
+    let begun = blocks_up_to(rest, key);
+    if begun == 0 {
+        return count_between(first, key, 0, first.len());
+    }
+    let block = &rest[begun - 1];
+    block.start + count_between(&block.items, key, 0, block.items.len())
+}
+
+// How many blocks begin with a key that isn't after this one: they come first.
+fn blocks_up_to<V>(blocks: &[Block<Row<V>>], key: &[u8]) -> usize
+    requires { AreFilled blocks.now }
+    ensures { IsBegun blocks.now key.now result }
+{
+    let (mut low, mut high) = (0, blocks.len());
+    while low < high {
+        let middle = low + (high - low) / 2;
+        if is_behind(blocks[middle].items[0].key(), key) {
+            high = middle;
+        } else {
+            low = middle + 1;
+        }
+    }
+    low
+}
+
 // Whether a place is between the rows that aren't after the key and those that are.
-fn is_between<V>(rows: &GapBuffer<Row<V>>, key: &[u8], place: usize) -> bool
+fn is_between<V>(rows: &Blocks<Row<V>>, key: &[u8], place: usize) -> bool
     requires { AreAscending rows.now }
     ensures { IsTrue result → IsCountUpTo rows.now key.now place }
 {
@@ -56,15 +88,10 @@ fn is_behind(key: &[u8], text: &[u8]) -> bool
     is_after(key, text, shared_len(key, text, 0))
 }
 
-/// As `count_up_to`, where the rows before `low` are known to be not after the key, and those from `high` on to be after it.
-///
-/// All rows between share as many first bytes with the key as the two rows beside them do, so those aren't compared again.
-pub fn count_between<V>(
-    rows: &GapBuffer<Row<V>>,
-    key: &[u8],
-    mut low: usize,
-    mut high: usize,
-) -> usize
+// As `count_up_to`, of rows in one block, where those before `low` are known to be not after the key, and those from `high` on to be after it.
+//
+// All rows between share as many first bytes with the key as the two rows beside them do, so those aren't compared again.
+fn count_between<V>(rows: &[Row<V>], key: &[u8], mut low: usize, mut high: usize) -> usize
     requires ascending { AreAscending rows.now }
     requires bounded { IsBounded rows.now key.now low high }
     ensures { IsCountUpTo rows.now key.now result }

@@ -4,7 +4,6 @@ ghost use Rattle.termwiz_keymap.specs.KeyRows.{AreAscending};
 ghost use Rattle.termwiz_keymap.specs.KeyRanges.{IsRangeOf};
 ghost use Rattle.termwiz_keymap.specs.Remembering.{AreRemembered};
 
-use super::gap_buffer::GapBuffer;
 use super::range::{Range, narrowed, whole};
 use super::remembered::{Remembered, remembered_for};
 use super::row::Row;
@@ -12,7 +11,7 @@ use super::search::shared_len;
 
 /// The range of a text. It is narrowed byte by byte, from a remembered range or that of the empty text. Where no row is left, or one,
 /// the search ends.
-pub fn range_of<V>(rows: &GapBuffer<Row<V>>, places: &[Remembered], text: &[u8]) -> Range
+pub fn range_of<V>(rows: &[Row<V>], places: &[Remembered], text: &[u8]) -> Range
     requires ascending { AreAscending rows.now }
     requires remembered { AreRemembered rows.now places.now }
     ensures { IsRangeOf rows.now text.now result }
@@ -29,7 +28,7 @@ pub fn range_of<V>(rows: &GapBuffer<Row<V>>, places: &[Remembered], text: &[u8])
 }
 
 // The range with which a search begins, and of how many first bytes of the text it is.
-fn first_range<V>(rows: &GapBuffer<Row<V>>, places: &[Remembered], text: &[u8]) -> (Range, usize)
+fn first_range<V>(rows: &[Row<V>], places: &[Remembered], text: &[u8]) -> (Range, usize)
     requires ascending { AreAscending rows.now }
     requires remembered { AreRemembered rows.now places.now }
     ensures inside { result.1 ≤ length text.now }
@@ -42,7 +41,7 @@ fn first_range<V>(rows: &GapBuffer<Row<V>>, places: &[Remembered], text: &[u8]) 
 }
 
 // The range of a text, from the range of so many first bytes of it, in which one row is left: its key is compared at once.
-fn of_last_row<V>(rows: &GapBuffer<Row<V>>, range: Range, text: &[u8], depth: usize) -> Range
+fn of_last_row<V>(rows: &[Row<V>], range: Range, text: &[u8], depth: usize) -> Range
     requires one { range.low + 1 ≡ range.high }
     requires inside { depth ≤ length text.now }
     requires first { IsRangeOf rows.now (take depth text.now) range }

@@ -8,10 +8,9 @@ use Rattle.std.proofs.lemmas.Cmp.{nat_list_cmp_total}
 use Rattle.std.proofs.lemmas.Bool.{cases_lt}
 use Rattle.std.proofs.lemmas.List.{get_or-map, length-map}
 use Rattle.termwiz_keymap.specs.declared.keymap.row.Row.{Row}
-use Rattle.termwiz_keymap.specs.declared.keymap.range.Range.{Range}
 use Rattle.termwiz_keymap.specs.Lookup.{ByteMap}
 use Rattle.termwiz_keymap.specs.KeyRows.{key_of, value_of, row_entries, AreAscending}
-use Rattle.termwiz_keymap.specs.KeyRanges.{GoesOn, IsRangeOf}
+use Rattle.termwiz_keymap.specs.KeyRanges.{AreGoingOn, GoesOn}
 use Rattle.termwiz_keymap.specs.KeysInOrder.{IsEntryAt, AreExtensions}
 use Rattle.termwiz_keymap.proofs.lemmas.rows.KeyOrder.{Before}
 
@@ -72,21 +71,20 @@ module _ {V : Type 0} where
         ∙ ap (λ es. get_or es i (key, value)) (sym entries_are) ∙ at.there (key, value))
 
     -- the places of the rows that go on after a text
-    pub extensions_of : (t : List ℕ) (range : Range) (low : ℕ) → IsRangeOf rows t range → low ≤ range.high
-        → (range.low ≤ range.high → low ≡ range.low) → (range.high < range.low → low ≡ range.high)
-        → AreExtensions m t low range.high
-    extensions_of t range low of ordered same none = record {
+    pub extensions_of : (t : List ℕ) (first low high : ℕ) → AreGoingOn rows t first high → low ≤ high
+        → (first ≤ high → low ≡ first) → (high < first → low ≡ high) → AreExtensions m t low high
+    extensions_of t first low high of ordered same none = record {
       ordered = ordered;
-      inside = omega (arith, of.going_on.inside, as_many);
+      inside = omega (arith, of.inside, as_many);
       those = λ i key value at.
           let inside : i < length rows = omega (arith, at.inside, as_many) in
           let r = row_there rows i inside in
           let is = key_at i key value r at in (
-            λ goes. let within = of.going_on.no_others i r inside (subst (GoesOn t) (sym is) goes) in
+            λ goes. let within = of.no_others i r inside (subst (GoesOn t) (sym is) goes) in
                 (omega (arith, within.0, within.1, same (omega (arith, within.0, within.1))), within.1),
-            λ within. subst (GoesOn t) is (of.going_on.those i r
-                (⊎_elim (λ (down : range.high < range.low). absurd (omega (arith, within.0, within.1, none down)))
-                (λ (up : range.low ≤ range.high). omega (arith, within.0, same up))
-                (cases_lt range.high range.low)) within.1),
+            λ within. subst (GoesOn t) is (of.those i r
+                (⊎_elim (λ (down : high < first). absurd (omega (arith, within.0, within.1, none down)))
+                (λ (up : first ≤ high). omega (arith, within.0, same up))
+                (cases_lt high first)) within.1),
           );
     }

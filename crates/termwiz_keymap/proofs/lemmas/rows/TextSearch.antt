@@ -8,7 +8,7 @@ use Rattle.termwiz_keymap.specs.declared.keymap.row.Row.{Row}
 use Rattle.termwiz_keymap.specs.declared.keymap.range.Range.{Range}
 use Rattle.termwiz_keymap.specs.Bytes.{Begins}
 use Rattle.termwiz_keymap.specs.KeyRows.{key_of, AreAscending, AgreeFor, ShareFirst, IsCountUpTo}
-use Rattle.termwiz_keymap.specs.KeyRanges.{GoesOn, IsLongest, IsRangeOf, SomeGoesOn}
+use Rattle.termwiz_keymap.specs.KeyRanges.{AreGoingOn, GoesOn, IsLongest, IsRangeOf, SomeGoesOn}
 use Rattle.termwiz_keymap.proofs.lemmas.lists.CommonPrefixes.{length-Begins}
 use Rattle.termwiz_keymap.proofs.lemmas.rows.BinarySearch.{key_any, squeezed_above, after_agreed, not_after_agreed}
 use Rattle.termwiz_keymap.proofs.lemmas.rows.GoingOn.{length-GoesOn, parted, agreed_begins, agreed_not_begins}
@@ -103,6 +103,63 @@ module _ {V : Type 0} where
                 ((goes r).0, (goes r).2))
                 (cases_lt count i),
           )
+
+      from_count : (i : ℕ) (r : Row V) → GoesOn text (key_at rows i r) → count ≤ i
+      from_count i r goes = ⊎_elim
+          (λ (under : i < count). absurd (counted.up_to i r under
+          (subst (λ k. Before text k) (sym goes.2) (before_longer text goes.0 goes.1))))
+          (λ (from : count ≤ i). from) (cases_lt i count)
+
+      -- where a later key begins with the text, each from the first after the text on does
+      shares_between : (i j : ℕ) (r : Row V) → count ≤ i → i ≤ j → j < length rows
+          → ShareFirst (key_at rows j r) text (length text) → ShareFirst (key_at rows i r) text (length text)
+      shares_between i j r from to inside share = ⊎_elim
+          (λ (less : i < j). squeezed_above (key_at rows j r) (key_at rows i r) text (length text)
+          (counted.after i r from (omega arith)) (up i j r less inside) share)
+          (λ (past : j ≤ i). subst (λ k. ShareFirst (key_at rows k r) text (length text)) {x = j} {y = i} (omega arith) share)
+          (cases_lt i j)
+
+      pub going_on_to : (high : ℕ) → count ≤ high → high ≤ length rows
+          → ((i : ℕ) (r : Row V) → count ≤ i → i < high → ShareFirst (key_at rows i r) text (length text))
+          → ((i : ℕ) (r : Row V) → high ≤ i → i < length rows → ShareFirst (key_at rows i r) text (length text) → ⊥)
+          → AreGoingOn rows text count high
+      going_on_to high ordered within sharing others = record {
+        inside = within;
+        those = λ i r from to. ⊎_elim
+            (λ (same : key_at rows i r ≡ text). absurd (not_itself text (subst (λ k. Before text k) same
+            (counted.after i r from (omega arith)))))
+            (λ (goes : GoesOn text (key_at rows i r)). goes)
+            (grown text (key_at rows i r) (shared_begins text (key_at rows i r) (sharing i r from to)));
+        no_others = λ i r inside goes. (
+          from_count i r goes,
+          ⊎_elim (λ (less : i < high). less)
+              (λ (past : high ≤ i). absurd (others i r past inside (going_on_shares text (key_at rows i r) goes)))
+              (cases_lt i high),
+        );
+      }
+
+      -- a key in the middle tells of those before it or of those after it
+      module _ (middle : ℕ) (row : Row V) (from : count ≤ middle) (within : middle < length rows)
+          (there : row ≡ get_or rows middle row) (n : ℕ) (agree : AgreeFor (key_of row) text n) where
+        pub sharing_up_to : n ≡ length text → (i : ℕ) (r : Row V) → count ≤ i → i ≤ middle
+            → ShareFirst (key_at rows i r) text (length text)
+        sharing_up_to whole i r past to = shares_between i middle r past to within
+            (subst (λ k. ShareFirst k text (length text)) (key_any rows middle row r within there) (record {
+              in_key = omega (arith, agree.in_key);
+              in_text = omega arith;
+              same = λ k below. agree.same k (omega arith);
+            }))
+
+        pub none_sharing_from : (n ≡ length text → ⊥) → (i : ℕ) (r : Row V) → middle ≤ i → i < length rows
+            → ShareFirst (key_at rows i r) text (length text) → ⊥
+        none_sharing_from part i r past inside share =
+            let here : ShareFirst (key_of row) text (length text) =
+            subst (λ k. ShareFirst k text (length text)) (sym (key_any rows middle row r within there))
+            (shares_between middle i r from past inside share) in
+            ⊎_elim
+            (λ (less : n < length text). agree.differ (omega (arith, here.in_key)) less (here.same n less))
+            (λ (most : length text ≤ n). part (omega (arith, agree.in_text)))
+            (cases_lt n (length text))
 
       pub none_going_on : length rows ≤ count → SomeGoesOn rows text → ⊥
       none_going_on all goes = absurd (omega (arith, (going_on_first goes).0))

@@ -12,15 +12,15 @@ is_some n e = grind (arith, nat_tests)
 
 pub returns-then-is_empty : goal.returns-then-is_empty
 returns-then-is_empty g c =
-    rw c.len-count.ensures (met_first c.args.rows.now c.requires c.index.result.now (omega (arith, c.if-count-gt0.true, c.len-count.ensures)) c.index.ensures
-    (ap length (sym c.key.ensures) ∙ is_zero _ c.if-is_empty.ensures))
+    met_first c.args.rows.now c.requires c.index-rows-0.result (omega (arith, c.if-count-gt0.true)) c.index-rows-0.is
+    (ap length (sym c.key.ensures) ∙ is_zero _ c.if-is_empty.ensures)
 
 pub returns-else-count-gt0 : goal.returns-else-count-gt0
-returns-else-count-gt0 g c = rw c.len-count.ensures (elim c.else-count-gt0.branch [
+returns-else-count-gt0 g c = elim c.else-count-gt0.branch [
   | else-count-gt0-via-then-count-gt0+else-is_empty w ↦
       let some = is_some (length w.key.result.now) w.if-is_empty.ensures in
-      unmet_first c.args.rows.now c.requires w.index.result.now (omega (arith, w.if-count-gt0.true, c.len-count.ensures))
-      w.index.ensures (λ none. absurd (omega (arith, some, ap length w.key.ensures)))
+      unmet_first c.args.rows.now c.requires w.index-rows-0.result (omega (arith, w.if-count-gt0.true))
+      w.index-rows-0.is (λ none. absurd (omega (arith, some, ap length w.key.ensures)))
   | else-count-gt0-via-else-count-gt0 w ↦
-      no_first c.args.rows.now c.requires (omega (arith, w.if-count-gt0.false, c.len-count.ensures))
-])
+      no_first c.args.rows.now c.requires (omega (arith, w.if-count-gt0.false))
+]

@@ -8,8 +8,8 @@ loop-low-preserved-then-is_after g c =
     let tells = rw c.key-other.ensures at c.is_after.ensures in
     narrowed_above c.args.rows.now c.requires.ascending c.args.key.now c.loop-low.low c.loop-low.high
     c.loop-low.low_shared c.loop-low.high_shared c.loop-low.invariant
-    (c.loop-low.low + (c.loop-low.high - c.loop-low.low) / 2) c.index.result.now (omega arith)
-    (omega arith) c.index.ensures c.shared_len-shared.result agree (tells.0 c.if-is_after.true)
+    (c.loop-low.low + (c.loop-low.high - c.loop-low.low) / 2) c.index-rows-middle.result (omega arith)
+    (omega arith) c.index-rows-middle.is c.shared_len-shared.result agree (tells.0 c.if-is_after.true)
 
 pub loop-low-preserved : goal.loop-low-preserved
 loop-low-preserved g c =
@@ -17,6 +17,6 @@ loop-low-preserved g c =
     let tells = rw c.key-other.ensures at c.is_after.ensures in
     narrowed_below c.args.rows.now c.requires.ascending c.args.key.now c.loop-low.low c.loop-low.high
     c.loop-low.low_shared c.loop-low.high_shared c.loop-low.invariant
-    (c.loop-low.low + (c.loop-low.high - c.loop-low.low) / 2) c.index.result.now (omega arith)
-    (omega arith) c.index.ensures c.shared_len-shared.result agree
+    (c.loop-low.low + (c.loop-low.high - c.loop-low.low) / 2) c.index-rows-middle.result (omega arith)
+    (omega arith) c.index-rows-middle.is c.shared_len-shared.result agree
     (λ before. cc (tells.1 before, c.if-is_after.false))
