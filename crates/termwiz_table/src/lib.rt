@@ -30,14 +30,13 @@ use std::alloc::{AllocError, Global};
 use termwiz_keymap::keymap::KeyMap;
 use termwiz_keys::types::KeyEvent;
 
-// The rows for which memory is asked at once; they are some fewer.
-const ROOM: usize = 3072;
+// The rows for which memory is asked at once: those of a block.
+const ROOM: usize = 512;
 
 /// Puts all rows of the sequence table into `keys`, a key map from sequences to keys. If memory is refused, a part of the rows may
 /// be in the map.
 ///
-/// The order of the rules is for speed: those whose rows lie far apart come before those with many rows, since an insert moves the rows
-/// between its place and that of the one before.
+/// The order of the rules is for speed: those whose rows lie far apart come before those with many rows, which come in rising order.
 #[tactic(auto, using(crate::proofs::lemmas::InsertedRows::joined_rows), unfolding(termwiz_grammar::specs::Table::rows))]
 pub fn add_rows(alloc: Global, keys: &mut KeyMap<KeyEvent>) -> Result<(), AllocError>
     ensures { OnOk result (keys.new ≡ with_rows keys.old rows) }
