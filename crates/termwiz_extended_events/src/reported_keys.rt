@@ -171,6 +171,7 @@ fn entry_at<V: Copy>(table: &[(u32, V)], number: u32) -> Option<V>
 }
 
 // The key that a letter ends.
+#[inline(always)]
 pub(crate) fn lettered_key(letter: u8) -> Option<KeyCode>
     ensures { result ≡ entry_at lettered_keys letter }
 {
