@@ -3,11 +3,12 @@
 # of a smaller size.
 BEGIN {
     # The most instructions of one time, beside those of the smaller size. A search among four times the chords takes two steps more, and
-    # continuations take two searches.
+    # continuations take two searches. The entry at a place is searched for among the blocks.
     GROWS["read"] = GROWS["print"] = 1.1
     GROWS["bind"] = GROWS["unbind"] = GROWS["lookup"] = 1.25
-    GROWS["continuations"] = 1.35
-    GROWS["entry"] = GROWS["send"] = 1.05
+    GROWS["continuations"] = 1.3
+    GROWS["entry"] = 1.15
+    GROWS["send"] = 1.05
     # The most instructions among 500 chords of one press, beside those of a row of five bytes. A press takes two calls.
     BESIDE_ROW["lookup one"] = BESIDE_ROW["press one"] = 1.5
     # The most instructions of one time: of a byte that is sent as it is.

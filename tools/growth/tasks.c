@@ -6,6 +6,7 @@
  * A line has what the task does, with what, the size of that and how many times, then the bytes of memory that it took and its nanoseconds. */
 #include "counts.h"
 #include "hedrugal.h"
+#include <malloc.h>
 #include <stdint.h>
 #include <stdio.h>
 #include <string.h>
@@ -305,14 +306,18 @@ static void show_binding(size_t count, enum order order) {
   show("continuations", order_names[order], count, it.count, continue_all, &it);
   it.count = count;
   for (enum order next = RISING; next <= DRAWN; next++) {
+    if (next != RISING) {
+      put_in_order(&it, order);
+      bind_all(&it);
+    }
     char names[32];
     snprintf(names, sizeof names, "%s/%s", order_names[order], order_names[next]);
     put_in_order(&it, next);
     show("unbind", names, count, count, unbind_all, &it);
-    put_in_order(&it, order);
-    bind_all(&it);
   }
   hed_bindings_free(&it.bindings);
+  /* Else the next task that asks for much memory joins the freed blocks. */
+  malloc_trim(0);
 }
 
 /* A text that is pasted is a part again and again. */
