@@ -1,6 +1,7 @@
 /* What is counted, over a wrapped malloc: see counts.h. */
 #define _POSIX_C_SOURCE 200809L
 #include "counts.h"
+#include <malloc.h>
 #include <stdint.h>
 #include <stdio.h>
 #include <stdlib.h>
@@ -21,12 +22,17 @@ static double now(void) {
   return (double)time.tv_sec * 1e9 + (double)time.tv_nsec;
 }
 
-cost counted(void (*task)(void *), void *it) {
+static __attribute__((noinline)) cost counted(void (*task)(void *), void *it) {
   size_t before = memory.most_in_use = memory.in_use;
   memory.largest = 0;
   double start = now();
   task(it);
   return (cost){ now() - start, memory.in_use > before ? memory.in_use - before : 0 };
+}
+
+cost count_task(void (*task)(void *), void *it) {
+  malloc_trim(0);
+  return counted(task, it);
 }
 
 /* Memory: the C library's blocks. In front of each stands its size. */

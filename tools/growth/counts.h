@@ -14,8 +14,8 @@ typedef struct cost {
   size_t memory;
 } cost;
 
-/* Carries a task out, with what it is about. */
-cost counted(void (*task)(void *), void *it);
+/* Carries a task out, with what it is about. What was freed before is joined first, which the next large request would do. */
+cost count_task(void (*task)(void *), void *it);
 
 /* Ends the program unless it is so. */
 void want(bool is_so);

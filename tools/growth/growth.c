@@ -124,7 +124,7 @@ static void make_pass(void *it) {
 static void show(const char *name, enum way way, size_t read, size_t length) {
   struct pass pass = { length, read, way, 0, 0 };
   memory.in_use = 0;
-  counted(make_pass, &pass);
+  count_task(make_pass, &pass);
   printf("%s %s %zu %zu %llu ", way_names[way], name, read, length, (unsigned long long)pass.events);
   printf("%zu %zu %zu\n", pass.longest, memory.most_in_use, memory.largest);
 }

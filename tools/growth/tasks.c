@@ -6,14 +6,13 @@
  * A line has what the task does, with what, the size of that and how many times, then the bytes of memory that it took and its nanoseconds. */
 #include "counts.h"
 #include "hedrugal.h"
-#include <malloc.h>
 #include <stdint.h>
 #include <stdio.h>
 #include <string.h>
 
 /* Counts a task, which does something so many times to what has this size, and prints a line of it. */
 static void show(const char *name, const char *of, size_t size, size_t times, void (*task)(void *), void *it) {
-  cost took = counted(task, it);
+  cost took = count_task(task, it);
   printf("%s %s %zu %zu %zu %.0f\n", name, of, size, times, took.memory, took.time);
 }
 
@@ -316,8 +315,6 @@ static void show_binding(size_t count, enum order order) {
     show("unbind", names, count, count, unbind_all, &it);
   }
   hed_bindings_free(&it.bindings);
-  /* Else the next task that asks for much memory joins the freed blocks. */
-  malloc_trim(0);
 }
 
 /* A text that is pasted is a part again and again. */
