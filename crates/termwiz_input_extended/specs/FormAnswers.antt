@@ -4,7 +4,7 @@ use Rattle.std.specs.List.{AllByRecursion}
 use Rattle.termwiz_keymap.specs.Bytes.{Begins}
 use Rattle.termwiz_keys.specs.Introducers.{CSI}
 use Rattle.termwiz_extended_events.specs.declared.types.StringKind.{StringKind}
-use Rattle.termwiz_extended_grammar.specs.Forms.{IsInner, IsRowDigit, IsRxvtDigit, IsRxvtPair, IsRxvtNumber, IsForm, IsUnfinishedForm}
+use Rattle.termwiz_extended_grammar.specs.Forms.{IsInner, IsRowDigit, IsRxvtNumber, IsForm, IsUnfinishedForm}
 use Rattle.termwiz_extended_grammar.specs.Strings.{IsString, string_length}
 use Rattle.termwiz_input_extended.specs.declared.form.FormAt.{FormAt}
 use Rattle.termwiz_input_extended.specs.declared.form.FormAt.TheVariants.{Whole, Unfinished, Absent}
@@ -31,18 +31,6 @@ pub data IsScanned (u : List ℕ) (scanned : ℕ) : Type 0 where
 -- what follows ESC [ begins with a number of rxvt-unicode's and `$`
 abbrev pub StartsShifted : List ℕ → Type 0
 StartsShifted rest = (number left : List ℕ) × IsRxvtNumber number × (rest ≡ number ++ 36 ∷ left)
-
--- the same, and these are so many bytes
-abbrev pub IsShiftedOf : List ℕ → ℕ → Type 0
-IsShiftedOf rest len = (number left : List ℕ) × IsRxvtNumber number × (rest ≡ number ++ 36 ∷ left) × (len ≡ length number + 1)
-
--- what follows ESC [ begins with a digit of rxvt-unicode's keys and `$`
-abbrev pub IsShiftedDigit : List ℕ → Type 0
-IsShiftedDigit rest = (2 ≤ length rest) × (slice_index rest 1 ≡ 36) × IsRxvtDigit (slice_index rest 0)
-
--- the same with two digits
-abbrev pub IsShiftedPair : List ℕ → Type 0
-IsShiftedPair rest = (3 ≤ length rest) × (slice_index rest 2 ≡ 36) × IsRxvtPair (slice_index rest 0) (slice_index rest 1)
 
 -- what stands between ESC O and the digit of a key with modifiers: this byte and a semicolon, or nothing
 abbrev pub front_of : Option ℕ → List ℕ

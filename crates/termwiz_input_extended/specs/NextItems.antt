@@ -64,8 +64,8 @@ IsUnfinishedFront x10_mouse u = IsUnfinishedForm x10_mouse u ⊎ IsUnfinishedOpe
 -- What form or opening is at the front of a text. Of an unfinished one the search goes on from a place.
 abbrev pub IsFormMatch : Bool → List ℕ → FormMatch → Type 0
 IsFormMatch x10_mouse u (front.Form len) = IsPlainForm x10_mouse u len
-IsFormMatch x10_mouse u front.Opening = StartsWithOpening u
-IsFormMatch x10_mouse u front.MouseReport = (event : MouseEvent) × (len : ℕ) × (len ≤ length u) × IsMouseReport (take len u) event
+IsFormMatch x10_mouse u (front.Opening kind len) = IsOpeningOf u kind len
+IsFormMatch x10_mouse u (front.MouseReport len event) = (len ≤ length u) × IsMouseReport (take len u) event
 IsFormMatch x10_mouse u (front.Unfinished place) =
     BeginsWithNone x10_mouse u × IsUnfinishedFront x10_mouse u × IsScanned u place × (place ≤ length u)
 IsFormMatch x10_mouse u front.Absent = BeginsWithNone x10_mouse u × (¬ IsUnfinishedFront x10_mouse u)

@@ -3,22 +3,8 @@
 ghost use Rattle.std.specs.Prelude.{◌≡◌, ◌≢◌, ◌+◌, ◌<◌, ◌≤◌, ◌↔◌, [], ◌∷◌, ◌++◌, length, take, slice_index, Bool, true, false, IfSome, IfNone, IsTrue, ℕ};
 ghost use Rattle.std.specs.List.{AllByRecursion};
 ghost use Rattle.termwiz_keys.specs.Introducers.{ESC, CSI, SS3};
-ghost use Rattle.termwiz_extended_grammar.specs.Forms.{
-  introducer,
-  IsInner,
-  IsFinal,
-  IsConsoleLetter,
-  IsKeypadLetter,
-  IsModifierDigit,
-  IsModifiedFront,
-  IsModifiedLetter,
-  IsLetterBehind,
-  IsRxvtDigit,
-  IsRxvtPair,
-  IsTitleLetter,
-  IsUnfinishedForm,
-};
-ghost use Rattle.termwiz_input_extended.specs.FormAnswers.{HasForm, IsPartedFirst, IsScanned, IsShiftedDigit, IsShiftedOf, IsShiftedPair, IsRow, StartsShifted, front_of};
+ghost use Rattle.termwiz_extended_grammar.specs.Forms.{introducer, IsInner, IsFinal, IsConsoleLetter, IsKeypadLetter, IsModifierDigit, IsModifiedFront, IsModifiedLetter, IsLetterBehind, IsRxvtDigit, IsRxvtPair, IsTitleLetter, IsUnfinishedForm};
+ghost use Rattle.termwiz_input_extended.specs.FormAnswers.{HasForm, IsPartedFirst, IsScanned, IsRow, StartsShifted, front_of};
 
 use crate::string::{EndAt, TYPED_TITLE, data_end, end_at};
 use termwiz_extended_events::types::StringKind;
@@ -110,65 +96,19 @@ fn is_rxvt_pair(first: u8, second: u8) -> bool
     }
 }
 
-// Whether what follows ESC [ begins with such a digit and `$`.
-fn is_shifted_digit(rest: &[u8]) -> bool
-    ensures { IsTrue result ↔ IsShiftedDigit rest.now }
-{
-    rest.len() >= 2 && rest[1] == b'$' && is_rxvt_digit(rest[0])
-}
-
-// Whether what follows ESC [ begins with two such digits and `$`.
-fn is_shifted_pair(rest: &[u8]) -> bool
-    ensures { IsTrue result ↔ IsShiftedPair rest.now }
-{
-    rest.len() >= 3 && rest[2] == b'$' && is_rxvt_pair(rest[0], rest[1])
-}
-
-// How many bytes such a number and `$` are, where what follows ESC [ begins with them: a key with Shift.
-fn shifted_len(rest: &[u8]) -> Option<usize>
-    ensures some { IfSome result (IsShiftedOf rest.now) }
-    ensures none { IfNone result (¬ StartsShifted rest.now) }
-{
-    if is_shifted_digit(rest) {
-        return Some(2);
-    }
-    if is_shifted_pair(rest) {
-        return Some(3);
-    }
-    None
-}
-
-// Whether what follows ESC [ begins like a row with `$`: a digit from 1 to 8, and `$`.
-fn is_row(rest: &[u8]) -> bool
-    ensures { IsTrue result ↔ IsRow rest.now }
-{
-    matches!(rest, [b'1'..=b'8', b'$', ..])
-}
-
-// Whether the second or the third byte of what follows ESC [ is `$`. Else neither such a key nor a row begins it.
-fn has_dollar(rest: &[u8]) -> bool
-    ensures no_key { result ≡ false → ¬ StartsShifted rest.now }
-    ensures no_row { result ≡ false → ¬ IsRow rest.now }
-{
-    matches!(rest, [_, b'$', ..] | [_, _, b'$', ..])
-}
-
 // The form at the front of ESC [ and the rest, if `$` decides it: that of a key with Shift, and none where a row begins.
 fn dollar_at(rest: &[u8]) -> Option<FormAt>
     ensures form { IfSome result (λ form. (x10_mouse : Bool) → HasForm x10_mouse (CSI ++ rest.now) form) }
     ensures no_key { IfNone result (¬ StartsShifted rest.now) }
     ensures no_row { IfNone result (¬ IsRow rest.now) }
 {
-    if !has_dollar(rest) {
-        return None;
-    }
-    if let Some(len) = shifted_len(rest) {
-        return Some(FormAt::Whole(INTRODUCED + len));
-    }
-    if is_row(rest) {
-        Some(FormAt::Absent)
-    } else {
-        None
+    match rest {
+        [digit, b'$', ..] if is_rxvt_digit(*digit) => Some(FormAt::Whole(INTRODUCED + 2)),
+        [b'1'..=b'8', b'$', ..] => Some(FormAt::Absent),
+        [first, second, b'$', ..] if is_rxvt_pair(*first, *second) => {
+            Some(FormAt::Whole(INTRODUCED + 3))
+        }
+        _ => None,
     }
 }
 
@@ -220,15 +160,10 @@ fn x10_report_at(rest: &[u8]) -> FormAt
 fn console_key_at(rest: &[u8]) -> FormAt
     ensures { (x10_mouse : Bool) → HasForm x10_mouse (CSI ++ 91 ∷ rest.now) result }
 {
-    match rest.first() {
-        Some(letter) => {
-            if is_console_letter(*letter) {
-                FormAt::Whole(4)
-            } else {
-                FormAt::Absent
-            }
-        }
-        None => FormAt::Unfinished,
+    match rest {
+        [] => FormAt::Unfinished,
+        [letter, ..] if is_console_letter(*letter) => FormAt::Whole(4),
+        _ => FormAt::Absent,
     }
 }
 
@@ -247,15 +182,12 @@ fn modified_key_at(first: Option<u8>, rest: &[u8]) -> FormAt
     requires { IsModifiedFront (front_of first) }
     ensures { (x10_mouse : Bool) (digit : ℕ) → IsModifierDigit digit → HasForm x10_mouse (SS3 ++ front_of first ++ digit ∷ rest.now) result }
 {
-    match rest.first() {
-        Some(letter) => {
-            if is_letter_behind(first, *letter) {
-                FormAt::Whole(INTRODUCED + if first.is_some() { 4 } else { 2 })
-            } else {
-                FormAt::Absent
-            }
+    match rest {
+        [] => FormAt::Unfinished,
+        [letter, ..] if is_letter_behind(first, *letter) => {
+            FormAt::Whole(INTRODUCED + if first.is_some() { 4 } else { 2 })
         }
-        None => FormAt::Unfinished,
+        _ => FormAt::Absent,
     }
 }
 
@@ -264,15 +196,10 @@ fn parted_key_at(first: u8, rest: &[u8]) -> FormAt
     requires { IsPartedFirst first }
     ensures { (x10_mouse : Bool) → HasForm x10_mouse (SS3 ++ first ∷ 59 ∷ rest.now) result }
 {
-    match rest.first() {
-        Some(digit) => {
-            if is_modifier_digit(*digit) {
-                modified_key_at(Some(first), &rest[1..])
-            } else {
-                FormAt::Absent
-            }
-        }
-        None => FormAt::Unfinished,
+    match rest {
+        [] => FormAt::Unfinished,
+        [digit, rest @ ..] if is_modifier_digit(*digit) => modified_key_at(Some(first), rest),
+        _ => FormAt::Absent,
     }
 }
 
@@ -281,15 +208,10 @@ fn begun_key_at(first: u8, rest: &[u8]) -> FormAt
     requires { IsPartedFirst first }
     ensures { (x10_mouse : Bool) → HasForm x10_mouse (SS3 ++ first ∷ rest.now) result }
 {
-    match rest.first() {
-        Some(separator) => {
-            if *separator == b';' {
-                parted_key_at(first, &rest[1..])
-            } else {
-                FormAt::Absent
-            }
-        }
-        None => FormAt::Unfinished,
+    match rest {
+        [] => FormAt::Unfinished,
+        [b';', rest @ ..] => parted_key_at(first, rest),
+        _ => FormAt::Absent,
     }
 }
 
@@ -304,23 +226,17 @@ fn is_parted_first(byte: u8) -> bool
 fn keypad_key_at(rest: &[u8]) -> FormAt
     ensures { (x10_mouse : Bool) → HasForm x10_mouse (SS3 ++ rest.now) result }
 {
-    match rest.first() {
-        Some(first) => {
-            if is_keypad_letter(*first) {
-                FormAt::Whole(3)
-            } else if is_modifier_digit(*first) {
-                modified_key_at(None, &rest[1..])
-            } else if is_parted_first(*first) {
-                begun_key_at(*first, &rest[1..])
-            } else {
-                FormAt::Absent
-            }
-        }
-        None => FormAt::Unfinished,
+    match rest {
+        [] => FormAt::Unfinished,
+        [letter, ..] if is_keypad_letter(*letter) => FormAt::Whole(3),
+        [digit, rest @ ..] if is_modifier_digit(*digit) => modified_key_at(None, rest),
+        [first, rest @ ..] if is_parted_first(*first) => begun_key_at(*first, rest),
+        _ => FormAt::Absent,
     }
 }
 
 // The form at the front of ESC [ and the rest, of which the first bytes were looked at before.
+#[inline(always)]
 pub(crate) fn bracketed_at(rest: &[u8], scanned: usize, x10_mouse: bool) -> FormAt
     requires { AllByRecursion IsInner (take scanned rest.now) }
     ensures { HasForm x10_mouse (CSI ++ rest.now) result }

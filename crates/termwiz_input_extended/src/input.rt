@@ -101,12 +101,8 @@ fn with_alt(event: Event) -> Event
 {
     match event {
         Event::Key(report) => Event::Key(KeyReport {
-            key: report.key,
             modifiers: report.modifiers | ALT_BIT,
-            kind: report.kind,
-            shifted: report.shifted,
-            base: report.base,
-            text: report.text,
+            ..report
         }),
         other => other,
     }
@@ -303,13 +299,9 @@ impl ExtendedParser {
             Waiting::Escape => ExtendedWaiting::Escape,
             Waiting::Character => ExtendedWaiting::Character,
             Waiting::Paste => ExtendedWaiting::Paste,
-            Waiting::Sequence => match self.reading.dialect {
-                Dialect::Extended => match opening_at(self.waiting_text()) {
-                    OpeningAt::Opening(..) => ExtendedWaiting::String,
-                    OpeningAt::Unfinished => ExtendedWaiting::Sequence,
-                    OpeningAt::Absent => ExtendedWaiting::Sequence,
-                },
-                Dialect::Termwiz => ExtendedWaiting::Sequence,
+            Waiting::Sequence => match (self.reading.dialect, opening_at(self.waiting_text())) {
+                (Dialect::Extended, OpeningAt::Opening(..)) => ExtendedWaiting::String,
+                _ => ExtendedWaiting::Sequence,
             },
         }
     }
@@ -356,13 +348,11 @@ impl ExtendedParser {
         // What an open paste has buffered is bounded.
         ensures bounded { OnOk result (IsOpenPaste self.new.text → length self.new.text ≤ 6 + max limit 5) }
     {
-        match self.parser.take_paste(limit)? {
-            Some(text) => {
-                self.scanned = 0;
-                Ok(Some(text))
-            }
-            None => Ok(None),
+        let text = self.parser.take_paste(limit)?;
+        if text.is_some() {
+            self.scanned = 0;
         }
+        Ok(text)
     }
 
     /// Forgets text of an open paste before its end comes: all that [`ExtendedParser::take_paste`] would take with a limit of 0. Returns how many
@@ -379,13 +369,11 @@ impl ExtendedParser {
         // What the paste still has buffered is bounded.
         ensures bounded { IsOpenPaste self.new.text → length self.new.text ≤ 6 + 5 }
     {
-        match self.parser.skip_paste() {
-            Some(count) => {
-                self.scanned = 0;
-                Some(count)
-            }
-            None => None,
+        let count = self.parser.skip_paste();
+        if count.is_some() {
+            self.scanned = 0;
         }
+        count
     }
 
     /// Calls `callback` with each event of the buffered bytes in order: a loop over [`ExtendedParser::next_event`] up to `None`. A program that
@@ -463,10 +451,8 @@ impl ExtendedParser {
         if self.feed(bytes).is_err() {
             return Err(ParseError::NotTaken);
         }
-        match self.for_each_event(callback, maybe_more) {
-            Ok(()) => Ok(()),
-            Err(_) => Err(ParseError::Taken),
-        }
+        let told = self.for_each_event(callback, maybe_more);
+        told.map_err(|_| ParseError::Taken)
     }
 
     // Whether an item is at the front of the buffer.

@@ -1,5 +1,5 @@
 // What is at the front of a text: an extra sequence, a string, the Escape key before one, or what the port finds there.
-ghost use Rattle.std.specs.Prelude.{◌≡◌, ◌≢◌, ◌≤◌, length, ◌↔◌, ◌⊎◌, ◌++◌, Bool, false, [], take, IfSome, IsTrue, Some, Contains};
+ghost use Rattle.std.specs.Prelude.{◌≡◌, ◌≢◌, ◌≤◌, length, ◌↔◌, ◌⊎◌, ◌++◌, ℕ, Bool, List, false, [], take, IfSome, IsTrue, Some, Contains};
 ghost use Rattle.termwiz_keymap.specs.Bytes.{Begins};
 ghost use Rattle.termwiz_keys.specs.Introducers.{ESC, CSI};
 ghost use Rattle.termwiz_keys.specs.declared.types.KeyEvent.{KeyEvent as Key};
@@ -31,13 +31,13 @@ use termwiz_keys::types::{KeyCode, MouseEvent};
 
 // What form, or opening of a string, is at the front of a text.
 #[derive(Drop)]
-pub(crate) enum FormMatch {
+enum FormMatch {
     // A form that is no mouse report, by the number of its bytes: an extra sequence, or a row of the sequence table.
     Form(usize),
-    // The opening of a string.
-    Opening,
+    // The opening of a string, by its kind and the number of its bytes.
+    Opening(StringKind, usize),
     // A mouse report, which has the form of a control sequence.
-    MouseReport,
+    MouseReport(usize, MouseEvent),
     // The whole text properly begins a form or an opening. The search goes on from this place.
     Unfinished(usize),
     // None begins the text, and the text begins none.
@@ -69,32 +69,14 @@ pub(crate) enum NextItem {
     Incomplete(usize),
 }
 
-// Whether a text is a report of the focus.
-fn is_focus(text: &[u8]) -> bool
-    ensures { IsTrue result ↔ IsFocus text.now }
-{
-    matches!(text, [ESCAPE, b'[', b'I' | b'O'])
-}
-
-// Whether a text begins with ESC [.
-fn is_introduced(form: &[u8]) -> bool
-    ensures { IsTrue result ↔ Begins CSI form.now }
-{
-    matches!(form, [ESCAPE, b'[', ..])
-}
-
-// Whether a text begins with ESC [ and a byte from < to ?, and more follows.
-fn is_private(text: &[u8]) -> bool
-    ensures { IsTrue result ↔ IsPrivate text.now }
-{
-    text.len() > 3 && is_introduced(text) && matches!(text[2], b'<'..=b'?')
-}
-
-// Whether a text is one of these, which are no rows of the sequence table.
+// Whether a text is a report of the focus, or begins with ESC [ and a byte from < to ?, and more follows. Neither is a row of the sequence table.
 fn is_unlisted(text: &[u8]) -> bool
     ensures { IsTrue result ↔ (IsFocus text.now ⊎ IsPrivate text.now) }
 {
-    is_focus(text) || is_private(text)
+    matches!(
+        text,
+        [ESCAPE, b'[', b'I' | b'O'] | [ESCAPE, b'[', b'<'..=b'?', _, ..]
+    )
 }
 
 // Whether bytes are a row of the sequence table.
@@ -144,13 +126,6 @@ fn is_keypad_key(form: &[u8]) -> bool
     }
 }
 
-// Whether a byte is the letter of a cursor key, or of F1 to F4.
-fn is_cursor_letter(byte: u8) -> bool
-    ensures { IsTrue result ↔ IsCursorLetter byte }
-{
-    matches!(byte, b'A'..=b'F' | b'H' | b'P'..=b'S')
-}
-
 // Whether a text ends with ^, @ or $, as the keys that rxvt-unicode sends with Ctrl or Shift.
 fn ends_as_rxvt(form: &[u8]) -> bool
     ensures { IsTrue result ↔ EndsAsRxvt form.now }
@@ -165,42 +140,17 @@ fn is_rxvt_function(form: &[u8]) -> bool
     matches!(form, [ESCAPE, b'[', b'3', b'5'..=b'8', b'~'])
 }
 
-// Whether a text ends with Z.
-fn ends_with_z(form: &[u8]) -> bool
-    ensures { IsTrue result ↔ EndsWithZ form.now }
-{
-    matches!(form.last(), Some(b'Z'))
-}
-
-// Whether a text begins with ESC [ and ends with Z.
-fn is_back_tab(form: &[u8]) -> bool
-    ensures { IsTrue result ↔ IsBackTab form.now }
-{
-    is_introduced(form) && ends_with_z(form)
-}
-
-// Whether a text is ESC [, a digit from 2 to 8, and the letter of a cursor key or of F1 to F4.
-fn is_short_key(form: &[u8]) -> bool
-    ensures { IsTrue result ↔ IsShortKey form.now }
-{
-    match form {
-        [ESCAPE, b'[', b'2'..=b'8', letter] => is_cursor_letter(*letter),
-        _ => false,
-    }
-}
-
-// Whether a text is ESC [E or ESC [G.
-fn is_begin_key(form: &[u8]) -> bool
-    ensures { IsTrue result ↔ IsBeginKey form.now }
-{
-    matches!(form, [ESCAPE, b'[', b'E' | b'G'])
-}
-
-// Whether a text is one of these three keys.
+// Whether a text is a key by its last letter: ESC [ and Z behind anything, a letter of a cursor key or of F1 to F4 behind a digit from 2 to 8, or
+// E or G alone.
 fn is_lettered_key(form: &[u8]) -> bool
     ensures { IsTrue result ↔ IsLetteredKey form.now }
 {
-    is_back_tab(form) || is_short_key(form) || is_begin_key(form)
+    matches!(
+        form,
+        [ESCAPE, b'[', .., b'Z']
+            | [ESCAPE, b'[', b'2'..=b'8', b'A'..=b'F' | b'H' | b'P'..=b'S']
+            | [ESCAPE, b'[', b'E' | b'G']
+    )
 }
 
 // Whether a text of this meaning is a bare key, to which ESC is joined.
@@ -291,6 +241,21 @@ fn match_opening(text: &[u8]) -> OpeningAt
     }
 }
 
+// What is at the front of a text where no opening and no part of a mouse report is, by the form that is there.
+#[inline(always)]
+fn match_of(text: &[u8], form: FormAt, x10_mouse: bool) -> FormMatch
+    requires no_mouse { HasNoPartInMouseReports text.now }
+    requires no_opening { HasOpening text.now OpeningAt.Absent }
+    requires form { HasForm x10_mouse text.now form }
+    ensures { IsFormMatch x10_mouse text.now result }
+{
+    match form {
+        FormAt::Whole(len) => FormMatch::Form(len),
+        FormAt::Unfinished => FormMatch::Unfinished(next_scan(text)),
+        FormAt::Absent => FormMatch::Absent,
+    }
+}
+
 // What form is at the front of a text where no opening is. The bytes before `scanned` were looked at before.
 #[inline(always)]
 fn match_form(text: &[u8], scanned: usize, x10_mouse: bool) -> FormMatch
@@ -300,13 +265,9 @@ fn match_form(text: &[u8], scanned: usize, x10_mouse: bool) -> FormMatch
     ensures { IsFormMatch x10_mouse text.now result }
 {
     match mouse_report_at(text) {
-        FrontReport::Whole(..) => FormMatch::MouseReport,
+        FrontReport::Whole(event, len) => FormMatch::MouseReport(len, event),
         FrontReport::Begun => FormMatch::Unfinished(next_scan(text)),
-        FrontReport::Absent => match form_at(text, scanned, x10_mouse) {
-            FormAt::Whole(len) => FormMatch::Form(len),
-            FormAt::Unfinished => FormMatch::Unfinished(next_scan(text)),
-            FormAt::Absent => FormMatch::Absent,
-        },
+        FrontReport::Absent => match_of(text, form_at(text, scanned, x10_mouse), x10_mouse),
     }
 }
 
@@ -318,7 +279,7 @@ fn match_front(text: &[u8], scanned: usize, x10_mouse: bool) -> FormMatch
     ensures { IsFormMatch x10_mouse text.now result }
 {
     match match_opening(text) {
-        OpeningAt::Opening(..) => FormMatch::Opening,
+        OpeningAt::Opening(kind, len) => FormMatch::Opening(kind, len),
         OpeningAt::Unfinished => FormMatch::Unfinished(0),
         OpeningAt::Absent => match_form(text, scanned, x10_mouse),
     }
@@ -359,55 +320,27 @@ fn item_of_two_escapes(
             AfterEscape::Apart => NextItem::Escape,
             AfterEscape::OfPort => NextItem::Usual,
         },
-        FormMatch::Opening => NextItem::Escape,
-        FormMatch::MouseReport => NextItem::Usual,
+        FormMatch::Opening(..) => NextItem::Escape,
         FormMatch::Unfinished(place) if maybe_more => NextItem::Incomplete(1 + place),
-        FormMatch::Unfinished(_) => NextItem::Usual,
+        FormMatch::Unfinished(..) => NextItem::Usual,
+        FormMatch::MouseReport(..) => NextItem::Usual,
         FormMatch::Absent => NextItem::Usual,
     }
 }
 
-// What is at the front of a text that begins with one ESC alone, and with no part of a mouse report, by the form that is there.
+// What is at the front of a text that begins with one ESC alone, by the form or opening that is there.
 #[inline(always)]
-fn item_of_form(text: &[u8], form: FormAt, x10_mouse: bool, maybe_more: bool) -> NextItem
-    requires escape { Begins ESC text.now }
-    requires one { ¬ Begins (ESC ++ ESC) text.now }
-    requires no_mouse { HasNoPartInMouseReports text.now }
-    requires no_opening { HasOpening text.now OpeningAt.Absent }
-    requires form { HasForm x10_mouse text.now form }
-    ensures { (reading : Reading) → ReadsMore reading → reading.x10_mouse ≡ x10_mouse → IsNextItem reading text.now maybe_more result }
+fn item_of_front(front: FormMatch, maybe_more: bool) -> NextItem
+    ensures { (reading : Reading) (text : List ℕ) → ReadsMore reading → Begins ESC text → ¬ Begins (ESC ++ ESC) text
+        → IsFormMatch reading.x10_mouse text front → IsNextItem reading text maybe_more result }
 {
-    match form {
-        FormAt::Whole(len) => NextItem::Form(len),
-        FormAt::Unfinished if maybe_more => NextItem::Incomplete(next_scan(text)),
-        FormAt::Unfinished => NextItem::Usual,
-        FormAt::Absent => NextItem::Usual,
-    }
-}
-
-// What is at the front of a text that begins with one ESC alone, where no opening is. A mouse report is looked for first.
-#[inline(always)]
-fn item_of_sequence(reading: Reading, text: &[u8], scanned: usize, maybe_more: bool) -> NextItem
-    requires reads { ReadsMore reading }
-    requires escape { Begins ESC text.now }
-    requires one { ¬ Begins (ESC ++ ESC) text.now }
-    requires no_opening { HasOpening text.now OpeningAt.Absent }
-    requires scanned { IsScanned text.now scanned }
-    ensures { IsNextItem reading text.now maybe_more result }
-{
-    match mouse_report_at(text) {
-        FrontReport::Whole(event, len) => NextItem::MouseReport(len, event),
-        FrontReport::Begun if maybe_more => NextItem::Incomplete(next_scan(text)),
-        FrontReport::Begun => NextItem::Usual,
-        FrontReport::Absent => {
-            let x10_mouse = reading.x10_mouse;
-            item_of_form(
-                text,
-                form_at(text, scanned, x10_mouse),
-                x10_mouse,
-                maybe_more,
-            )
-        }
+    match front {
+        FormMatch::Form(len) => NextItem::Form(len),
+        FormMatch::Opening(kind, len) => NextItem::String(kind, len),
+        FormMatch::MouseReport(len, event) => NextItem::MouseReport(len, event),
+        FormMatch::Unfinished(place) if maybe_more => NextItem::Incomplete(place),
+        FormMatch::Unfinished(_) => NextItem::Usual,
+        FormMatch::Absent => NextItem::Usual,
     }
 }
 
@@ -425,31 +358,14 @@ fn item_of_control(
     requires scanned { IsScanned text.now scanned }
     ensures { IsNextItem reading text.now maybe_more result }
 {
+    let x10_mouse = reading.x10_mouse;
     match rest.first() {
-        None | Some(b'<') => item_of_sequence(reading, text, scanned, maybe_more),
+        None | Some(b'<') => item_of_front(match_form(text, scanned, x10_mouse), maybe_more),
         Some(b'2') if begins_paste(text) => NextItem::Paste,
         Some(_) => {
-            let x10_mouse = reading.x10_mouse;
             let form = bracketed_at(rest, scanned.saturating_sub(INTRODUCED), x10_mouse);
-            item_of_form(text, form, x10_mouse, maybe_more)
+            item_of_front(match_of(text, form, x10_mouse), maybe_more)
         }
-    }
-}
-
-// What is at the front of a text that begins with one ESC alone. An opening is looked for first.
-#[inline(always)]
-fn item_of_one_escape(reading: Reading, text: &[u8], scanned: usize, maybe_more: bool) -> NextItem
-    requires reads { ReadsMore reading }
-    requires escape { Begins ESC text.now }
-    requires one { ¬ Begins (ESC ++ ESC) text.now }
-    requires scanned { IsScanned text.now scanned }
-    ensures { IsNextItem reading text.now maybe_more result }
-{
-    match match_opening(text) {
-        OpeningAt::Opening(kind, len) => NextItem::String(kind, len),
-        OpeningAt::Unfinished if maybe_more => NextItem::Incomplete(0),
-        OpeningAt::Unfinished => NextItem::Usual,
-        OpeningAt::Absent => item_of_sequence(reading, text, scanned, maybe_more),
     }
 }
 
@@ -497,15 +413,10 @@ fn extended_item(
         None => item_without_escape(text),
         Some(after) => match follows_escape(after) {
             Some(_) => {
-                item_of_two_escapes(
-                    parser,
-                    reading,
-                    after,
-                    scanned.saturating_sub(1),
-                    maybe_more,
-                )
+                let place = scanned.saturating_sub(1);
+                item_of_two_escapes(parser, reading, after, place, maybe_more)
             }
-            None => item_of_one_escape(reading, text, scanned, maybe_more),
+            None => item_of_front(match_front(text, scanned, reading.x10_mouse), maybe_more),
         },
     }
 }

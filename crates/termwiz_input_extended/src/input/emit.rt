@@ -28,6 +28,9 @@ use termwiz_input::input::{
 };
 use termwiz_keys::types::MouseEvent;
 
+// Whether an item was at the front, whose event was emitted then.
+type Emitted = Result<bool, AllocError>;
+
 impl ExtendedParser {
     // Counts a position of the cursor as the reply to a question.
     fn note_position(&mut self, is_position: bool)
@@ -48,7 +51,7 @@ impl ExtendedParser {
         kind: StringKind,
         opening: usize,
         maybe_more: bool,
-    ) -> Result<bool, AllocError>
+    ) -> Emitted
         requires reads { ReadsMore self.old.reading }
         requires opening { IsOpeningOf self.old.text kind opening }
         ensures { Emits S.takes self.old sink.old maybe_more self.new sink.new result }
@@ -71,12 +74,7 @@ impl ExtendedParser {
     // Consumes the mouse report of so many bytes at the front of the buffer, and emits its event. It isn't inlined, so that no other event
     // pays for its place in a frame.
     #[inline(never)]
-    fn emit_report<S: EventSink>(
-        &mut self,
-        sink: &mut S,
-        event: MouseEvent,
-        len: usize,
-    ) -> Result<bool, AllocError>
+    fn emit_report<S: EventSink>(&mut self, sink: &mut S, event: MouseEvent, len: usize) -> Emitted
         requires within { len ≤ length self.old.text }
         requires report { IsMouseReport (take len self.old.text) event }
         ensures { (more : Bool) → Emits S.takes self.old sink.old more self.new sink.new result }
@@ -88,11 +86,7 @@ impl ExtendedParser {
     }
 
     // Consumes what the port finds at the front of the buffer, and emits its event.
-    fn emit_of_port<S: EventSink>(
-        &mut self,
-        sink: &mut S,
-        maybe_more: bool,
-    ) -> Result<bool, AllocError>
+    fn emit_of_port<S: EventSink>(&mut self, sink: &mut S, maybe_more: bool) -> Emitted
         requires { IsPortsOwn self.old.reading self.old.text maybe_more }
         ensures { Emits S.takes self.old sink.old maybe_more self.new sink.new result }
     {
@@ -119,11 +113,7 @@ impl ExtendedParser {
 
     // The same for a text that a paste begins: quicker where its end isn't there.
     #[inline(always)]
-    fn emit_paste<S: EventSink>(
-        &mut self,
-        sink: &mut S,
-        maybe_more: bool,
-    ) -> Result<bool, AllocError>
+    fn emit_paste<S: EventSink>(&mut self, sink: &mut S, maybe_more: bool) -> Emitted
         requires { Begins START self.old.text }
         ensures { Emits S.takes self.old sink.old maybe_more self.new sink.new result }
     {
@@ -135,12 +125,7 @@ impl ExtendedParser {
 
     // Consumes the form of so many bytes at the front of the buffer, and emits its event. A row of the table is the port's.
     #[inline(never)]
-    fn emit_form<S: EventSink>(
-        &mut self,
-        sink: &mut S,
-        len: usize,
-        maybe_more: bool,
-    ) -> Result<bool, AllocError>
+    fn emit_form<S: EventSink>(&mut self, sink: &mut S, len: usize, maybe_more: bool) -> Emitted
         requires { IsFormAt self.old.reading self.old.text len }
         ensures { Emits S.takes self.old sink.old maybe_more self.new sink.new result }
     {
@@ -158,12 +143,7 @@ impl ExtendedParser {
 
     // Consumes ESC and the bare key of so many bytes after it, and emits the key with ALT.
     #[inline(never)]
-    fn emit_alt_form<S: EventSink>(
-        &mut self,
-        sink: &mut S,
-        len: usize,
-        maybe_more: bool,
-    ) -> Result<bool, AllocError>
+    fn emit_alt_form<S: EventSink>(&mut self, sink: &mut S, len: usize, maybe_more: bool) -> Emitted
         requires { (v : List ℕ) × (self.old.text ≡ ESC ++ v) × IsBareKeyAt self.old.reading v len }
         ensures { Emits S.takes self.old sink.old maybe_more self.new sink.new result }
     {
@@ -176,12 +156,8 @@ impl ExtendedParser {
 
     // Consumes the item at the front of the buffer, and emits its event. The answer is false if no item is there. `emit_next` is quicker for
     // characters.
-    #[inline(never)]
-    fn emit_item<S: EventSink>(
-        &mut self,
-        sink: &mut S,
-        maybe_more: bool,
-    ) -> Result<bool, AllocError>
+    #[inline(always)]
+    fn emit_item<S: EventSink>(&mut self, sink: &mut S, maybe_more: bool) -> Emitted
         ensures { Emits S.takes self.old sink.old maybe_more self.new sink.new result }
     {
         match self.next_item(maybe_more) {

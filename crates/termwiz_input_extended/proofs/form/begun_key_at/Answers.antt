@@ -1,18 +1,18 @@
-use Rattle.std.proofs.Common.{◌∷◌, ◌-◌, length, take, drop, sym, subst}
+use Rattle.std.proofs.Common.{◌≡◌, ◌∷◌, ℕ, get_or, subst, arith, Some}
+use Rattle.std.specs.List.{slice_get}
 use Rattle.termwiz_input_extended.specs.FormAnswers.{HasForm}
 use Rattle.termwiz_input_extended.proofs.lemmas.forms.FixedFronts.{begun_at_end, begun_absent_at}
-use Rattle.termwiz_input_extended.proofs.lemmas.forms.FrontAnswers.{first_got}
+use Rattle.termwiz_input_extended.proofs.lemmas.forms.FrontAnswers.{first_got, first_missing, first_there}
 use Rattle.termwiz_input_extended.proofs.form.begun_key_at.Goals as goal
 
-pub returns-in-None : goal.returns-in-None
-returns-in-None c = λ x10_mouse. begun_at_end c.args.first c.args.rest.now c.requires c.in-None.ensures.value
+pub returns-in-empty : goal.returns-in-empty
+returns-in-empty c = λ x10_mouse. begun_at_end c.args.first c.args.rest.now c.requires (first_missing c.args.rest.now (omega arith))
 
-pub returns-then-separator-eq59 : goal.returns-then-separator-eq59
-returns-then-separator-eq59 c = λ x10_mouse. subst (λ z. HasForm x10_mouse (27 ∷ 79 ∷ c.args.first ∷ z) c.parted_key_at.result)
-    (first_got c.args.rest.now c.in-Some.separator.now c.in-Some.ensures.value)
-    (subst (λ z. HasForm x10_mouse (27 ∷ 79 ∷ c.args.first ∷ z ∷ take (length c.args.rest.now - 1) (drop 1 c.args.rest.now)) c.parted_key_at.result)
-    (sym c.if-separator-eq59.true) (c.parted_key_at.ensures x10_mouse))
+pub returns-in_default : goal.returns-in_default
+returns-in_default c = λ x10_mouse.
+    begun_absent_at c.args.first c.args.rest.now (get_or c.args.rest.now 0 0) c.requires (first_there c.args.rest.now (omega arith)) (λ e. omega arith)
 
-pub returns-else-separator-eq59 : goal.returns-else-separator-eq59
-returns-else-separator-eq59 c = λ x10_mouse.
-    begun_absent_at c.args.first c.args.rest.now c.in-Some.separator.now c.requires c.in-Some.ensures.value c.if-separator-eq59.false
+pub returns-in-59 : goal.returns-in-59
+returns-in-59 c = λ x10_mouse. subst (λ z. HasForm x10_mouse (27 ∷ 79 ∷ c.args.first ∷ z) c.parted_key_at.result)
+    (first_got c.args.rest.now 59 (subst (λ (b : ℕ). Some b ≡ slice_get c.args.rest.now 0) (omega arith) (first_there c.args.rest.now (omega arith))))
+    (c.parted_key_at.ensures x10_mouse)

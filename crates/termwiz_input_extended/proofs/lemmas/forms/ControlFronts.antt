@@ -4,13 +4,13 @@ use Rattle.std.specs.List.{AllByRecursion}
 use Rattle.termwiz_keymap.specs.Bytes.{Begins}
 use Rattle.termwiz_keymap.proofs.lemmas.lists.CommonPrefixes.{Begins-append, Overlaps, overlap, true_at_end}
 use Rattle.termwiz_keymap.proofs.lemmas.lists.CommonPrefixes.Overlaps.{within, past}
-use Rattle.termwiz_extended_grammar.specs.Forms.{IsInner, IsFinal, IsRowDigit, IsRxvtNumber, IsControl, IsForm}
+use Rattle.termwiz_extended_grammar.specs.Forms.{IsInner, IsFinal, IsRowDigit, IsRxvtDigit, IsRxvtNumber, IsRxvtPair, IsControl, IsForm}
 use Rattle.termwiz_extended_grammar.specs.Forms.IsForm.{control, x10_report, console_key, keypad_key, modified_key, shifted_key, title}
 use Rattle.termwiz_extended_grammar.proofs.lemmas.forms.FormBytes.{first_other}
 use Rattle.termwiz_extended_grammar.proofs.lemmas.forms.FormEnds.{shifted_inner}
 use Rattle.termwiz_extended_grammar.proofs.lemmas.forms.FormOrNot.{rxvt_short}
 use Rattle.termwiz_input_extended.specs.declared.form.FormAt.TheVariants.{Whole, Unfinished, Absent}
-use Rattle.termwiz_input_extended.specs.FormAnswers.{HasForm, IsRow, IsShiftedOf, IsShiftedPair, StartsShifted}
+use Rattle.termwiz_input_extended.specs.FormAnswers.{HasForm, IsRow, StartsShifted}
 use Rattle.termwiz_input_extended.proofs.lemmas.forms.FrontAnswers.{whole_front, unfinished_front, absent_front, run_before, parted_at}
 
 -- the control sequence that a text begins like
@@ -275,15 +275,35 @@ control_row_at (c ∷ []) is no_shifted = absurd (omega (arith, is.1))
 control_row_at {x10_mouse = x10_mouse} (c ∷ d ∷ r) is no_shifted = subst (λ z. HasForm x10_mouse (27 ∷ 91 ∷ c ∷ z ∷ r) Absent) (sym is.1)
     (control_row c r is.0 (subst (λ z. ¬ StartsShifted (c ∷ z ∷ r)) is.1 no_shifted))
 
--- a key of rxvt-unicode's with Shift
-pub shifted_whole_at : {x10_mouse : Bool} (r : List ℕ) (len : ℕ) → IsShiftedOf r len → HasForm x10_mouse (27 ∷ 91 ∷ r) (Whole (2 + len))
-shifted_whole_at {x10_mouse = x10_mouse} r len (number, left, is, e, size) =
-    subst (λ z. HasForm x10_mouse z (Whole (2 + len))) (ap (λ z. 27 ∷ 91 ∷ z) (append_assoc number (36 ∷ []) left ∙ sym e))
-    (whole_front (27 ∷ 91 ∷ (number ++ 36 ∷ [])) left (2 + len) (omega (arith, size, length-append number (36 ∷ [])))
+-- a key of rxvt-unicode's with Shift, by its number
+shifted_whole : {x10_mouse : Bool} (number left : List ℕ) → IsRxvtNumber number
+    → HasForm x10_mouse (27 ∷ 91 ∷ (number ++ 36 ∷ left)) (Whole (2 + (length number + 1)))
+shifted_whole {x10_mouse = x10_mouse} number left is =
+    subst (λ z. HasForm x10_mouse z (Whole (2 + (length number + 1)))) (ap (λ z. 27 ∷ 91 ∷ z) (append_assoc number (36 ∷ []) left))
+    (whole_front (27 ∷ 91 ∷ (number ++ 36 ∷ [])) left (2 + (length number + 1)) (omega (arith, length-append number (36 ∷ [])))
     (shifted_key (record { number = number; form = refl; number_is = is })))
 
-pub pair_shifted : (r : List ℕ) → IsShiftedPair r → IsShiftedOf r 3
-pair_shifted [] is = absurd (omega (arith, is.0))
-pair_shifted (d ∷ []) is = absurd (omega (arith, is.0))
-pair_shifted (d ∷ e ∷ []) is = absurd (omega (arith, is.0))
-pair_shifted (d ∷ e ∷ b ∷ r) is = (d ∷ e ∷ [], r, is.2, ap (λ z. d ∷ e ∷ z ∷ r) is.1, refl)
+pub digit_shifted : {x10_mouse : Bool} (r : List ℕ) → 2 ≤ length r → get_or r 1 0 ≡ 36 → IsRxvtDigit (get_or r 0 0)
+    → HasForm x10_mouse (27 ∷ 91 ∷ r) (Whole 4)
+digit_shifted [] l e is = absurd (omega arith)
+digit_shifted (d ∷ []) l e is = absurd (omega arith)
+digit_shifted {x10_mouse = x10_mouse} (d ∷ b ∷ r) l e is =
+    subst (λ z. HasForm x10_mouse (27 ∷ 91 ∷ d ∷ z ∷ r) (Whole 4)) (sym e) (shifted_whole (d ∷ []) r is)
+
+pub pair_shifted : {x10_mouse : Bool} (r : List ℕ) → 3 ≤ length r → get_or r 2 0 ≡ 36 → IsRxvtPair (get_or r 0 0) (get_or r 1 0)
+    → HasForm x10_mouse (27 ∷ 91 ∷ r) (Whole 5)
+pair_shifted [] l e is = absurd (omega arith)
+pair_shifted (d ∷ []) l e is = absurd (omega arith)
+pair_shifted (d ∷ c ∷ []) l e is = absurd (omega arith)
+pair_shifted {x10_mouse = x10_mouse} (d ∷ c ∷ b ∷ r) l e is =
+    subst (λ z. HasForm x10_mouse (27 ∷ 91 ∷ d ∷ c ∷ z ∷ r) (Whole 5)) (sym e) (shifted_whole (d ∷ c ∷ []) r is)
+
+-- no such key where neither its digit nor its two digits stand before $
+pub none_shifted : (r : List ℕ) → (2 ≤ length r → get_or r 1 0 ≡ 36 → ¬ IsRxvtDigit (get_or r 0 0))
+    → (3 ≤ length r → get_or r 2 0 ≡ 36 → ¬ IsRxvtPair (get_or r 0 0) (get_or r 1 0)) → ¬ StartsShifted r
+none_shifted r one two ([], left, is, e) = is
+none_shifted r one two (d ∷ [], left, is, e) =
+    subst (λ z. 2 ≤ length z → get_or z 1 0 ≡ 36 → ¬ IsRxvtDigit (get_or z 0 0)) e one (omega arith) refl is
+none_shifted r one two (d ∷ c ∷ [], left, is, e) =
+    subst (λ z. 3 ≤ length z → get_or z 2 0 ≡ 36 → ¬ IsRxvtPair (get_or z 0 0) (get_or z 1 0)) e two (omega arith) refl is
+none_shifted r one two (d ∷ c ∷ b ∷ digits, left, is, e) = is

@@ -60,6 +60,15 @@ pub first_got : (r : List ℕ) (b : ℕ) → Some b ≡ slice_get r 0 → b ∷ 
 first_got [] b e = absurd (cc (e))
 first_got (c ∷ r) b e = ap (λ z. b ∷ z) (take_rest (c ∷ r) 1) ∙ ap (λ z. z ∷ r) (let same : b ≡ c = cc (e) in same)
 
+-- the first element of a list that has one, and of one that hasn't
+pub first_there : (r : List ℕ) → 0 < length r → Some (get_or r 0 0) ≡ slice_get r 0
+first_there [] l = absurd (omega arith)
+first_there (b ∷ r) l = refl
+
+pub first_missing : (r : List ℕ) → length r < 1 → None ≡ slice_get r 0
+first_missing [] l = refl
+first_missing (b ∷ r) l = absurd (omega arith)
+
 pub none_got : (r : List ℕ) → None ≡ slice_get r 0 → r ≡ []
 none_got [] e = refl
 none_got (c ∷ r) e = absurd (cc (e))

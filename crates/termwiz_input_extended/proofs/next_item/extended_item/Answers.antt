@@ -8,11 +8,11 @@ returns-in-None c = c.item_without_escape.ensures c.args.reading c.requires.read
 
 pub item_of_two_escapes-requires-clause-scanned : goal.item_of_two_escapes-requires-clause-scanned
 item_of_two_escapes-requires-clause-scanned c =
-    rw c.saturating_sub.ensures (c.requires.scanned.after c.in-Some.after.now c.in-Some.ensures.some
+    rw c.saturating_sub-place.ensures (c.requires.scanned.after c.in-Some.after.now c.in-Some.ensures.some
     (c.in-Some-follows_escape.field-0.now, c.in-Some-follows_escape.ensures.some))
 
-pub item_of_one_escape-requires-clause-scanned : goal.item_of_one_escape-requires-clause-scanned
-item_of_one_escape-requires-clause-scanned c = c.requires.scanned.here
+pub match_front-requires-clause-scanned : goal.match_front-requires-clause-scanned
+match_front-requires-clause-scanned c = c.requires.scanned.here
     (no_second_escape c.args.text.now c.in-Some.after.now c.in-Some.ensures.some c.in-None-follows_escape.ensures.none)
 
 pub returns-in-Some-follows_escape : goal.returns-in-Some-follows_escape
@@ -21,3 +21,8 @@ returns-in-Some-follows_escape c = rw c.in-Some.ensures.some c.item_of_two_escap
 pub item_of_control-requires-clause-scanned : goal.item_of_control-requires-clause-scanned
 item_of_control-requires-clause-scanned c =
     c.requires.scanned.here (one_before_bracket c.args.text.now (omega arith))
+
+pub returns-in-None-follows_escape : goal.returns-in-None-follows_escape
+returns-in-None-follows_escape c =
+    c.item_of_front.ensures c.args.reading c.args.text.now c.requires.reads (c.in-Some.after.now, c.in-Some.ensures.some)
+    (no_second_escape c.args.text.now c.in-Some.after.now c.in-Some.ensures.some c.in-None-follows_escape.ensures.none) c.match_front.ensures

@@ -30,7 +30,9 @@ returns-in-Apart c =
     )
 
 pub returns-in-Opening : goal.returns-in-Opening
-returns-in-Opening c = (c.args.after.now, refl, inr (c.requires.reads, c.in-Opening.ensures))
+returns-in-Opening c =
+    let o = c.in-Opening.ensures in
+    (c.args.after.now, refl, inr (c.requires.reads, record { kind = c.in-Opening.field-0; head = o.head; is_head = o.is_head; begins = o.begins }))
 
 pub returns-in-OfPort : goal.returns-in-OfPort
 returns-in-OfPort c =
@@ -41,9 +43,9 @@ returns-in-OfPort c =
 pub returns-in-MouseReport : goal.returns-in-MouseReport
 returns-in-MouseReport c =
     own_after_two_escapes c.args.reading c.args.after.now c.args.maybe_more c.requires.escape
-    (report_no_extra c.args.reading c.args.after.now c.in-MouseReport.ensures.1 c.in-MouseReport.ensures.0 c.in-MouseReport.ensures.3)
-    (λ m. report_not_unfinished c.args.reading c.args.after.now c.in-MouseReport.ensures.1 c.in-MouseReport.ensures.0
-    c.in-MouseReport.ensures.3)
+    (report_no_extra c.args.reading c.args.after.now c.in-MouseReport.field-0 c.in-MouseReport.field-1 c.in-MouseReport.ensures.1)
+    (λ m. report_not_unfinished c.args.reading c.args.after.now c.in-MouseReport.field-0 c.in-MouseReport.field-1
+    c.in-MouseReport.ensures.1)
 
 pub returns-in-Unfinished : goal.returns-in-Unfinished
 returns-in-Unfinished c =
