@@ -3,7 +3,7 @@
 ghost use Rattle.std.specs.Prelude.{◌≡◌, ◌≢◌, ◌+◌, ◌<◌, ◌≤◌, ◌↔◌, [], ◌∷◌, ◌++◌, length, take, slice_index, Bool, true, false, IfSome, IfNone, IsTrue, ℕ};
 ghost use Rattle.std.specs.List.{AllByRecursion};
 ghost use Rattle.termwiz_keys.specs.Introducers.{ESC, CSI, SS3};
-ghost use Rattle.termwiz_extended_grammar.specs.Forms.{introducer, IsInner, IsFinal, IsConsoleLetter, IsKeypadLetter, IsModifierDigit, IsModifiedFront, IsModifiedLetter, IsLetterBehind, IsRxvtDigit, IsRxvtPair, IsTitleLetter, IsUnfinishedForm};
+ghost use Rattle.termwiz_extended_grammar.specs.Forms.{introducer, IsInner, IsFinal, IsConsoleLetter, IsKeypadLetter, IsModifierDigit, IsModifiedFront, IsLetterBehind, IsRxvtDigit, IsRxvtPair, IsTitleLetter, IsUnfinishedForm};
 ghost use Rattle.termwiz_input_extended.specs.FormAnswers.{HasForm, IsPartedFirst, IsScanned, IsRow, StartsShifted, front_of};
 
 use crate::string::{EndAt, TYPED_TITLE, data_end, end_at};
@@ -68,13 +68,6 @@ fn is_modifier_digit(byte: u8) -> bool
     ensures { IsTrue result ↔ IsModifierDigit byte }
 {
     matches!(byte, b'2'..=b'8')
-}
-
-// Whether a byte is the letter of a key with modifiers after ESC O.
-fn is_modified_letter(byte: u8) -> bool
-    ensures { IsTrue result ↔ IsModifiedLetter byte }
-{
-    matches!(byte, b'P'..=b'S' | b'M' | b'X' | b'j'..=b'y')
 }
 
 // Whether a digit alone is a number by which rxvt-unicode tells a key.
@@ -173,7 +166,7 @@ fn is_letter_behind(first: Option<u8>, letter: u8) -> bool
 {
     match first {
         Some(b'1') => matches!(letter, b'P'..=b'S'),
-        _ => is_modified_letter(letter),
+        _ => matches!(letter, b'P'..=b'S' | b'M' | b'X' | b'j'..=b'y'),
     }
 }
 
@@ -215,13 +208,6 @@ fn begun_key_at(first: u8, rest: &[u8]) -> FormAt
     }
 }
 
-// Whether a byte and `;` may stand before the digit.
-fn is_parted_first(byte: u8) -> bool
-    ensures { IsTrue result ↔ IsPartedFirst byte }
-{
-    matches!(byte, b'0' | b'1')
-}
-
 // The form at the front of ESC O and the rest.
 fn keypad_key_at(rest: &[u8]) -> FormAt
     ensures { (x10_mouse : Bool) → HasForm x10_mouse (SS3 ++ rest.now) result }
@@ -230,7 +216,7 @@ fn keypad_key_at(rest: &[u8]) -> FormAt
         [] => FormAt::Unfinished,
         [letter, ..] if is_keypad_letter(*letter) => FormAt::Whole(3),
         [digit, rest @ ..] if is_modifier_digit(*digit) => modified_key_at(None, rest),
-        [first, rest @ ..] if is_parted_first(*first) => begun_key_at(*first, rest),
+        [first @ (b'0' | b'1'), rest @ ..] => begun_key_at(*first, rest),
         _ => FormAt::Absent,
     }
 }

@@ -120,24 +120,15 @@ fn is_extra(parser: &InputParser, reading: Reading, form: &[u8], meaning: &Meani
 fn is_keypad_key(form: &[u8]) -> bool
     ensures { IsTrue result ↔ IsKeypadKey form.now }
 {
-    match form {
-        [ESCAPE, b'O', letter] => is_keypad_letter(*letter),
-        _ => false,
-    }
+    matches!(form, [ESCAPE, b'O', letter] if is_keypad_letter(*letter))
 }
 
-// Whether a text ends with ^, @ or $, as the keys that rxvt-unicode sends with Ctrl or Shift.
-fn ends_as_rxvt(form: &[u8]) -> bool
-    ensures { IsTrue result ↔ EndsAsRxvt form.now }
+// Whether a text is a key as rxvt-unicode sends it: with Ctrl or Shift it ends with ^, @ or $, and F21 to F24 have numbers of their own.
+fn is_rxvt_key(form: &[u8]) -> bool
+    ensures { IsTrue result ↔ (EndsAsRxvt form.now ⊎ IsRxvtFunction form.now) }
 {
     matches!(form.last(), Some(b'^' | b'@' | b'$'))
-}
-
-// Whether a text is F21, F22, F23 or F24 as rxvt-unicode sends it.
-fn is_rxvt_function(form: &[u8]) -> bool
-    ensures { IsTrue result ↔ IsRxvtFunction form.now }
-{
-    matches!(form, [ESCAPE, b'[', b'3', b'5'..=b'8', b'~'])
+        || matches!(form, [ESCAPE, b'[', b'3', b'5'..=b'8', b'~'])
 }
 
 // Whether a text is a key by its last letter: ESC [ and Z behind anything, a letter of a cursor key or of F1 to F4 behind a digit from 2 to 8, or
@@ -160,11 +151,7 @@ fn is_bare_key(parser: &InputParser, form: &[u8], meaning: &Meaning<'_>) -> bool
     if !meaning.is_key() {
         return false;
     }
-    if is_keypad_key(form)
-        || ends_as_rxvt(form)
-        || is_rxvt_function(form)
-        || is_lettered_key(form)
-    {
+    if is_keypad_key(form) || is_rxvt_key(form) || is_lettered_key(form) {
         return true;
     }
     is_table_row(parser, form)

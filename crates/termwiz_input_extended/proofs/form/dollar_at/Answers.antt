@@ -14,6 +14,6 @@ returns-in-49-to-56-2-clause-form c = λ x10_mouse. control_row_at c.args.rest.n
 
 pub returns-in-36-2-clause-form : goal.returns-in-36-2-clause-form
 returns-in-36-2-clause-form c = λ x10_mouse. elim c.in-36-2-1.branch [
-  in-36-2 w ↦ pair_shifted c.args.rest.now (omega arith) (omega arith) (rw (w.first-is, w.second-is) at (c.is_rxvt_pair.ensures.0 c.if-is_rxvt_pair.true)) |
-  in-36-2-2 w ↦ absurd (let pair = rw (w.first-is, w.second-is) at (c.is_rxvt_pair.ensures.0 c.if-is_rxvt_pair.true) in grind (arith, pair))
+  | in-36-2 w ↦ pair_shifted c.args.rest.now (omega arith) (omega arith) (rw (w.first-is, w.second-is) at (c.is_rxvt_pair.ensures.0 c.if-is_rxvt_pair.true))
+  | in-36-2-2 w ↦ absurd (let pair = rw (w.first-is, w.second-is) at (c.is_rxvt_pair.ensures.0 c.if-is_rxvt_pair.true) in grind (arith, pair))
 ]

@@ -17,8 +17,8 @@ returns-in-len1-up-2 c = λ x10_mouse. subst (λ z. HasForm x10_mouse (27 ∷ 79
     (first_got c.args.rest.now (get_or c.args.rest.now 0 0) (first_there c.args.rest.now (omega arith)))
     (c.modified_key_at.ensures x10_mouse (get_or c.args.rest.now 0 0) (c.is_modifier_digit.ensures.0 c.if-is_modifier_digit.true))
 
-pub returns-in-len1-up-3 : goal.returns-in-len1-up-3
-returns-in-len1-up-3 c = λ x10_mouse. subst (λ z. HasForm x10_mouse (27 ∷ 79 ∷ z) c.begun_key_at.result)
+pub returns-in-48 : goal.returns-in-48
+returns-in-48 c = λ x10_mouse. subst (λ z. HasForm x10_mouse (27 ∷ 79 ∷ z) c.begun_key_at.result)
     (first_got c.args.rest.now (get_or c.args.rest.now 0 0) (first_there c.args.rest.now (omega arith))) (c.begun_key_at.ensures x10_mouse)
 
 pub returns-in_default : goal.returns-in_default
@@ -26,4 +26,4 @@ returns-in_default c = λ x10_mouse.
     keypad_absent_at c.args.rest.now (get_or c.args.rest.now 0 0) (first_there c.args.rest.now (omega arith))
     (denied c.is_keypad_letter.ensures.1 c.if-is_keypad_letter.false)
     (denied c.is_modifier_digit.ensures.1 c.if-is_modifier_digit.false)
-    (denied c.is_parted_first.ensures.1 c.if-is_parted_first.false)
+    (λ is. grind (arith, is))

@@ -1,4 +1,4 @@
-use Rattle.std.proofs.Common.{inl, ⊎_elim, subst}
+use Rattle.std.proofs.Common.{inl, inr, ⊎_elim, subst}
 use Rattle.std.specs.Prelude.{IfSome}
 use Rattle.termwiz_keymap.proofs.lemmas.lists.PrefixTest.{denied}
 use Rattle.termwiz_extended_events.specs.Meanings.{IsKey}
@@ -17,13 +17,13 @@ returns c = λ reading means. (
       (λ (row : IsRow c.args.form.now). row_stored c.args.form.now row)
       (λ h. absurd (⊎_elim
       (λ (keypad : IsKeypadKey c.args.form.now). denied c.is_keypad_key.ensures.1 c.if-is_keypad_key.false keypad)
-      (λ rxvt. ⊎_elim
-      (λ (ends : EndsAsRxvt c.args.form.now). denied c.ends_as_rxvt.ensures.1 c.if-ends_as_rxvt.false ends)
       (λ other. ⊎_elim
-      (λ (function : IsRxvtFunction c.args.form.now). denied c.is_rxvt_function.ensures.1 c.if-is_rxvt_function.false function)
+      (λ (ends : EndsAsRxvt c.args.form.now). denied c.is_rxvt_key.ensures.1 c.if-is_rxvt_key.false (inl ends))
+      (λ rest. ⊎_elim
+      (λ (function : IsRxvtFunction c.args.form.now). denied c.is_rxvt_key.ensures.1 c.if-is_rxvt_key.false (inr function))
       (λ (key : IsLetteredKey c.args.form.now). denied c.is_lettered_key.ensures.1 c.if-is_lettered_key.false key)
+      rest)
       other)
-      rxvt)
       h))
       bare.layout),
 )
