@@ -7,7 +7,7 @@ pub use termwiz_input::time::{Age, Limit};
 /// The ages of what is buffered. They grow only by the clock's steps forward, so a clock that steps back makes nothing due.
 ///
 /// It is a value that depends on nothing but what it was told. Contracts see its fields.
-#[derive(Clone, Copy, PartialEq, Eq, Debug)]
+#[derive(Clone, Copy, PartialEq, Eq, Debug, Default)]
 pub struct Ages {
     // The two ages at the last call that had a time.
     last: u64,
@@ -21,11 +21,7 @@ impl Ages {
     pub fn new() -> Ages
         ensures { result ≡ first_ages }
     {
-        Ages {
-            last: 0,
-            front: 0,
-            noted: None,
-        }
+        Ages::default()
     }
 
     /// An age at a time.
@@ -36,11 +32,7 @@ impl Ages {
             Age::Last => self.last,
             Age::Front => self.front,
         };
-        let step = match self.noted {
-            Some(noted) => now.saturating_sub(noted),
-            None => 0,
-        };
-        age.saturating_add(step)
+        age.saturating_add(now.saturating_sub(self.noted.unwrap_or(now)))
     }
 
     /// The ages at a time, from which they go on.
@@ -61,11 +53,7 @@ impl Ages {
         if bytes.is_empty() {
             *self
         } else if text.is_empty() {
-            Ages {
-                last: 0,
-                front: 0,
-                noted: self.noted,
-            }
+            self.with_last().with_front()
         } else {
             self.with_last()
         }
@@ -75,41 +63,28 @@ impl Ages {
     pub fn with_last(&self) -> Ages
         ensures { result ≡ record self.now { last = 0 } }
     {
-        Ages {
-            last: 0,
-            front: self.front,
-            noted: self.noted,
-        }
+        Ages { last: 0, ..*self }
     }
 
     /// The ages once something else is at the front of what is buffered.
     pub fn with_front(&self) -> Ages
         ensures { result ≡ record self.now { front = 0 } }
     {
-        Ages {
-            last: self.last,
-            front: 0,
-            noted: self.noted,
-        }
+        Ages { front: 0, ..*self }
     }
 
     /// How much is left of a limit at a time; none without a limit.
     pub fn left(&self, limit: Limit, now: u64) -> Option<u64>
         ensures { result ≡ left_of self.now limit now }
     {
-        match limit.millis {
-            Some(millis) => Some(millis.saturating_sub(self.age(limit.by, now))),
-            None => None,
-        }
+        let age = self.age(limit.by, now);
+        limit.millis.map(|millis| millis.saturating_sub(age))
     }
 
     /// Whether a limit has passed.
     pub fn is_reached(&self, limit: Limit, now: u64) -> bool
         ensures { (result ≡ true) ↔ IsReached self.now limit now }
     {
-        match limit.millis {
-            Some(millis) => millis <= self.age(limit.by, now),
-            None => false,
-        }
+        self.left(limit, now) == Some(0)
     }
 }

@@ -1,20 +1,17 @@
 //! The parser with a clock.
-ghost use Rattle.std.specs.Prelude.{◌≡◌, ◌≢◌, ◌⊎◌, ◌↔◌, Bool, [], length, true, false, None, Some, IsTrue, Ok, IfOk, IfSome, IfNone, OnOk, OnErr, IsOk, IsErrOf, if◌then◌else◌};
-ghost use Rattle.termwiz_grammar.specs.PasteParts.{IsSkipped};
+ghost use Rattle.std.specs.Prelude.{◌≡◌, ◌≢◌, ◌⊎◌, ◌↔◌, Bool, [], ℕ, length, true, false, None, Some, IsTrue, Ok, IfOk, IfSome, IfNone, OnOk, OnErr, IsOk, IsErrOf, if◌then◌else◌};
+ghost use Rattle.termwiz_grammar.specs.PasteParts.{IsSkipped, IsTaken};
 ghost use Rattle.termwiz_grammar.specs.WaitingKinds.{IsOpenPaste};
 ghost use Rattle.termwiz_extended_events.specs.declared.types.Event.{Event};
 ghost use Rattle.termwiz_extended_events.specs.Meanings.{NeedsMemory};
 ghost use Rattle.termwiz_input_extended.specs.Buffered.{IsToldByBytes};
-ghost use Rattle.termwiz_input_extended.specs.ExtendedExpiry.{IsLimitOf};
-ghost use Rattle.termwiz_input_extended.specs.NextItems.{HasItemThatNeedsMemory};
-ghost use Rattle.termwiz_extended_grammar.specs.Readings.{asking};
+ghost use Rattle.termwiz_input_extended.specs.NextItems.{HasItemThatNeedsMemory, IsPasteEvent};
 ghost use Rattle.termwiz_extended_grammar.specs.ExtendedGrammar.{IsRest};
 ghost use Rattle.termwiz_extended_grammar.specs.ExtendedKinds.{IsKind};
-ghost use Rattle.termwiz_timed.specs.AgesInTime.{came};
 ghost use Rattle.termwiz_timed.specs.Sinks.{Takes};
-ghost use Rattle.termwiz_timed.specs.Steps.{HasFewBytes, HasNoPart, Step, Tells, goes_on};
+ghost use Rattle.termwiz_timed.specs.Steps.{HasFewBytes, HasNoPart, Step};
 ghost use Rattle.termwiz_timed.specs.Steps.Call.{AllTold, End, ExpectPosition, Feed, Flush, ForgetPositions, Idle, Interrupted, Reset, SetParts, SetPolicy, SetReading, SkipPaste, Told};
-ghost use Rattle.termwiz_timed.specs.Timed.{HasPassed, IsFlushing, IsLeft, IsPasteOrString, IsTimeout, emptied, flushed, more_comes, new_timed, read_again, sooner, while_buffered};
+ghost use Rattle.termwiz_timed.specs.Timed.{HasPassed, IsFlushing, IsLeft, IsPasteOrString, IsTimeout, flushed, more_comes, new_timed, read_again, sooner, while_buffered};
 
 use crate::ages::Ages;
 use crate::sink::{EventSink, LastTold, Noting, TimedSink};
@@ -67,20 +64,7 @@ impl Stage {
     fn more_comes(self) -> bool
         ensures { result ≡ more_comes self }
     {
-        match self {
-            Stage::AllTold | Stage::Untold => true,
-            Stage::Flushing | Stage::Ending => false,
-        }
-    }
-
-    // Whether a flush is being told.
-    fn is_flushing(self) -> bool
-        ensures { IsTrue result ↔ IsFlushing self }
-    {
-        match self {
-            Stage::AllTold | Stage::Untold => false,
-            Stage::Flushing | Stage::Ending => true,
-        }
+        matches!(self, Stage::AllTold | Stage::Untold)
     }
 
     // The stage once a flush begins.
@@ -102,26 +86,6 @@ impl Stage {
             stage => stage,
         }
     }
-
-    // The stage once nothing is buffered.
-    fn emptied(self) -> Stage
-        ensures { result ≡ emptied self }
-    {
-        match self {
-            Stage::AllTold => Stage::AllTold,
-            _ => Stage::Untold,
-        }
-    }
-}
-
-// Whether what was open when another program had the terminal is so after an event.
-pub(crate) fn goes_on(event: &Event, interrupted: bool) -> bool
-    ensures { result ≡ goes_on event.now interrupted }
-{
-    match event {
-        Event::StringPart { .. } => interrupted,
-        _ => false,
-    }
 }
 
 // What another program may have read the end of waits no longer than this.
@@ -136,8 +100,7 @@ fn sooner(one: Option<u64>, other: Option<u64>) -> Option<u64>
 {
     match (one, other) {
         (Some(one), Some(other)) => Some(one.min(other)),
-        (Some(one), None) => Some(one),
-        (None, other) => other,
+        _ => one.or(other),
     }
 }
 
@@ -317,7 +280,11 @@ impl TimedParser {
         ensures count { result ≡ length self.old.text }
     {
         let count = self.parser.reset();
-        self.stage = self.stage.emptied();
+
+        // Nothing is buffered any more, so a flush is over.
+        if self.stage != Stage::AllTold {
+            self.stage = Stage::Untold;
+        }
         self.interrupted = false;
         count
     }
@@ -342,13 +309,11 @@ impl TimedParser {
         ensures busy { IsErrOf result FeedError.Busy ↔ IsFlushing self.old.stage }
         ensures no_memory { IsErrOf result FeedError.NoMemory → bytes.now ≢ [] }
     {
-        if self.stage.is_flushing() {
+        if !self.stage.more_comes() {
             return Err(FeedError::Busy);
         }
         let ages = self.ages.at(now).came(self.parser.waiting_text(), bytes);
-        if self.parser.feed(bytes).is_err() {
-            return Err(FeedError::NoMemory);
-        }
+        self.parser.feed(bytes).map_err(|_| FeedError::NoMemory)?;
         self.ages = ages;
         self.stage = Stage::Untold;
         Ok(())
@@ -359,7 +324,7 @@ impl TimedParser {
     pub fn idle(&mut self, now: u64)
         ensures { (due : Bool) × Step self.old (Idle now due) self.new }
     {
-        let due = self.is_due(now);
+        let due = self.is_due(limit_of(&self.parser, &self.policy), now);
         self.ages = self.ages.at(now);
         if due {
             self.stage = Stage::Ending;
@@ -380,20 +345,6 @@ impl TimedParser {
         self.stage = self.while_buffered(Stage::Ending);
     }
 
-    // Forgets open questions, and what is buffered unless it stays.
-    fn forget(&mut self, stays: bool)
-        ensures { self.new ≡ record self.old {
-          reading = asking self.old.reading 0;
-          text = (if stays then self.old.text else []);
-        } }
-    {
-        if stays {
-            self.parser.forget_positions();
-        } else {
-            self.parser.reset();
-        }
-    }
-
     /// Another program had the terminal up to now. The beginning of a sequence or of a character is forgotten, and so are open questions. An
     /// open paste or string stays, but no longer than a second without a byte, since the other program may have read its end.
     pub fn interrupted(&mut self, now: u64) -> Result<(), Busy>
@@ -401,14 +352,19 @@ impl TimedParser {
         ensures err { OnErr result (self.new ≡ self.old) }
         ensures busy { IsOk result ↔ (self.old.stage ≡ Stage.AllTold) }
     {
-        match self.stage {
-            Stage::AllTold => {}
-            _ => return Err(Busy),
+        if self.stage != Stage::AllTold {
+            return Err(Busy);
         }
         let stays = self.is_paste_or_string();
-        self.forget(stays);
         self.ages = self.ages.at(now).with_last();
         self.interrupted = stays;
+
+        // Open questions are forgotten, and what is buffered unless it stays.
+        if stays {
+            self.parser.forget_positions();
+        } else {
+            self.parser.reset();
+        }
         Ok(())
     }
 
@@ -416,17 +372,13 @@ impl TimedParser {
     fn is_paste_or_string(&self) -> bool
         ensures { IsTrue result ↔ IsPasteOrString self.now.reading self.now.text }
     {
-        matches!(
-            self.parser.waiting(),
-            ExtendedWaiting::Paste | ExtendedWaiting::String
-        )
+        let waiting = self.parser.waiting();
+        matches!(waiting, ExtendedWaiting::Paste | ExtendedWaiting::String)
     }
 
     // Whether what is buffered has a limit since another program had the terminal.
     fn is_limited_to_a_second(&self) -> bool
-        ensures some { IsTrue result → self.now.interrupted ≡ true }
-        ensures what { IsTrue result → IsPasteOrString self.now.reading self.now.text }
-        ensures none { result ≡ false → self.now.interrupted ≡ true → ¬ IsPasteOrString self.now.reading self.now.text }
+        ensures { IsTrue result ↔ ((self.now.interrupted ≡ true) × IsPasteOrString self.now.reading self.now.text) }
     {
         self.interrupted && self.is_paste_or_string()
     }
@@ -443,24 +395,13 @@ impl TimedParser {
         }
     }
 
-    // Whether this limit of what is buffered has passed.
-    fn has_passed(&self, limit: Limit, now: u64) -> bool
-        ensures { (result ≡ true) ↔ HasPassed self.now limit now }
+    // Whether all is told and this limit of what is buffered has passed.
+    fn is_due(&self, limit: Limit, now: u64) -> bool
+        ensures { (result ≡ true) ↔ ((self.now.stage ≡ Stage.AllTold) × HasPassed self.now limit now) }
     {
-        self.ages.is_reached(limit, now)
-            || (self.is_limited_to_a_second() && self.ages.is_reached(A_SECOND, now))
-    }
-
-    // Whether what is buffered is due.
-    fn is_due(&self, now: u64) -> bool
-        ensures { (limit : Limit) × IsLimitOf self.now.policy self.now.reading self.now.text limit
-            × ((result ≡ true) ↔ ((self.now.stage ≡ Stage.AllTold) × HasPassed self.now limit now)) }
-    {
-        let limit = limit_of(&self.parser, &self.policy);
-        match self.stage {
-            Stage::AllTold => self.has_passed(limit, now),
-            _ => false,
-        }
+        self.stage == Stage::AllTold
+            && (self.ages.is_reached(limit, now)
+                || (self.is_limited_to_a_second() && self.ages.is_reached(A_SECOND, now)))
     }
 
     /// How many milliseconds the program may wait for input: 0 until all is told, else until what is buffered is due. `None` if it never is. It
@@ -474,14 +415,7 @@ impl TimedParser {
         }
     }
 
-    // What is at the front now ages from the last call that had a time.
-    fn note_front(&mut self)
-        ensures { self.new ≡ record self.old { ages = record self.old.ages { front = 0 } } }
-    {
-        self.ages = self.ages.with_front();
-    }
-
-    // Notes that the item at the front is gone.
+    // Notes that what was at the front is gone: what is there now ages from the last call that had a time.
     fn note_gone(&mut self)
         ensures { self.new ≡ record self.old {
           stage = while_buffered self.old.text self.old.stage;
@@ -489,72 +423,45 @@ impl TimedParser {
         } }
     {
         self.stage = self.while_buffered(self.stage);
-        self.note_front();
+        self.ages = self.ages.with_front();
     }
 
     // The limit of parts, if there are some.
     fn parts(&self) -> Option<usize>
         ensures { result ≡ self.now.parts }
     {
-        if self.tells_parts {
-            Some(self.parts)
-        } else {
-            None
-        }
+        self.tells_parts.then_some(self.parts)
     }
 
     // A part of an open paste that has more than the limit.
     fn next_part(&mut self) -> Result<Option<PastedText>, AllocError>
-        ensures told { IfOk result (λ found. IfSome found (λ text. Tells self.old (TimedEvent.PastePart text) self.new)) }
+        ensures part { IfOk result (λ found. IfSome found (λ text. (limit : ℕ) × (self.old.parts ≡ Some limit)
+            × IsTaken self.old.text limit text self.new.text)) }
+        ensures part_same { self.new ≡ record self.old { text = self.new.text } }
         ensures none { IfOk result (λ found. IfNone found (HasNoPart self.old)) }
         ensures few { IfOk result (λ found. IfNone found (HasFewBytes self.old)) }
         ensures none_same { IfOk result (λ found. IfNone found (self.new ≡ self.old)) }
         ensures refused { OnErr result (IsOpenPaste self.old.text) }
         ensures refused_same { OnErr result (self.new ≡ self.old) }
     {
-        let Some(limit) = self.parts() else {
-            return Ok(None);
-        };
-        match self.parser.take_paste(limit)? {
-            Some(text) => {
-                self.note_front();
-                Ok(Some(text))
-            }
+        match self.parts() {
+            Some(limit) => self.parser.take_paste(limit),
             None => Ok(None),
         }
     }
 
     // An open paste where it is, if all ends.
     fn next_end(&mut self) -> Result<Option<Event>, AllocError>
-        requires { HasNoPart self.old }
-        ensures told { IfOk result (λ found. IfSome found (λ event. Tells self.old (TimedEvent.Whole event) self.new)) }
+        ensures end { IfOk result (λ found. IfSome found (λ event. (self.old.stage ≡ Stage.Ending) × IsPasteEvent self.old.text event
+            × (self.new ≡ record self.old { text = [] }))) }
         ensures none { IfOk result (λ found. IfNone found (self.old.stage ≡ Stage.Ending → ¬ IsOpenPaste self.old.text)) }
         ensures none_same { IfOk result (λ found. IfNone found (self.new ≡ self.old)) }
         ensures refused { OnErr result (IsOpenPaste self.old.text) }
         ensures refused_same { OnErr result (self.new ≡ self.old) }
     {
         match self.stage {
-            Stage::Ending => {}
-            _ => return Ok(None),
-        }
-        match self.parser.end_paste()? {
-            Some(event) => {
-                self.interrupted = goes_on(&event, self.interrupted);
-                self.note_gone();
-                Ok(Some(event))
-            }
-            None => Ok(None),
-        }
-    }
-
-    // Whether parts are off and an open paste stays.
-    fn tells_no_paste(&self) -> bool
-        ensures parts { IsTrue result → self.now.parts ≡ None }
-        ensures stage { IsTrue result → self.now.stage ≢ Stage.Ending }
-    {
-        match (self.parts(), self.stage) {
-            (Some(_), _) | (None, Stage::Ending) => false,
-            _ => true,
+            Stage::Ending => self.parser.end_paste(),
+            _ => Ok(None),
         }
     }
 
@@ -570,33 +477,18 @@ impl TimedParser {
         ensures refused_sink { OnErr result (sink.new ≡ sink.old) }
     {
         if let Some(text) = self.next_part()? {
+            self.note_gone();
             sink.emit_part(text);
             return Ok(true);
         }
         if let Some(event) = self.next_end()? {
+            self.interrupted = false;
+            self.note_gone();
             sink.emit(event);
             return Ok(true);
         }
         self.stage = Stage::AllTold;
         Ok(false)
-    }
-
-    // Emits what is told where no item is at the front.
-    #[inline(always)]
-    fn emit_of_rest<S: TimedSink>(&mut self, sink: &mut S) -> Result<bool, AllocError>
-        requires { IsRest self.old.reading self.old.text (more_comes self.old.stage) }
-        ensures told { result ≡ Ok true → (event : TimedEvent) × Takes S.takes S.takes_part sink.old event sink.new × Step self.old (Told event) self.new }
-        ensures all_told { result ≡ Ok false → Step self.old AllTold self.new }
-        ensures all_told_sink { result ≡ Ok false → sink.new ≡ sink.old }
-        ensures refused { OnErr result (IsOpenPaste self.old.text) }
-        ensures refused_same { OnErr result (self.new ≡ self.old) }
-        ensures refused_sink { OnErr result (sink.new ≡ sink.old) }
-    {
-        if self.tells_no_paste() {
-            self.stage = Stage::AllTold;
-            return Ok(false);
-        }
-        self.emit_of_paste(sink)
     }
 
     /// Emits the key of the character at the front of the buffer, as [`TimedParser::emit_next`] does, and answers whether one is there. It asks
@@ -643,7 +535,13 @@ impl TimedParser {
                 self.note_gone();
                 Ok(true)
             }
-            Ok(false) => self.emit_of_rest(sink),
+            Ok(false) => {
+                if self.tells_parts || matches!(self.stage, Stage::Ending) {
+                    return self.emit_of_paste(sink);
+                }
+                self.stage = Stage::AllTold;
+                Ok(false)
+            }
             Err(error) => Err(error),
         }
     }
@@ -656,8 +554,8 @@ impl TimedParser {
             ⊎ HasItemThatNeedsMemory self.old.reading self.old.text (more_comes self.old.stage)) }
         ensures refused_same { OnErr result (self.new ≡ self.old) }
     {
-        let mut told = LastTold { event: None };
+        let mut told = LastTold(None);
         self.emit_next(&mut told)?;
-        Ok(told.event)
+        Ok(told.0)
     }
 }

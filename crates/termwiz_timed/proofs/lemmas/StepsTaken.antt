@@ -1,5 +1,5 @@
 -- What the calls do is a step.
-use Rattle.std.proofs.Common.{◌≡◌, ◌↔◌, ℕ, Bool, true, false, IsTrue, List, [], ◌∷◌, ◌++◌, Option, Some, None, IfSome, IfNone, if◌then◌else◌, refl, sym, subst}
+use Rattle.std.proofs.Common.{◌≡◌, ◌↔◌, ℕ, Bool, true, false, IsTrue, List, [], ◌∷◌, ◌++◌, Option, Some, None, IfSome, IfNone, if◌then◌else◌, refl, sym, subst, ap, ◌∙◌}
 use Rattle.termwiz_grammar.specs.PasteParts.{HasPart, IsSkipped, IsTaken}
 use Rattle.termwiz_grammar.specs.WaitingKinds.{IsOpenPaste}
 use Rattle.termwiz_extended_events.specs.declared.types.Event.{Event}
@@ -9,7 +9,7 @@ use Rattle.termwiz_input_extended.specs.NextItems.{IsPasteEvent}
 use Rattle.termwiz_timed.specs.declared.parser.Stage.TheVariants as stage
 use Rattle.termwiz_timed.specs.declared.parser.TimedEvent.TheVariants.{Whole, PastePart}
 use Rattle.termwiz_timed.specs.AgesInTime.{at_time}
-use Rattle.termwiz_timed.specs.Timed.{Timed, IsPasteOrString, more_comes}
+use Rattle.termwiz_timed.specs.Timed.{Timed, IsPasteOrString, more_comes, while_buffered}
 use Rattle.termwiz_timed.specs.Steps.{HasNoPart, IsInterrupted, Skips, Tells, after_item, after_part}
 use Rattle.termwiz_timed.specs.Steps.Keeps.{stays, forgotten}
 use Rattle.termwiz_timed.specs.Steps.Skips.{skipped, nothing}
@@ -26,8 +26,11 @@ module _ (old new : Timed) where
   told_item event steps same = subst (Tells old (Whole event)) (sym same) (item event new.text steps)
 
   pub told_part : (limit : ℕ) (text : List ℕ) → old.parts ≡ Some limit → IsTaken old.text limit text new.text
-      → new ≡ after_part old new.text → Tells old (PastePart text) new
-  told_part limit text on taken same = subst (Tells old (PastePart text)) (sym same) (part limit text new.text on taken)
+      → new ≡ record (after_part old new.text) { stage = while_buffered new.text old.stage } → Tells old (PastePart text) new
+  told_part limit text on taken same =
+      let kept : while_buffered new.text old.stage ≡ old.stage = ap (λ t. while_buffered t old.stage) taken.leaves in
+      let after = same ∙ ap (λ s. record (after_part old new.text) { stage = s }) kept in
+      subst (Tells old (PastePart text)) (sym after) (part limit text new.text on taken)
 
   pub told_end : (event : Event) → old.stage ≡ stage.Ending → HasNoPart old → IsPasteEvent old.text event
       → new ≡ after_item old event [] → Tells old (Whole event) new

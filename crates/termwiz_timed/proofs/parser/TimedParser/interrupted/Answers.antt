@@ -1,6 +1,9 @@
-use Rattle.std.proofs.Common.{rules}
+use Rattle.std.proofs.Common.{true, false, rules}
 use Rattle.termwiz_timed.proofs.lemmas.StepsTaken.{was_interrupted}
 use Rattle.termwiz_timed.proofs.parser.TimedParser.interrupted.Goals as goal
 
-pub returns-clause-ok : goal.returns-clause-ok
-returns-clause-ok c = was_interrupted c.args.self.now _ c.args.now c.is_paste_or_string-stays.result (search rules) (search rules) (search rules)
+pub returns-then-stays-clause-ok : goal.returns-then-stays-clause-ok
+returns-then-stays-clause-ok c = was_interrupted c.args.self.now _ c.args.now true (search rules) (search rules) (search rules)
+
+pub returns-else-stays-clause-ok : goal.returns-else-stays-clause-ok
+returns-else-stays-clause-ok c = was_interrupted c.args.self.now _ c.args.now false (search rules) (search rules) (search rules)

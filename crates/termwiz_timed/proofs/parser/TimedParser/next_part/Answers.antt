@@ -1,12 +1,10 @@
-use Rattle.std.proofs.Common.{rules}
-use Rattle.termwiz_grammar.specs.WaitingKinds.{IsOpenPaste}
-use Rattle.termwiz_timed.proofs.lemmas.StepsTaken.{part_is_open, told_part}
+use Rattle.std.proofs.Common.{Result, Ok, Err, OnErr}
+use Rattle.termwiz_timed.proofs.lemmas.StepsTaken.{part_is_open}
 use Rattle.termwiz_timed.proofs.parser.TimedParser.next_part.Goals as goal
 
-pub returns-in_err-text-clause-refused : goal.returns-in_err-text-clause-refused
-returns-in_err-text-clause-refused c =
-    let is_open : IsOpenPaste c.args.self.now.text = rw (← c.self.view_is) (part_is_open _ _ c.in_err-text.ensures.refused) in
-    search rules
+on_err : {A E : Type 0} {P Q : Type 0} (result : Result A E) → (P → Q) → OnErr result P → OnErr result Q
+on_err (Ok value) then p = tt
+on_err (Err error) then p = then p
 
-pub returns-in-Some-2-clause-told : goal.returns-in-Some-2-clause-told
-returns-in-Some-2-clause-told c = told_part c.args.self.now _ c.in-Some.limit c.in-Some-2.text (search rules) (search rules) (search rules)
+pub returns-in-Some-clause-refused : goal.returns-in-Some-clause-refused
+returns-in-Some-clause-refused c = rw (← c.self.view_is) (on_err c.take_paste.result (part_is_open _ _) c.take_paste.ensures.refused)
