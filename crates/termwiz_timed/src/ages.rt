@@ -32,7 +32,8 @@ impl Ages {
             Age::Last => self.last,
             Age::Front => self.front,
         };
-        age.saturating_add(now.saturating_sub(self.noted.unwrap_or(now)))
+        let step = now.saturating_sub(self.noted.unwrap_or(now));
+        age.saturating_add(step)
     }
 
     /// The ages at a time, from which they go on.

@@ -433,7 +433,7 @@ impl TimedParser {
         self.tells_parts.then_some(self.parts)
     }
 
-    // A part of an open paste that has more than the limit.
+    // Takes a part of an open paste that has more than the limit.
     fn next_part(&mut self) -> Result<Option<PastedText>, AllocError>
         ensures part { IfOk result (λ found. IfSome found (λ text. (limit : ℕ) × (self.old.parts ≡ Some limit)
             × IsTaken self.old.text limit text self.new.text)) }
@@ -450,7 +450,7 @@ impl TimedParser {
         }
     }
 
-    // An open paste where it is, if all ends.
+    // Takes an open paste where it is, if all ends.
     fn next_end(&mut self) -> Result<Option<Event>, AllocError>
         ensures end { IfOk result (λ found. IfSome found (λ event. (self.old.stage ≡ Stage.Ending) × IsPasteEvent self.old.text event
             × (self.new ≡ record self.old { text = [] }))) }
