@@ -90,6 +90,7 @@ fn is_rxvt_pair(first: u8, second: u8) -> bool
 }
 
 // The form at the front of ESC [ and the rest, if `$` decides it: that of a key with Shift, and none where a row begins.
+#[inline(always)]
 fn dollar_at(rest: &[u8]) -> Option<FormAt>
     ensures form { IfSome result (λ form. (x10_mouse : Bool) → HasForm x10_mouse (CSI ++ rest.now) form) }
     ensures no_key { IfNone result (¬ StartsShifted rest.now) }

@@ -535,10 +535,10 @@ impl TimedParser {
                 self.note_gone();
                 Ok(true)
             }
+            Ok(false) if self.tells_parts || matches!(self.stage, Stage::Ending) => {
+                self.emit_of_paste(sink)
+            }
             Ok(false) => {
-                if self.tells_parts || matches!(self.stage, Stage::Ending) {
-                    return self.emit_of_paste(sink);
-                }
                 self.stage = Stage::AllTold;
                 Ok(false)
             }

@@ -156,7 +156,7 @@ impl ExtendedParser {
 
     // Consumes the item at the front of the buffer, and emits its event. The answer is false if no item is there. `emit_next` is quicker for
     // characters.
-    #[inline(always)]
+    #[inline(never)]
     fn emit_item<S: EventSink>(&mut self, sink: &mut S, maybe_more: bool) -> Emitted
         ensures { Emits S.takes self.old sink.old maybe_more self.new sink.new result }
     {
