@@ -19,8 +19,8 @@ use Rattle.hedrugal.specs.declared.parser_and_text.ParserAndText.{ParserAndText}
 use Rattle.hedrugal.specs.Events.{brought, c_told, dialect_number}
 use Rattle.hedrugal.specs.Limits.{c_millis}
 
--- `out` with as much of the text as it has room for in place of its first bytes
-abbrev pub copied : List ℕ → List ℕ → List ℕ
+-- `out` with as much of the text as it has room for in place of its first bytes; so of numbers
+abbrev pub copied : {A : Type 0} → List A → List A → List A
 copied text out = take (length out) text ++ drop (length text) out
 
 -- there is a new parser of the dialect with this number, and no event brought bytes

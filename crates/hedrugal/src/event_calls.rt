@@ -1,5 +1,5 @@
 // The calls that write events, and what a terminal replies.
-ghost use Rattle.std.specs.Prelude.{◌≡◌, ◌≢◌, ◌<◌, ◌⊎◌, IfOk, IfSome, IfNone, None, Err, length, string_bytes, unwrap_or};
+ghost use Rattle.std.specs.Prelude.{◌≡◌, ◌≢◌, ◌<◌, ◌⊎◌, IfOk, IfSome, IfNone, None, Err, length, string_bytes};
 ghost use Rattle.std.specs.Str.{IsUtf8};
 ghost use Rattle.termwiz_extended_events.specs.declared.types.Event.{Event};
 ghost use Rattle.termwiz_extended_events.specs.declared.types.MouseKind.{MouseKind as WhatHappened};
@@ -10,7 +10,7 @@ ghost use Rattle.hedrugal.specs.EventCalls.{HasLongText, HasNoText, IsBadEvent, 
 ghost use Rattle.hedrugal.specs.Events.{mouse_kind_number, string_kind_number};
 ghost use Rattle.hedrugal.specs.declared.event_calls.BadEvent.TheVariants as bad;
 
-use crate::copying::copy_prefix;
+use crate::copying::write_out;
 use crate::events::{
     CEvent, KIND_APC, KIND_CSI, KIND_CURSOR_POSITION, KIND_DCS, KIND_FOCUS_GAINED, KIND_FOCUS_LOST,
     KIND_KEY, KIND_KEYBOARD_FLAGS, KIND_MOUSE, KIND_OSC, KIND_PASTE, KIND_RESIZED, KIND_STRING_CUT,
@@ -82,34 +82,18 @@ fn mouse_kind_of(number: u8) -> Option<MouseKind>
     }
 }
 
-// The button that a report names, by its number. 0 is none.
-fn named_button(number: u8) -> Option<u8>
-    ensures { unwrap_or result 0 ≡ number }
-{
-    match number {
-        0 => None,
-        _ => Some(number),
-    }
-}
-
-// A mouse report.
+// A mouse report. If its number of a button is 0, it names none.
 fn mouse_in(numbers: &CEvent) -> Option<MouseReport>
     ensures some { IfSome result (λ report. TellsMouse numbers.now report) }
     ensures none { IfNone result ((report : Report) → ¬ TellsMouse numbers.now report) }
 {
-    let Some(kind) = mouse_kind_of(numbers.mouse_kind) else {
-        return None;
-    };
-    let Some(modifiers) = modifiers_in(numbers.modifiers) else {
-        return None;
-    };
     Some(MouseReport {
         x: numbers.x,
         y: numbers.y,
-        modifiers,
+        modifiers: modifiers_in(numbers.modifiers)?,
         buttons: MouseButtons::from_bits_retain(numbers.buttons),
-        kind,
-        button: named_button(numbers.button),
+        kind: mouse_kind_of(numbers.mouse_kind)?,
+        button: (numbers.button != 0).then_some(numbers.button),
     })
 }
 
@@ -119,9 +103,7 @@ fn text_in(alloc: Global, bytes: &[u8]) -> Result<String, BadEvent>
     ensures bad_text { result ≡ Err bad.Text → ¬ IsUtf8 bytes.now }
     ensures number { result ≡ Err bad.Number → ⊥ }
 {
-    let Ok(text) = str::from_utf8(bytes) else {
-        return Err(BadEvent::Text);
-    };
+    let text = str::from_utf8(bytes).map_err(|_| BadEvent::Text)?;
     Ok(String::from_str(alloc, text)?)
 }
 
@@ -209,10 +191,7 @@ pub extern "C" fn hed_encode_event(
         return NOT_INITIALIZED;
     };
     match encode_event(alloc, &event, held.parser.parser()) {
-        Ok(sent) => {
-            *sent_len = copy_prefix(&sent, out);
-            OK
-        }
+        Ok(sent) => write_out(&sent, out, sent_len),
         Err(EncodeEventError::NoText) => NO_TEXT,
         Err(EncodeEventError::TooLong) => TOO_LONG,
         Err(EncodeEventError::Memory) => NO_MEMORY,
@@ -235,11 +214,10 @@ pub extern "C" fn hed_encode_cursor_position(
     ensures same { result ≢ OK → out.new ≡ out.old }
 {
     *sent_len = 0;
-    let Ok(sent) = encode_cursor_position(alloc, row, column, private) else {
-        return NO_MEMORY;
-    };
-    *sent_len = copy_prefix(&sent, out);
-    OK
+    match encode_cursor_position(alloc, row, column, private) {
+        Ok(sent) => write_out(&sent, out, sent_len),
+        Err(_) => NO_MEMORY,
+    }
 }
 
 /// Writes what a terminal sends of its colours, dark or light, as [`hed_encode_event`] does.
@@ -256,11 +234,10 @@ pub extern "C" fn hed_encode_colour_scheme(
     ensures same { result ≢ OK → out.new ≡ out.old }
 {
     *sent_len = 0;
-    let Ok(sent) = encode_colour_scheme(alloc, dark) else {
-        return NO_MEMORY;
-    };
-    *sent_len = copy_prefix(&sent, out);
-    OK
+    match encode_colour_scheme(alloc, dark) {
+        Ok(sent) => write_out(&sent, out, sent_len),
+        Err(_) => NO_MEMORY,
+    }
 }
 
 /// Writes what a terminal replies to the question for its attributes, as [`hed_encode_event`] does.
@@ -279,10 +256,7 @@ pub extern "C" fn hed_encode_device_attributes(
 {
     *sent_len = 0;
     match encode_device_attributes(alloc, numbers) {
-        Ok(sent) => {
-            *sent_len = copy_prefix(&sent, out);
-            OK
-        }
+        Ok(sent) => write_out(&sent, out, sent_len),
         Err(EncodeEventError::TooLong) => TOO_LONG,
         Err(_) => NO_MEMORY,
     }

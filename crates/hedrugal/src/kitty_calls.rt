@@ -3,7 +3,7 @@ ghost use Rattle.std.specs.Prelude.{◌≡◌, ◌≢◌, ◌⊎◌, ◌↔◌};
 ghost use Rattle.std.specs.Str.{IsUtf8};
 ghost use Rattle.hedrugal.specs.KittyCalls.{HasLongSequence, HasNoSequence, IsBadReport, WroteReport};
 
-use crate::copying::copy_prefix;
+use crate::copying::write_out;
 use crate::events::CEvent;
 use crate::key_reports::key_report_of;
 use crate::modes::flags_of;
@@ -48,10 +48,7 @@ pub extern "C" fn hed_encode_kitty(
     };
     told.text = KeyText::new(typed);
     match encode_kitty(alloc, &told, asked) {
-        Ok(sent) => {
-            *sent_len = copy_prefix(sent.as_bytes(), out);
-            OK
-        }
+        Ok(sent) => write_out(sent.as_bytes(), out, sent_len),
         Err(KittyEncodeError::UnknownKey) => REFUSED_KEY,
         Err(KittyEncodeError::TooLong) => TOO_LONG,
         Err(KittyEncodeError::Memory) => NO_MEMORY,

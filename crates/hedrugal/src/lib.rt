@@ -51,7 +51,7 @@ mod status;
 mod timer_calls;
 mod words;
 
-use crate::copying::{copy_prefix, copy_with_zero};
+use crate::copying::{copy_with_zero, write_out};
 use crate::modes::{CModes, press_of};
 use crate::status::{BAD_NUMBER, NO_MEMORY, OK, REFUSED_KEY};
 use event_text::variant_name;
@@ -96,10 +96,7 @@ pub extern "C" fn hed_encode(
         .key
         .encode(alloc, press.modifiers, press.modes, is_down)
     {
-        Ok(text) => {
-            *text_len = copy_prefix(text.as_bytes(), out);
-            OK
-        }
+        Ok(text) => write_out(text.as_bytes(), out, text_len),
         Err(EncodeError::UnhandledFunctionKey(_)) => REFUSED_KEY,
         Err(EncodeError::Memory) => NO_MEMORY,
     }

@@ -3,7 +3,7 @@ ghost use Rattle.std.specs.Prelude.{◌≡◌, ◌≢◌, ◌≤◌, ◌↔◌, 
 ghost use Rattle.hedrugal.specs.NameCalls.{AreOfNoChord, AreOfNoPress, HasChord, IsNoName, PrintedKeys, PrintedPress, ReadKeys, WroteText, error_number};
 
 use crate::chords::{chord_of, copy_presses, press_of};
-use crate::copying::{copy_prefix, copy_with_zero};
+use crate::copying::{copy_with_zero, put_behind, write_out};
 use crate::press_calls::CKeyPress;
 use crate::status::{
     BAD_NUMBER, BAD_TEXT, NAME_AMBIGUOUS, NAME_BAD_NUMBER, NAME_CONTROL_CHARACTER, NAME_EMPTY,
@@ -50,22 +50,14 @@ pub(crate) fn chord_named(text: &[u8]) -> Result<Chord, BadName>
     ensures err { IfErr result (λ bad. IsNoName text.now bad.status bad.at) }
     ensures not_ok { IfErr result (λ bad. 9 ≤ bad.status) }
 {
-    let name = match str::from_utf8(text) {
-        Ok(name) => name,
-        Err(error) => {
-            return Err(BadName {
-                status: BAD_TEXT,
-                at: error.valid_up_to(),
-            });
-        }
-    };
-    match read(name) {
-        Ok(chord) => Ok(chord),
-        Err(error) => Err(BadName {
-            status: error_number(error.kind),
-            at: error.at,
-        }),
-    }
+    let name = str::from_utf8(text).map_err(|error| BadName {
+        status: BAD_TEXT,
+        at: error.valid_up_to(),
+    })?;
+    read(name).map_err(|error| BadName {
+        status: error_number(error.kind),
+        at: error.at,
+    })
 }
 
 /// Reads the name of a chord: 1 to 32 keys, parted by blanks. `keys` has as many of its presses as it has room for, and `count` is how many they
@@ -117,10 +109,7 @@ pub extern "C" fn hed_key_print(
         return BAD_NUMBER;
     };
     match print(alloc, &chord) {
-        Ok(name) => {
-            *name_len = copy_prefix(name.as_bytes(), out);
-            OK
-        }
+        Ok(name) => write_out(name.as_bytes(), out, name_len),
         Err(_) => NO_MEMORY,
     }
 }
@@ -139,17 +128,11 @@ pub extern "C" fn hed_press_print(
     ensures none { result ≢ OK → name_len.new ≡ 0 }
     ensures same { result ≢ OK → out.new ≡ out.old }
 {
-    *name_len = 0;
-    let Some(chord) = chord_of(&[*press]) else {
-        return BAD_NUMBER;
-    };
-    match print(alloc, &chord) {
-        Ok(name) => {
-            *name_len = copy_with_zero(name.as_bytes(), out);
-            OK
-        }
-        Err(_) => NO_MEMORY,
+    let status = hed_key_print(alloc, &[*press], out, name_len);
+    if status == OK {
+        put_behind(out, *name_len, 0);
     }
+    status
 }
 
 /// Copies the character that a press types, in UTF-8, and a final zero byte, as much of both as `out` has room for. Returns how many bytes the
@@ -160,10 +143,7 @@ pub extern "C" fn hed_press_text(press: &CKeyPress, out: &mut [u8]) -> usize
     ensures no_press { AreOfNoPress press.now → result ≡ 0 }
     ensures no_press_same { AreOfNoPress press.now → out.new ≡ out.old }
 {
-    let Some(told) = press_of(press) else {
-        return 0;
-    };
-    let Some(typed) = told.text() else {
+    let Some(typed) = press_of(press).and_then(|told| told.text()) else {
         return 0;
     };
     let mut bytes = [0; 4];

@@ -1,7 +1,9 @@
 // The call that gives the lines of a paste the ends that programs have for theirs.
-ghost use Rattle.std.specs.Prelude.{◌≡◌, ◌++◌, ◌∷◌, [], ℕ, List, length, false};
+ghost use Rattle.std.specs.Prelude.{◌≡◌, length, false};
 ghost use Rattle.hedrugal.specs.Calls.{copied};
 ghost use Rattle.hedrugal.specs.PasteLines.{line_byte, lines};
+
+use crate::copying::put_behind;
 
 // What a byte becomes. `None` for an LF behind a CR.
 fn line_byte(is_behind_cr: bool, byte: u8) -> Option<u8>
@@ -11,15 +13,6 @@ fn line_byte(is_behind_cr: bool, byte: u8) -> Option<u8>
         b'\n' if is_behind_cr => None,
         b'\r' => Some(b'\n'),
         _ => Some(byte),
-    }
-}
-
-// Puts a byte behind those of a text that was copied, if there is room for it.
-fn put_behind(out: &mut [u8], len: usize, byte: u8)
-    ensures { (text before : List ℕ) → len ≡ length text → out.old ≡ copied text before → out.new ≡ copied (text ++ byte ∷ []) before }
-{
-    if len < out.len() {
-        out[len] = byte;
     }
 }
 

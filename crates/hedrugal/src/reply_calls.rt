@@ -3,7 +3,7 @@ ghost use Rattle.std.specs.Prelude.{◌≡◌, ◌≢◌, ◌⊎◌, IfOk, OnErr
 ghost use Rattle.termwiz_extended_events.specs.ReplyValues.{NeedsMemory};
 ghost use Rattle.hedrugal.specs.Replies.{Says, reply_in};
 
-use crate::copying::{copy_numbers, copy_prefix};
+use crate::copying::copy_prefix;
 use crate::events::{KIND_CSI, KIND_DCS, KIND_OSC};
 use crate::replies::{CReply, bytes_in, c_reply, numbers_of};
 use crate::status::{NO_MEMORY, NONE, OK};
@@ -46,7 +46,7 @@ pub extern "C" fn hed_read_reply(
     match reply_in(alloc, kind, bytes) {
         Ok(Some(found)) => {
             *reply = c_reply(&found);
-            copy_numbers(numbers_of(&found), numbers);
+            copy_prefix(numbers_of(&found), numbers);
             copy_prefix(bytes_in(&found), out);
             OK
         }

@@ -2,7 +2,7 @@
 ghost use Rattle.std.specs.Prelude.{◌≡◌, ◌≢◌, ◌⊎◌, ◌↔◌, None};
 ghost use Rattle.hedrugal.specs.SenderCalls.{IsTooFar, WroteMouse, WrotePaste, asked_in, button_in, encoding_in, modifiers_in, tracking_in};
 
-use crate::copying::copy_prefix;
+use crate::copying::write_out;
 use crate::status::{BAD_NUMBER, NO_MEMORY, OK, TOO_FAR};
 use bitflags::Flags;
 use std::alloc::Global;
@@ -88,29 +88,22 @@ fn encoding_in(number: u32) -> Option<MouseEncoding>
 pub(crate) fn modifiers_in(bits: u8) -> Option<Modifiers>
     ensures { result ≡ modifiers_in bits }
 {
-    if bits > 15 {
-        return None;
-    }
-    Some(Modifiers::from_bits_retain(2 * u16::from(bits)))
+    (bits <= 15).then_some(Modifiers::from_bits_retain(2 * u16::from(bits)))
 }
 
 // What the numbers ask for. `None` if one of them names nothing.
 fn asked_in(numbers: &CSentMouse, tracking: u32, encoding: u32) -> Option<Asked>
     ensures { result ≡ asked_in numbers.now tracking encoding }
 {
-    let button = button_in(numbers.button)?;
-    let modifiers = modifiers_in(numbers.modifiers)?;
-    let tracking = tracking_in(tracking)?;
-    let encoding = encoding_in(encoding)?;
     Some(Asked {
         report: MouseReport::SGR1006 {
             x: numbers.x,
             y: numbers.y,
-            button,
-            modifiers,
+            button: button_in(numbers.button)?,
+            modifiers: modifiers_in(numbers.modifiers)?,
         },
-        tracking,
-        encoding,
+        tracking: tracking_in(tracking)?,
+        encoding: encoding_in(encoding)?,
     })
 }
 
@@ -130,11 +123,10 @@ pub extern "C" fn hed_encode_paste(
     ensures same { result ≢ OK → out.new ≡ out.old }
 {
     *sent_len = 0;
-    let Ok(sent) = encode_paste(alloc, text, bracketed) else {
-        return NO_MEMORY;
-    };
-    *sent_len = copy_prefix(&sent, out);
-    OK
+    match encode_paste(alloc, text, bracketed) {
+        Ok(sent) => write_out(&sent, out, sent_len),
+        Err(_) => NO_MEMORY,
+    }
 }
 
 /// Writes what a terminal sends for a mouse report, if the program asked for these reports in this encoding, as [`hed_encode_paste`] does.
@@ -159,10 +151,7 @@ pub extern "C" fn hed_encode_mouse(
         return BAD_NUMBER;
     };
     match encode_mouse(alloc, &asked.report, asked.tracking, asked.encoding) {
-        Ok(sent) => {
-            *sent_len = copy_prefix(&sent, out);
-            OK
-        }
+        Ok(sent) => write_out(&sent, out, sent_len),
         Err(MouseError::TooFar) => TOO_FAR,
         Err(MouseError::Memory) => NO_MEMORY,
     }

@@ -6,7 +6,7 @@ ghost use Rattle.hedrugal.specs.SentNames as rules;
 ghost use Rattle.hedrugal.specs.SentNames.{Appends, AreNoModes, AreSent, HasNoSequence, HasUnsentName, IsNotSent, IsUnsent, SentNames};
 ghost use Rattle.hedrugal.specs.declared.sent_names.NotSent.TheVariants as reasons;
 
-use crate::copying::copy_prefix;
+use crate::copying::write_out;
 use crate::modes::{CModes, modes_of};
 use crate::name_calls::chord_named;
 use crate::sender_calls::modifiers_in;
@@ -97,12 +97,11 @@ fn keyboard_report(alloc: Global, press: KeyPress) -> Result<KeyReport, AllocErr
     })
 }
 
+// What is sent, if anything is. It fails if memory is refused.
+type MaybeText = Result<Option<String>, AllocError>;
+
 // What is sent for a press by Kitty's protocol under these flags.
-fn kitty_text(
-    alloc: Global,
-    press: KeyPress,
-    flags: KittyKeyboardFlags,
-) -> Result<Option<String>, AllocError>
+fn kitty_text(alloc: Global, press: KeyPress, flags: KittyKeyboardFlags) -> MaybeText
     ensures some { IfOk result (λ sent. IfSome sent (λ text. rules.kitty_sent flags press ≡ Some (string_bytes text))) }
     ensures none { IfOk result (λ sent. IfNone sent (HasNoSequence flags press)) }
 {
@@ -116,11 +115,7 @@ fn kitty_text(
 }
 
 // What is sent for a press without that protocol.
-fn plain_text(
-    alloc: Global,
-    press: KeyPress,
-    modes: KeyCodeEncodeModes,
-) -> Result<Option<String>, AllocError>
+fn plain_text(alloc: Global, press: KeyPress, modes: KeyCodeEncodeModes) -> MaybeText
     ensures some { IfOk result (λ sent. IfSome sent (λ text. rules.plain_sent modes press ≡ Some (string_bytes text))) }
     ensures none { IfOk result (λ sent. IfNone sent (rules.plain_sent modes press ≡ None)) }
 {
@@ -138,19 +133,13 @@ fn plain_text(
 }
 
 // What is sent for a press in these modes.
-fn press_text(
-    alloc: Global,
-    press: KeyPress,
-    modes: KeyCodeEncodeModes,
-) -> Result<Option<String>, AllocError>
+fn press_text(alloc: Global, press: KeyPress, modes: KeyCodeEncodeModes) -> MaybeText
     ensures some { IfOk result (λ sent. IfSome sent (λ text. rules.press_sent modes press ≡ string_bytes text)) }
     ensures none { IfOk result (λ sent. IfNone sent (IsUnsent modes press)) }
 {
     match modes.encoding {
         KeyboardEncoding::Kitty(flags) => kitty_text(alloc, press, flags),
-        KeyboardEncoding::Xterm | KeyboardEncoding::CsiU | KeyboardEncoding::Win32 => {
-            plain_text(alloc, press, modes)
-        }
+        _ => plain_text(alloc, press, modes),
     }
 }
 
@@ -253,10 +242,7 @@ pub extern "C" fn hed_send_names(
         }
     };
     match chord_text(alloc, &chord, modes) {
-        Ok(sent) => {
-            *sent_len = copy_prefix(sent.as_bytes(), out);
-            OK
-        }
+        Ok(sent) => write_out(sent.as_bytes(), out, sent_len),
         Err(NotSent::Place(place)) => {
             *at = name_start(text, place);
             REFUSED_KEY

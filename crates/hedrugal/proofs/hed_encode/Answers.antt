@@ -11,8 +11,8 @@ returns-in-Ok-clause-text c = λ is.
       string_bytes c.in-Ok.text,
       (c.in-Some.ensures press).0 refl,
       sent_is press c.args.is_down (string_bytes c.in-Ok.text) c.in-Ok.ensures.text c.in-Ok.ensures.up,
-      c.copy_prefix.ensures.len ∙ ap length c.as_bytes.ensures.value,
-      c.copy_prefix.ensures.bytes ∙ ap (λ text. copied text c.args.out.now) c.as_bytes.ensures.value,
+      c.write_out.ensures.len ∙ ap length c.as_bytes.ensures.value,
+      c.write_out.ensures.bytes ∙ ap (λ text. copied text c.args.out.now) c.as_bytes.ensures.value,
     )
 
 pub returns-in-Ok-clause-refused_key : goal.returns-in-Ok-clause-refused_key

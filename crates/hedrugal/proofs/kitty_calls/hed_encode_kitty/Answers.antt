@@ -78,8 +78,8 @@ returns-in-Ok-encode_kitty-clause-text c = λ is.
       ),
       subst (λ flags. kitty_text told flags ≡ Some sent) asked.0 c.in-Ok-encode_kitty.ensures.text,
       subst (λ flags. IsWithin told flags sent) asked.0 c.in-Ok-encode_kitty.ensures.within,
-      c.copy_prefix.ensures.len ∙ ap length c.as_bytes.ensures.value,
-      c.copy_prefix.ensures.bytes ∙ ap (λ text. copied text c.args.out.now) c.as_bytes.ensures.value,
+      c.write_out.ensures.len ∙ ap length c.as_bytes.ensures.value,
+      c.write_out.ensures.bytes ∙ ap (λ text. copied text c.args.out.now) c.as_bytes.ensures.value,
     )
 
 pub returns-in-Ok-encode_kitty-clause-bad_number : goal.returns-in-Ok-encode_kitty-clause-bad_number

@@ -18,8 +18,8 @@ returns-in-Ok-chord_text-clause-sent c = λ is. (
   c.in-Ok.ensures.ok,
   (c.in-Some.ensures c.in-Some.modes).0 refl,
   c.in-Ok-chord_text.ensures.sent,
-  c.copy_prefix.ensures.len ∙ ap length c.as_bytes.ensures.value,
-  c.copy_prefix.ensures.bytes ∙ ap (λ text. copied text c.args.out.now) c.as_bytes.ensures.value,
+  c.write_out.ensures.len ∙ ap length c.as_bytes.ensures.value,
+  c.write_out.ensures.bytes ∙ ap (λ text. copied text c.args.out.now) c.as_bytes.ensures.value,
 )
 
 pub returns-in-Ok-chord_text-clause-bad_number : goal.returns-in-Ok-chord_text-clause-bad_number
