@@ -22,11 +22,7 @@ pub extern "C" fn hed_bindings_init(alloc: Global, bindings: &mut BindingsHandle
     let none = ChordBindings {
         chords: Bindings::new(alloc),
     };
-    if bindings.view().replace(alloc, none) {
-        OK
-    } else {
-        NO_MEMORY
-    }
+    bindings.view().replace(alloc, none)
 }
 
 /// Frees the bindings, if there are some, and leaves none.

@@ -1,7 +1,8 @@
 // A parser, a key map or bindings behind a pointer.
-ghost use Rattle.std.specs.Prelude.{◌≡◌, None, Some, is_some, true, false};
+ghost use Rattle.std.specs.Prelude.{◌≡◌, ◌⊎◌, None, Some, is_some};
 
 use crate::slot::Slot;
+use crate::status::{NO_MEMORY, OK};
 use std::alloc::Global;
 
 mod lends;
@@ -45,15 +46,16 @@ impl<T: Drop> Holder<T> {
         std::mem::replace(self, Holder::empty()).close(alloc);
     }
 
-    // Puts `held` into the holder, and frees what was there. If memory is refused, the answer is false and nothing changes.
-    pub(crate) fn replace(&mut self, alloc: Global, held: T) -> bool
-        ensures made { result ≡ true → self.new.slot.held ≡ Some held }
-        ensures refused { result ≡ false → self.new ≡ self.old }
+    // Puts `held` into the holder, and frees what was there. Returns `NO_MEMORY` if memory is refused, and then nothing changes.
+    pub(crate) fn replace(&mut self, alloc: Global, held: T) -> u32
+        ensures answers { (result ≡ OK) ⊎ (result ≡ NO_MEMORY) }
+        ensures made { result ≡ OK → self.new.slot.held ≡ Some held }
+        ensures refused { result ≡ NO_MEMORY → self.new ≡ self.old }
     {
         let Ok(block) = Box::new(alloc, held) else {
-            return false;
+            return NO_MEMORY;
         };
         std::mem::replace(self, Holder::of(block)).close(alloc);
-        true
+        OK
     }
 }

@@ -28,11 +28,7 @@ pub extern "C" fn hed_keymap_init(alloc: Global, map: &mut MapHandle) -> u32
     let empty = Bindings {
         map: KeyMap::new(alloc),
     };
-    if map.view().replace(alloc, empty) {
-        OK
-    } else {
-        NO_MEMORY
-    }
+    map.view().replace(alloc, empty)
 }
 
 /// Frees the key map, if there is one, and leaves none.
@@ -81,14 +77,14 @@ pub extern "C" fn hed_keymap_lookup(
     let Some(held) = map.get_mut() else {
         return NOT_INITIALIZED;
     };
-    match held.lookup(text, maybe_more) {
+    match held.map.lookup(text, maybe_more) {
         Found::None => NONE,
         Found::Exact(len, value) => {
-            *found = CMatch { len, value };
+            *found = CMatch { len, value: *value };
             OK
         }
         Found::Ambiguous(len, value) => {
-            *found = CMatch { len, value };
+            *found = CMatch { len, value: *value };
             AMBIGUOUS
         }
         Found::NeedData => NEED_DATA,

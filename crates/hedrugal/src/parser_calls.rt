@@ -41,11 +41,7 @@ pub extern "C" fn hed_parser_init(alloc: Global, parser: &mut ParserHandle, dial
     let Ok(made) = TimedParser::new(alloc, dialect) else {
         return NO_MEMORY;
     };
-    if parser.view().replace(alloc, ParserAndText::of(alloc, made)) {
-        OK
-    } else {
-        NO_MEMORY
-    }
+    parser.view().replace(alloc, ParserAndText::of(alloc, made))
 }
 
 /// Makes a parser of the dialect with this number that has the sequence table of another, and frees the one that was there.
@@ -73,11 +69,7 @@ pub extern "C" fn hed_parser_init_sharing(
     let Ok(made) = held.parser.sharing(dialect) else {
         return NO_MEMORY;
     };
-    if parser.view().replace(alloc, ParserAndText::of(alloc, made)) {
-        OK
-    } else {
-        NO_MEMORY
-    }
+    parser.view().replace(alloc, ParserAndText::of(alloc, made))
 }
 
 /// Frees the parser, if there is one, and leaves none.
@@ -148,10 +140,9 @@ pub extern "C" fn hed_parser_text(parser: &mut ParserHandle, out: &mut [u8]) -> 
 pub extern "C" fn hed_parser_drop_text(alloc: Global, parser: &mut ParserHandle)
     ensures { HasDroppedText parser.old.state.held parser.new.state.held }
 {
-    let Some(held) = parser.get_mut() else {
-        return;
-    };
-    held.text = Vec::new(alloc);
+    if let Some(held) = parser.get_mut() {
+        held.text = Vec::new(alloc);
+    }
 }
 
 /// How many milliseconds the program may wait for input: 0 until all is told, else until what is buffered is due, and -1 for ever.
@@ -171,10 +162,9 @@ pub extern "C" fn hed_parser_timeout(parser: &mut ParserHandle, now: u64) -> i32
 pub extern "C" fn hed_parser_idle(parser: &mut ParserHandle, now: u64)
     ensures { (due : Bool) × Calls parser.old.state.held (Idle now due) parser.new.state.held }
 {
-    let Some(held) = parser.get_mut() else {
-        return;
-    };
-    held.parser.idle(now);
+    if let Some(held) = parser.get_mut() {
+        held.parser.idle(now);
+    }
 }
 
 /// Reads what is buffered with no more to come. An open paste stays open.
@@ -182,10 +172,9 @@ pub extern "C" fn hed_parser_idle(parser: &mut ParserHandle, now: u64)
 pub extern "C" fn hed_parser_flush(parser: &mut ParserHandle)
     ensures { Calls parser.old.state.held Flush parser.new.state.held }
 {
-    let Some(held) = parser.get_mut() else {
-        return;
-    };
-    held.parser.flush();
+    if let Some(held) = parser.get_mut() {
+        held.parser.flush();
+    }
 }
 
 /// Says that nothing will ever come. An open paste ends where it is.
@@ -193,10 +182,9 @@ pub extern "C" fn hed_parser_flush(parser: &mut ParserHandle)
 pub extern "C" fn hed_parser_end(parser: &mut ParserHandle)
     ensures { Calls parser.old.state.held End parser.new.state.held }
 {
-    let Some(held) = parser.get_mut() else {
-        return;
-    };
-    held.parser.end();
+    if let Some(held) = parser.get_mut() {
+        held.parser.end();
+    }
 }
 
 /// Says that another program had the terminal up to now.
@@ -242,10 +230,9 @@ pub extern "C" fn hed_parser_set_policy(parser: &mut ParserHandle, policy: &CPol
 pub extern "C" fn hed_parser_set_parts(parser: &mut ParserHandle, limit: usize)
     ensures { Calls parser.old.state.held (SetParts (parts_in limit)) parser.new.state.held }
 {
-    let Some(held) = parser.get_mut() else {
-        return;
-    };
-    held.parser.set_parts(parts_in(limit));
+    if let Some(held) = parser.get_mut() {
+        held.parser.set_parts(parts_in(limit));
+    }
 }
 
 /// Forgets text of an open paste, and sets `count` to how many bytes these were.
@@ -286,11 +273,10 @@ pub extern "C" fn hed_parser_reset(parser: &mut ParserHandle) -> usize
 pub extern "C" fn hed_parser_shrink_to(parser: &mut ParserHandle, min_capacity: usize)
     ensures { IsUnchanged parser.old.state.held parser.new.state.held }
 {
-    let Some(held) = parser.get_mut() else {
-        return;
-    };
-    held.parser.shrink_to(min_capacity);
-    held.text.shrink_to_fit();
+    if let Some(held) = parser.get_mut() {
+        held.parser.shrink_to(min_capacity);
+        held.text.shrink_to_fit();
+    }
 }
 
 /// How many bytes are buffered; 0 if there is no parser.

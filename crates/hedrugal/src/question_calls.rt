@@ -141,10 +141,9 @@ pub extern "C" fn hed_questions_forget(questions: &mut CQuestions, parser: &mut 
     ensures parser { Calls parser.old.state.held ForgetPositions parser.new.state.held }
 {
     questions.count = 0;
-    let Some(held) = parser.get_mut() else {
-        return;
-    };
-    held.parser.forget_positions();
+    if let Some(held) = parser.get_mut() {
+        held.parser.forget_positions();
+    }
 }
 
 /// How many milliseconds are left until a question is overdue: -1 if none is open, or more are counted than may be.
