@@ -1,21 +1,12 @@
 // Presses and chords in numbers.
-ghost use Rattle.std.specs.Prelude.{◌≡◌, ◌↔◌, List, Some, length, IfSome, IfNone, IsTrue};
+ghost use Rattle.std.specs.Prelude.{◌≡◌, List, Some, length, IfSome, IfNone};
 ghost use Rattle.termwiz_bindings.specs.declared.press.KeyPress.{KeyPress as Pressed};
 ghost use Rattle.hedrugal.specs.Chords.{AreOfChord, AreOfPress, AreOfPresses, IsCodeOf, with_presses};
-ghost use Rattle.hedrugal.specs.PressCalls.{c_press as numbers_of};
 
 use crate::press_calls::{CKeyPress, c_press};
 use termwiz_bindings::chord::{CODE_LEN, Chord, MAX_KEYS, is_code};
 use termwiz_bindings::numbers::reported_key;
 use termwiz_bindings::press::KeyPress;
-
-// Whether these are the numbers of a press.
-fn are_of(numbers: &CKeyPress, press: KeyPress) -> bool
-    ensures { IsTrue result ↔ (numbers.now ≡ numbers_of press) }
-{
-    let own = c_press(press);
-    own.key == numbers.key && own.held == numbers.held && own.detail == numbers.detail
-}
 
 // The press that has these numbers.
 pub(crate) fn press_of(numbers: &CKeyPress) -> Option<KeyPress>
@@ -24,11 +15,7 @@ pub(crate) fn press_of(numbers: &CKeyPress) -> Option<KeyPress>
 {
     let key = reported_key(numbers.key, numbers.detail)?;
     let press = KeyPress::new(key, numbers.held)?;
-    if are_of(numbers, press) {
-        Some(press)
-    } else {
-        None
-    }
+    (c_press(press) == *numbers).then_some(press)
 }
 
 // The code of the press that has these numbers.

@@ -36,10 +36,7 @@ fn character_of(code: u32) -> Option<Option<char>>
     if code == NO_CODE {
         return Some(None);
     }
-    match char::from_u32(code) {
-        Some(character) => Some(Some(character)),
-        None => None,
-    }
+    Some(Some(char::from_u32(code)?))
 }
 
 // The report that the numbers stand for, with no text.

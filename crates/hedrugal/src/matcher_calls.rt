@@ -80,11 +80,7 @@ fn c_outcome(outcome: Outcome<&u64>) -> COutcome
         Outcome::Bound { keys, value } => COutcome {
             keys,
             value: *value,
-            press: CKeyPress {
-                key: 0,
-                held: 0,
-                detail: 0,
-            },
+            press: CKeyPress::default(),
             kind: OUTCOME_BOUND,
         },
         Outcome::Unbound(press) => COutcome {
@@ -140,11 +136,7 @@ fn either_of(keys: &[CKeyPress]) -> Option<(KeyPress, Option<KeyPress>)>
         return None;
     }
     let presses = chord_of(keys)?;
-    let Some(first) = presses.get(0) else {
-        return None;
-    };
-    let second = presses.get(1);
-    Some((first, second))
+    Some((presses.get(0)?, presses.get(1)))
 }
 
 /// Puts the first of the presses behind those that are pending, or the second, if there is one, and only it leads on.
@@ -264,10 +256,7 @@ pub extern "C" fn hed_matcher_is_dead_end(matcher: &CMatcher, bindings: &mut Bin
     let Some(held) = bindings.get_mut() else {
         return false;
     };
-    if pending.is_dead_end(&held.chords) {
-        return true;
-    }
-    false
+    pending.is_dead_end(&held.chords)
 }
 
 /// Copies the presses that are pending, as many as `keys` has room for, and returns how many they are. If the bytes are the codes of no

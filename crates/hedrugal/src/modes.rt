@@ -71,17 +71,13 @@ fn encoding_of(number: u8, kitty_flags: u8) -> Option<KeyboardEncoding>
 pub(crate) fn modes_of(modes: &CModes) -> Option<KeyCodeEncodeModes>
     ensures { (m : Modes) → (result ≡ Some m) ↔ AreModes m modes.now }
 {
-    let encoding = encoding_of(modes.encoding, modes.kitty_flags)?;
-    let modify_other_keys = if modes.has_modify_other_keys {
-        Some(modes.modify_other_keys)
-    } else {
-        None
-    };
     Some(KeyCodeEncodeModes {
-        encoding,
+        encoding: encoding_of(modes.encoding, modes.kitty_flags)?,
         application_cursor_keys: modes.application_cursor_keys,
         newline_mode: modes.newline_mode,
-        modify_other_keys,
+        modify_other_keys: modes
+            .has_modify_other_keys
+            .then_some(modes.modify_other_keys),
     })
 }
 

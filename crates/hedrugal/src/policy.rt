@@ -23,11 +23,7 @@ pub struct CPolicy {
 pub(crate) fn limit_in(millis: i32) -> Option<u32>
     ensures { result ≡ limit_in millis }
 {
-    if millis.is_negative() {
-        None
-    } else {
-        Some(millis.unsigned_abs())
-    }
+    u32::try_from(millis).ok()
 }
 
 // A limit of a policy; the usual one if it is 0.

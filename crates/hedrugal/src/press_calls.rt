@@ -17,7 +17,7 @@ use termwiz_bindings::press::KeyPress;
 
 /// `hed_key_press`: the press of a key in numbers.
 #[repr(C)]
-#[derive(Clone, Copy)]
+#[derive(Clone, Copy, Default, PartialEq)]
 pub struct CKeyPress {
     /// The number of the key, or 0 for a key without a name.
     pub key: u16,

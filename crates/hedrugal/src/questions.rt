@@ -127,32 +127,21 @@ fn is_reply_kind(kind: u8) -> bool
     )
 }
 
-// Whether this is a digit or a semicolon.
-fn is_of_numbers(byte: u8) -> bool
-    ensures { result ≡ is_of_numbers byte }
-{
-    byte.is_ascii_digit() || byte == b';'
-}
-
-// Whether all are such.
+// Whether each is a digit or a semicolon.
 fn are_numbers(bytes: &[u8]) -> bool
     ensures { result ≡ list_all is_of_numbers bytes.now }
 {
-    bytes.iter().all(|byte| is_of_numbers(*byte))
+    bytes
+        .iter()
+        .all(|byte| byte.is_ascii_digit() || *byte == b';')
 }
 
 // Whether this is what the reply to DA1 brings.
 fn is_da1_reply(bytes: &[u8]) -> bool
     ensures { result ≡ is_da1_reply bytes.now }
 {
-    if bytes.len() < 3 {
-        return false;
-    }
-    let last = bytes.len() - 1;
-    bytes[0] == b'?'
-        && bytes[last] == b'c'
-        && bytes[1].is_ascii_digit()
-        && are_numbers(&bytes[1..last])
+    matches!(bytes, [b'?', digit, .., b'c'] if digit.is_ascii_digit())
+        && are_numbers(&bytes[1..bytes.len() - 1])
 }
 
 impl CQuestions {

@@ -56,17 +56,6 @@ pub(crate) fn dialect_at(number: u32) -> Option<Dialect>
     }
 }
 
-// The number of a dialect.
-#[tactic(auto, unfolding(crate::specs::Events::dialect_number))]
-fn dialect_number(dialect: Dialect) -> u32
-    ensures { result ≡ dialect_number dialect }
-{
-    match dialect {
-        Dialect::Extended => DIALECT_EXTENDED,
-        Dialect::Termwiz => DIALECT_TERMWIZ,
-    }
-}
-
 // The byte of the Backspace key that has this number.
 #[tactic(auto, unfolding(crate::specs::Events::erase_number))]
 fn erase_at(number: u32) -> Option<EraseByte>
@@ -77,17 +66,6 @@ fn erase_at(number: u32) -> Option<EraseByte>
         ERASE_DELETE => Some(EraseByte::Delete),
         ERASE_BACKSPACE => Some(EraseByte::Backspace),
         _ => None,
-    }
-}
-
-// The number of the byte of the Backspace key.
-#[tactic(auto, unfolding(crate::specs::Events::erase_number))]
-fn erase_number(erase: EraseByte) -> u32
-    ensures { result ≡ erase_number erase }
-{
-    match erase {
-        EraseByte::Delete => ERASE_DELETE,
-        EraseByte::Backspace => ERASE_BACKSPACE,
     }
 }
 
@@ -104,37 +82,17 @@ fn newline_at(number: u32) -> Option<NewlineByte>
     }
 }
 
-// The number of what byte 10 is.
-#[tactic(auto, unfolding(crate::specs::Events::newline_number))]
-fn newline_number(newline: NewlineByte) -> u32
-    ensures { result ≡ newline_number newline }
-{
-    match newline {
-        NewlineByte::CtrlJ => NEWLINE_CTRL_J,
-        NewlineByte::Enter => NEWLINE_ENTER,
-    }
-}
-
 // The reading that the numbers stand for.
 fn reading_of(numbers: &CReading) -> Option<Reading>
     ensures some { IfSome result (λ reading. StandFor numbers.now reading) }
     ensures none { IfNone result (IsBadReading numbers.now) }
 {
-    let Some(dialect) = dialect_at(numbers.dialect) else {
-        return None;
-    };
-    let Some(erase) = erase_at(numbers.erase) else {
-        return None;
-    };
-    let Some(newline) = newline_at(numbers.newline) else {
-        return None;
-    };
     Some(Reading {
-        dialect,
+        dialect: dialect_at(numbers.dialect)?,
         x10_mouse: numbers.x10_mouse,
         questions: numbers.questions,
-        erase,
-        newline,
+        erase: erase_at(numbers.erase)?,
+        newline: newline_at(numbers.newline)?,
     })
 }
 
@@ -159,6 +117,7 @@ pub extern "C" fn hed_parser_set_reading(parser: &mut ParserHandle, reading: &CR
 }
 
 /// How a parser reads.
+#[tactic(auto, unfolding(crate::specs::Events::dialect_number, crate::specs::Events::erase_number, crate::specs::Events::newline_number))]
 #[unsafe(no_mangle)]
 pub extern "C" fn hed_parser_reading(parser: &mut ParserHandle, reading: &mut CReading) -> u32
     ensures answers { (result ≡ OK) ⊎ (result ≡ NOT_INITIALIZED) }
@@ -172,9 +131,9 @@ pub extern "C" fn hed_parser_reading(parser: &mut ParserHandle, reading: &mut CR
     };
     let now = held.parser.reading();
     *reading = CReading {
-        dialect: dialect_number(now.dialect),
-        erase: erase_number(now.erase),
-        newline: newline_number(now.newline),
+        dialect: now.dialect as u32,
+        erase: now.erase as u32,
+        newline: now.newline as u32,
         x10_mouse: now.x10_mouse,
         questions: now.questions,
     };
@@ -186,10 +145,9 @@ pub extern "C" fn hed_parser_reading(parser: &mut ParserHandle, reading: &mut CR
 pub extern "C" fn hed_parser_expect_position(parser: &mut ParserHandle)
     ensures { Calls parser.old.state.held ExpectPosition parser.new.state.held }
 {
-    let Some(held) = parser.get_mut() else {
-        return;
-    };
-    held.parser.expect_position();
+    if let Some(held) = parser.get_mut() {
+        held.parser.expect_position();
+    }
 }
 
 /// Expects no reply any more to questions for the cursor's position.
@@ -197,8 +155,7 @@ pub extern "C" fn hed_parser_expect_position(parser: &mut ParserHandle)
 pub extern "C" fn hed_parser_forget_positions(parser: &mut ParserHandle)
     ensures { Calls parser.old.state.held ForgetPositions parser.new.state.held }
 {
-    let Some(held) = parser.get_mut() else {
-        return;
-    };
-    held.parser.forget_positions();
+    if let Some(held) = parser.get_mut() {
+        held.parser.forget_positions();
+    }
 }

@@ -55,7 +55,7 @@ const COLOUR_SCHEME_LIGHT: u8 = 2;
 
 /// `hed_reply`: what a reply says, in numbers. What its kind has no use for is 0.
 #[repr(C)]
-#[derive(Clone, Copy)]
+#[derive(Clone, Copy, Default)]
 pub struct CReply {
     /// 1 for device attributes, 2 for the state of a mode, 3 for a colour, 4 for a version, 5 for the size of the window, 6 for the
     /// colour scheme, and 7 for what is in the clipboard.
@@ -89,25 +89,6 @@ pub struct CReply {
     /// How many numbers or bytes the reply brings.
     pub len: usize,
 }
-
-// All zero.
-const NO_VALUES: CReply = CReply {
-    kind: 0,
-    report: 0,
-    state: 0,
-    is_private: false,
-    name: 0,
-    scheme: 0,
-    selection: 0,
-    index: 0,
-    red: 0,
-    green: 0,
-    blue: 0,
-    rows: 0,
-    columns: 0,
-    mode: 0,
-    len: 0,
-};
 
 // The number of a report of attributes.
 #[tactic(auto, unfolding(crate::specs::Replies::report_number))]
@@ -200,7 +181,7 @@ pub(crate) fn c_reply(reply: &Reply) -> CReply
             kind: REPLY_DEVICE_ATTRIBUTES,
             report: report_number(*report),
             len: numbers.as_slice().len(),
-            ..NO_VALUES
+            ..CReply::default()
         },
         Reply::Mode {
             mode,
@@ -211,7 +192,7 @@ pub(crate) fn c_reply(reply: &Reply) -> CReply
             state: state_number(*state),
             is_private: *is_private,
             mode: *mode,
-            ..NO_VALUES
+            ..CReply::default()
         },
         Reply::Colour { name, colour } => CReply {
             kind: REPLY_COLOUR,
@@ -220,29 +201,29 @@ pub(crate) fn c_reply(reply: &Reply) -> CReply
             red: colour.red,
             green: colour.green,
             blue: colour.blue,
-            ..NO_VALUES
+            ..CReply::default()
         },
         Reply::Version(text) => CReply {
             kind: REPLY_VERSION,
             len: text.as_slice().len(),
-            ..NO_VALUES
+            ..CReply::default()
         },
         Reply::WindowSize { rows, columns } => CReply {
             kind: REPLY_WINDOW_SIZE,
             rows: *rows,
             columns: *columns,
-            ..NO_VALUES
+            ..CReply::default()
         },
         Reply::ColourScheme(scheme) => CReply {
             kind: REPLY_COLOUR_SCHEME,
             scheme: scheme_number(*scheme),
-            ..NO_VALUES
+            ..CReply::default()
         },
         Reply::Clipboard { selection, bytes } => CReply {
             kind: REPLY_CLIPBOARD,
             selection: selection.unwrap_or(0),
             len: bytes.as_slice().len(),
-            ..NO_VALUES
+            ..CReply::default()
         },
     }
 }

@@ -72,12 +72,8 @@ impl CTimer {
             Age::Last => self.last,
             Age::Front => self.front,
         };
-        let step = if self.has_noted {
-            now.saturating_sub(self.noted)
-        } else {
-            0
-        };
-        age.saturating_add(step)
+        let since = if self.has_noted { self.noted } else { now };
+        age.saturating_add(now.saturating_sub(since))
     }
 
     // The timer after a note.
@@ -111,12 +107,9 @@ pub extern "C" fn hed_timer_note(timer: &mut CTimer, now: u64, seen: &CSeen) -> 
     ensures no_age { (result ≡ BAD_NUMBER) ↔ (IsNoAge timer.old.by ⊎ IsNoAge seen.now.by) }
     ensures same { result ≡ BAD_NUMBER → timer.new ≡ timer.old }
 {
-    let Some(_) = age_in(timer.by) else {
+    if age_in(timer.by).is_none() || age_in(seen.by).is_none() {
         return BAD_NUMBER;
-    };
-    let Some(_) = age_in(seen.by) else {
-        return BAD_NUMBER;
-    };
+    }
     *timer = timer.noted(now, seen);
     OK
 }
@@ -126,11 +119,10 @@ pub extern "C" fn hed_timer_note(timer: &mut CTimer, now: u64, seen: &CSeen) -> 
 pub extern "C" fn hed_timer_timeout(timer: &CTimer, now: u64) -> i32
     ensures { result ≡ poll_millis timer.now now }
 {
-    let Some(by) = age_in(timer.by) else {
-        return -1;
-    };
-    if !timer.has_limit {
-        return -1;
+    match age_in(timer.by) {
+        Some(by) if timer.has_limit => {
+            c_millis(Some(timer.millis.saturating_sub(timer.age(by, now))))
+        }
+        _ => -1,
     }
-    c_millis(Some(timer.millis.saturating_sub(timer.age(by, now))))
 }

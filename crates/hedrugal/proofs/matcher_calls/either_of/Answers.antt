@@ -9,5 +9,5 @@ returns-in_err-presses-clause-none c =
 
 pub returns-clause-some : goal.returns-clause-some
 returns-clause-some c =
-    either_found c.args.keys.now c.in_ok-presses.presses c.get.result c.get-second.result c.in-Some.first
-    (omega (arith, c.if-keys-gt2.false)) c.in_ok-presses.ensures.some c.get.ensures.press c.in-Some.is c.get-second.ensures.press
+    either_found c.args.keys.now c.in_ok-presses.presses c.get.result c.get-2.result c.in_ok-get.field-0
+    (omega (arith, c.if-keys-gt2.false)) c.in_ok-presses.ensures.some c.get.ensures.press c.in_ok-get.was c.get-2.ensures.press
