@@ -1,6 +1,9 @@
 // What happens at a terminal, and what it replies.
 use crate::error::{numbered, FAULT};
-use crate::{raw, KeyCode, KeyPress, KittyKeyboardFlags, KittyModifiers, Modifiers, MouseButtons};
+use crate::{
+    raw, KeyCode, KeyPress, KittyKeyboardFlags, KittyModifiers, Modifiers, MouseButtons,
+    SequenceBytes,
+};
 
 /// What happened to a key.
 #[derive(Debug, Clone, Copy, PartialEq, Eq, Hash)]
@@ -129,7 +132,7 @@ pub struct Size {
 ///
 /// let mut parser = Parser::new(Dialect::Extended);
 /// parser.feed(Instant::now(), b"\x1b[I\x1b[?62;22c");
-/// assert!(parser.eq([Event::FocusGained, Event::Csi(b"?62;22c".to_vec())]));
+/// assert!(parser.eq([Event::FocusGained, Event::Csi(b"?62;22c".into())]));
 /// ```
 #[derive(Debug, Clone, PartialEq, Eq)]
 #[cfg_attr(feature = "serde", derive(serde::Serialize, serde::Deserialize))]
@@ -160,13 +163,13 @@ pub enum Event {
     /// The reply to a question for the flags of Kitty's keyboard protocol.
     KeyboardFlags(KittyKeyboardFlags),
     /// Any other control sequence: its bytes after ESC `[`.
-    Csi(Vec<u8>),
+    Csi(SequenceBytes),
     /// An operating system command: its bytes after ESC `]`, without its end.
-    Osc(Vec<u8>),
+    Osc(SequenceBytes),
     /// A device control string: its bytes after ESC `P`, without its end.
-    Dcs(Vec<u8>),
+    Dcs(SequenceBytes),
     /// An application program command: its bytes after ESC `_`, without its end.
-    Apc(Vec<u8>),
+    Apc(SequenceBytes),
     /// The first bytes of a long string whose end is still to come. The next such event, or the
     /// string's own, goes on with it. Its bytes begin with those that opened the string once more,
     /// such as `52;`.
@@ -174,14 +177,14 @@ pub enum Event {
         /// The kind of the string.
         kind: StringKind,
         /// The bytes after its introducer, 65533 of them.
-        bytes: Vec<u8>,
+        bytes: SequenceBytes,
     },
     /// A string that was cut off: another sequence followed it, or nothing for too long.
     StringCut {
         /// The kind of the string.
         kind: StringKind,
         /// Its bytes after its introducer.
-        bytes: Vec<u8>,
+        bytes: SequenceBytes,
     },
     /// Another program had the terminal while this one was stopped, so draw all of it. `Resized`
     /// follows, since the size may be new. Only a [`Terminal`](crate::terminal::Terminal) tells it.
@@ -218,15 +221,12 @@ impl Event {
         Event::Key(KeyReport::of(event, String::new()))
     }
 
-    // An event of the library, and the bytes that it brought. It isn't inlined: so each field is
-    // written to its place alone.
-    #[inline(never)]
-    pub(crate) fn of(event: &raw::Event, text: Vec<u8>) -> Event {
-        match event.kind {
-            raw::KIND_KEY => Event::Key(KeyReport::of(event, utf8(text))),
+    // An event of the library that brings neither text nor bytes, and `None` for another one, as for
+    // every key.
+    #[inline]
+    pub(crate) fn of_numbers(event: &raw::Event) -> Option<Event> {
+        Some(match event.kind {
             raw::KIND_MOUSE => Event::Mouse(MouseReport::of(event)),
-            raw::KIND_PASTE => Event::Paste(utf8(text)),
-            raw::KIND_PASTE_PART => Event::PastePart(utf8(text)),
             raw::KIND_FOCUS_GAINED => Event::FocusGained,
             raw::KIND_FOCUS_LOST => Event::FocusLost,
             raw::KIND_CURSOR_POSITION => Event::CursorPosition {
@@ -242,19 +242,51 @@ impl Event {
             raw::KIND_KEYBOARD_FLAGS => {
                 Event::KeyboardFlags(KittyKeyboardFlags::from_bits_retain(event.flags.into()))
             }
-            raw::KIND_CSI => Event::Csi(text),
-            raw::KIND_OSC => Event::Osc(text),
-            raw::KIND_DCS => Event::Dcs(text),
-            raw::KIND_APC => Event::Apc(text),
+            _ => return None,
+        })
+    }
+
+    // A key or a paste of the library, and its text.
+    pub(crate) fn of_text(event: &raw::Event, text: String) -> Event {
+        match event.kind {
+            raw::KIND_KEY => Event::Key(KeyReport::of(event, text)),
+            raw::KIND_PASTE => Event::Paste(text),
+            raw::KIND_PASTE_PART => Event::PastePart(text),
+            _ => unreachable!("{FAULT}"),
+        }
+    }
+
+    // A control sequence or a string of the library, and its bytes.
+    #[inline]
+    pub(crate) fn of_bytes(event: &raw::Event, bytes: SequenceBytes) -> Event {
+        match event.kind {
+            raw::KIND_CSI => Event::Csi(bytes),
+            raw::KIND_OSC => Event::Osc(bytes),
+            raw::KIND_DCS => Event::Dcs(bytes),
+            raw::KIND_APC => Event::Apc(bytes),
             raw::KIND_STRING_PART => Event::StringPart {
                 kind: StringKind::of(event.string_kind),
-                bytes: text,
+                bytes,
             },
             raw::KIND_STRING_CUT => Event::StringCut {
                 kind: StringKind::of(event.string_kind),
-                bytes: text,
+                bytes,
             },
             _ => unreachable!("{FAULT}"),
+        }
+    }
+
+    // The bytes of a control sequence or a string, to be written.
+    #[inline]
+    pub(crate) fn bytes_mut(&mut self) -> &mut [u8] {
+        match self {
+            Event::Csi(bytes)
+            | Event::Osc(bytes)
+            | Event::Dcs(bytes)
+            | Event::Apc(bytes)
+            | Event::StringPart { bytes, .. }
+            | Event::StringCut { bytes, .. } => bytes.as_mut_slice(),
+            _ => &mut [],
         }
     }
 
@@ -332,6 +364,15 @@ impl raw::Event {
     #[inline]
     pub(crate) fn is_plain_key(&self) -> bool {
         self.kind == raw::KIND_KEY && self.text_len == 0
+    }
+
+    // Whether what the event brings is text, and not bytes.
+    #[inline]
+    pub(crate) fn brings_text(&self) -> bool {
+        matches!(
+            self.kind,
+            raw::KIND_KEY | raw::KIND_PASTE | raw::KIND_PASTE_PART
+        )
     }
 }
 
@@ -413,9 +454,4 @@ impl KeyReport {
             text,
         }
     }
-}
-
-// The text of an event.
-fn utf8(text: Vec<u8>) -> String {
-    String::from_utf8(text).expect(FAULT)
 }

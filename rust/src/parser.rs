@@ -3,7 +3,7 @@ use crate::entries::{Completions, EntryBytes};
 use crate::error::{granted, AllocError, FeedError, FAULT};
 use crate::input::KeyEvent;
 use crate::times::{wait_of, Clock};
-use crate::{raw, table, Dialect, Event, Policy, Reading};
+use crate::{raw, table, Dialect, Event, Policy, Reading, SequenceBytes};
 use std::fmt;
 use std::sync::{Mutex, MutexGuard, PoisonError};
 use std::time::{Duration, Instant};
@@ -149,20 +149,50 @@ impl Parser {
         self.told(status)
     }
 
-    // What isn't worth its code in each program that takes events.
+    // What isn't worth its code in each program that takes events. Each kind of event is written to
+    // its place at once.
     #[inline(never)]
     fn told(&mut self, status: u32) -> Result<Option<Event>, AllocError> {
-        self.told_by(status, Event::of)
+        if !is_told(status)? {
+            return Ok(None);
+        }
+        if let Some(event) = Event::of_numbers(&self.last.0) {
+            return Ok(Some(event));
+        }
+        match SequenceBytes::few_zeros(self.last.0.text_len) {
+            // The library writes few bytes where the event has them.
+            Some(few) if !self.last.0.brings_text() => {
+                let mut event = Event::of_bytes(&self.last.0, few);
+                self.write_text(event.bytes_mut());
+                Ok(Some(event))
+            }
+            _ => self.told_on_heap().map(Some),
+        }
     }
 
-    // Does what `try_next` does, as `of` makes an event of the library's and of the bytes that it
-    // brought.
+    // The last event, which brings text or many bytes.
+    #[inline(never)]
+    fn told_on_heap(&mut self) -> Result<Event, AllocError> {
+        if self.last.0.brings_text() {
+            let text = self.text()?;
+            Ok(Event::of_text(&self.last.0, text))
+        } else {
+            let bytes = self.all_bytes()?;
+            Ok(Event::of_bytes(&self.last.0, bytes.into()))
+        }
+    }
+
+    // Does what `try_next` does, as `of` makes an event of the library's and of its text.
     pub(crate) fn next_by<Told>(
         &mut self,
-        of: impl FnOnce(&raw::Event, Vec<u8>) -> Told,
+        of: impl FnOnce(&raw::Event, String) -> Told,
     ) -> Result<Option<Told>, AllocError> {
         let status = self.pull();
-        self.told_by(status, of)
+        if !is_told(status)? {
+            return Ok(None);
+        }
+        let text = self.text()?;
+        Ok(Some(of(&self.last.0, text)))
     }
 
     // Has the library tell an event, unless the last one is still to be told.
@@ -176,29 +206,27 @@ impl Parser {
         unsafe { raw::hed_parser_next(raw, &mut self.last.0) }
     }
 
-    // What the library told by such a status.
+    // The text that the last event brought.
     #[inline]
-    fn told_by<Told>(
-        &mut self,
-        status: u32,
-        of: impl FnOnce(&raw::Event, Vec<u8>) -> Told,
-    ) -> Result<Option<Told>, AllocError> {
-        match status {
-            raw::STATUS_OK => {}
-            raw::STATUS_NONE => return Ok(None),
-            status => granted(status)?,
+    fn text(&mut self) -> Result<String, AllocError> {
+        if self.last.0.text_len == 0 {
+            return Ok(String::new());
         }
-        let text = match self.last.0.text_len {
-            0 => Vec::new(),
-            len => self.text(len)?,
-        };
-        Ok(Some(of(&self.last.0, text)))
+        Ok(String::from_utf8(self.all_bytes()?).expect(FAULT))
+    }
+
+    // Copies the bytes that the last event brought to a slice for all of them.
+    #[inline]
+    fn write_text(&mut self, out: &mut [u8]) {
+        // SAFETY: `raw` is a parser. The call writes at most as many bytes as the slice has.
+        let len = unsafe { raw::hed_parser_text(self.raw(), out.as_mut_ptr(), out.len()) };
+        assert!(len == out.len(), "{FAULT}");
     }
 
     // The bytes that the last event brought. Once they are copied, the library frees the place of
     // many. That of few it keeps for the next event.
-    fn text(&mut self, len: usize) -> Result<Vec<u8>, AllocError> {
-        let mut text = Vec::new();
+    fn all_bytes(&mut self) -> Result<Vec<u8>, AllocError> {
+        let (mut text, len) = (Vec::new(), self.last.0.text_len);
         self.is_refused = text.try_reserve_exact(len).is_err();
         if self.is_refused {
             return Err(AllocError);
@@ -546,6 +574,16 @@ impl Parser {
     // The library's parser, for a call that has this one alone.
     pub(crate) fn raw(&mut self) -> &mut raw::Parser {
         self.raw.get_mut().unwrap_or_else(PoisonError::into_inner)
+    }
+}
+
+// Whether the library told an event.
+#[inline]
+fn is_told(status: u32) -> Result<bool, AllocError> {
+    match status {
+        raw::STATUS_OK => Ok(true),
+        raw::STATUS_NONE => Ok(false),
+        status => granted(status).map(|()| true),
     }
 }
 

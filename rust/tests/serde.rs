@@ -2,7 +2,7 @@
 use hedrugal::input::{InputEvent, KeyEvent, MouseEvent, PixelMouseEvent};
 use hedrugal::{
     Event, KeyCode, KeyEventKind, KeyReport, KittyKeyboardFlags, KittyModifiers, Modifiers,
-    MouseButtons, MouseKind, MouseReport, Policy, ReportedKey, Size, StringKind,
+    MouseButtons, MouseKind, MouseReport, Policy, ReportedKey, SequenceBytes, Size, StringKind,
 };
 use serde::de::DeserializeOwned;
 use serde::Serialize;
@@ -132,11 +132,13 @@ fn writes_and_reads_extended_events() {
     );
     let flags = Event::KeyboardFlags(KittyKeyboardFlags::REPORT_EVENT_TYPES);
     check(flags, r#"{"KeyboardFlags":"REPORT_EVENT_TYPES"}"#);
-    check(Event::Osc(b"1;".to_vec()), r#"{"Osc":[49,59]}"#);
-    let (kind, bytes) = (StringKind::Dcs, b">|".to_vec());
-    let cut = Event::StringCut { kind, bytes };
+    check(Event::Osc(b"1;".into()), r#"{"Osc":[49,59]}"#);
+    let (kind, bytes) = (StringKind::Dcs, SequenceBytes::from(b">|"));
+    let cut = Event::StringCut {
+        kind,
+        bytes: bytes.clone(),
+    };
     check(cut, r#"{"StringCut":{"kind":"Dcs","bytes":[62,124]}}"#);
-    let bytes = b">|".to_vec();
     let part = Event::StringPart { kind, bytes };
     check(part, r#"{"StringPart":{"kind":"Dcs","bytes":[62,124]}}"#);
 }

@@ -184,7 +184,7 @@ fn goes_on_with_a_parser() {
         let rest = [
             Event::StringCut {
                 kind: StringKind::Osc,
-                bytes: b"11;rgb".to_vec(),
+                bytes: b"11;rgb".into(),
             },
             Event::PastePart("a long text".to_string()),
             Event::Paste("\x1b[20".to_string()),
@@ -270,6 +270,43 @@ fn answers_each_question_once_after_a_refusal() {
     assert!(requests > 2);
 }
 
+// A command of so many bytes, and what is sent of it.
+fn command(len: usize) -> (Event, Vec<u8>) {
+    let text = [b"4;", &b"x".repeat(len - 2)[..]].concat();
+    let sent = [b"\x1b]", &text[..], b"\x07"].concat();
+    (Event::Osc(text.into()), sent)
+}
+
+// Few bytes are kept in the event.
+#[test]
+fn tells_few_bytes_without_memory() {
+    let (now, mut parser) = (Instant::now(), Parser::new(Dialect::Extended));
+    // The library makes room for them once.
+    let (event, sent) = command(22);
+    parser.feed(now, &sent);
+    assert_eq!(parser.next(), Some(event));
+    for len in [22, 2, 3, 21, 22] {
+        let (event, sent) = command(len);
+        parser.feed(now, &sent);
+        assert_eq!(without_memory(|| parser.next()), Some(event));
+    }
+}
+
+#[test]
+fn tells_many_bytes_after_a_refusal() {
+    let before = in_use();
+    for len in [23, 24, 4096, 4097, 65_532] {
+        let (event, sent) = command(len);
+        for mut parser in refused_parsers(&sent) {
+            assert_eq!(
+                (parser.next().as_ref(), parser.next()),
+                (Some(&event), None)
+            );
+        }
+    }
+    assert_eq!(in_use(), before);
+}
+
 #[test]
 fn changes_a_reading_without_memory() {
     let mut parser = Parser::new(Dialect::Extended);
@@ -291,14 +328,14 @@ fn changes_a_reading_without_memory() {
 #[test]
 fn reads_replies_after_a_refusal() {
     for event in [
-        Event::Csi(b"?62;4;22c".to_vec()),
-        Event::Csi(b">41;379;0c".to_vec()),
-        Event::Csi(b"?25;1$y".to_vec()),
-        Event::Dcs(b"!|7E565445".to_vec()),
-        Event::Dcs(b">|XTerm(379)".to_vec()),
-        Event::Dcs(b">|a\xff".to_vec()),
-        Event::Osc(b"11;rgb:0/0/0".to_vec()),
-        Event::Osc(b"52;c;Y2xpcA==".to_vec()),
+        Event::Csi(b"?62;4;22c".into()),
+        Event::Csi(b">41;379;0c".into()),
+        Event::Csi(b"?25;1$y".into()),
+        Event::Dcs(b"!|7E565445".into()),
+        Event::Dcs(b">|XTerm(379)".into()),
+        Event::Dcs(b">|a\xff".into()),
+        Event::Osc(b"11;rgb:0/0/0".into()),
+        Event::Osc(b"52;c;Y2xpcA==".into()),
     ] {
         let whole = event.reply();
         assert!(whole.is_some());

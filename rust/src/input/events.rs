@@ -131,8 +131,8 @@ impl KeyEvent {
 }
 
 impl InputEvent {
-    // An event of the library in termwiz's dialect, and the bytes that it brought.
-    pub(crate) fn of(event: &raw::Event, text: Vec<u8>) -> InputEvent {
+    // An event of the library in termwiz's dialect, and its text.
+    pub(crate) fn of(event: &raw::Event, text: String) -> InputEvent {
         match event.kind {
             raw::KIND_KEY => InputEvent::Key(KeyEvent::of(event)),
             raw::KIND_MOUSE => InputEvent::Mouse(MouseEvent {
@@ -141,7 +141,7 @@ impl InputEvent {
                 mouse_buttons: MouseButtons::from_bits(event.buttons).expect(FAULT),
                 modifiers: Modifiers::of_kitty(event.modifiers),
             }),
-            raw::KIND_PASTE => InputEvent::Paste(String::from_utf8(text).expect(FAULT)),
+            raw::KIND_PASTE => InputEvent::Paste(text),
             _ => unreachable!("{FAULT}"),
         }
     }

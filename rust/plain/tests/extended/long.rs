@@ -39,7 +39,7 @@ fn a_command_of_60000_bytes() {
     let text = b"52;c;".repeat(12000);
     for end in [&b"\x1b\\"[..], b"\x07"] {
         let sent = [b"\x1b]", &text[..], end].concat();
-        check(&sent, &Event::Osc(text.clone()));
+        check(&sent, &Event::Osc(text.clone().into()));
     }
 }
 
@@ -99,7 +99,7 @@ fn events_70000_at_once() {
     let mut parser = Parser::new(Dialect::Extended);
     for call in 0..CALLS {
         let events = parsed(call, &mut parser, &b"\x1b[I\x1b]4;\x07".repeat(35000), true);
-        let wanted = [Event::FocusGained, Event::Osc(b"4;".to_vec())];
+        let wanted = [Event::FocusGained, Event::Osc(b"4;".into())];
         assert_eq!(events.len(), 70000);
         assert!(events.chunks(2).all(|pair| pair == wanted), "call {call}");
     }

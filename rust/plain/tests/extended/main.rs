@@ -22,6 +22,7 @@ mod recorded;
 mod replies;
 mod rows;
 mod sending;
+mod sequence_bytes;
 mod streams;
 mod terminals;
 mod twins;

@@ -55,7 +55,7 @@ fn shares_a_parser_between_threads() {
         }
     });
     let events = std::thread::spawn(move || parser.read(b"\x07", true)).join();
-    assert_eq!(events.ok(), Some(vec![Event::Osc(b"0;title".to_vec())]));
+    assert_eq!(events.ok(), Some(vec![Event::Osc(b"0;title".into())]));
 }
 
 #[test]

@@ -4,11 +4,13 @@ use crate::cases::{each_case, sides};
 use crate::draws::Draws;
 use crate::lines::unquoted;
 use crate::plain::replies::reply;
-use hedrugal::{DeviceAttributes, Dialect, Event, KittyKeyboardFlags, Parser, Reply, StringKind};
+use hedrugal::{
+    DeviceAttributes, Dialect, Event, KittyKeyboardFlags, Parser, Reply, SequenceBytes, StringKind,
+};
 
 #[test]
 fn other_events_are_no_replies() {
-    let (kind, bytes) = (StringKind::Osc, b"11;rgb:0/0/0".to_vec());
+    let (kind, bytes) = (StringKind::Osc, SequenceBytes::from(b"11;rgb:0/0/0"));
     let typed = Parser::new(Dialect::Extended).read(b"c\x1b[<0;1;1M", true);
     for event in [
         typed[0].clone(),
@@ -20,9 +22,9 @@ fn other_events_are_no_replies() {
         Event::Apc(bytes.clone()),
         Event::Dcs(bytes.clone()),
         Event::Csi(bytes.clone()),
-        Event::Csi(Vec::new()),
-        Event::Osc(Vec::new()),
-        Event::Dcs(Vec::new()),
+        Event::Csi(SequenceBytes::default()),
+        Event::Osc(SequenceBytes::default()),
+        Event::Dcs(SequenceBytes::default()),
         Event::StringPart {
             kind,
             bytes: bytes.clone(),
@@ -35,7 +37,7 @@ fn other_events_are_no_replies() {
 
 #[test]
 fn versions_may_have_any_bytes() {
-    let version = |bytes: &[u8]| Event::Dcs([b">|", bytes].concat()).reply();
+    let version = |bytes: &[u8]| Event::Dcs([b">|", bytes].concat().into()).reply();
     for bytes in [
         &b""[..],
         b"a",
@@ -65,7 +67,7 @@ fn reads_long_clipboards() {
     let sent = [&b"!|"[..], &b"07".repeat(40_000)].concat();
     let report = DeviceAttributes::Tertiary;
     let wanted = Reply::DeviceAttributes { report, numbers };
-    assert_eq!(Event::Dcs(sent).reply(), Some(wanted));
+    assert_eq!(Event::Dcs(sent.into()).reply(), Some(wanted));
 }
 
 #[test]
@@ -91,10 +93,10 @@ fn generated_replies_are_read_as_by_the_plain_reader() {
             body = body.strip_suffix(b"\x1b\\").unwrap_or(body);
         }
         let event = match introducer {
-            b'[' => Event::Csi(body.to_vec()),
-            b']' => Event::Osc(body.to_vec()),
-            b'P' => Event::Dcs(body.to_vec()),
-            _ => Event::Apc(body.to_vec()),
+            b'[' => Event::Csi(body.into()),
+            b']' => Event::Osc(body.into()),
+            b'P' => Event::Dcs(body.into()),
+            _ => Event::Apc(body.into()),
         };
         let told = event.reply();
         assert_eq!(told, reply(introducer, body), "{event:?}");

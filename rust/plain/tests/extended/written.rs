@@ -5,7 +5,7 @@ use hedrugal::input::{KeyCode, Modifiers, MouseButtons};
 use hedrugal::{
     encode_colour_scheme, encode_cursor_position, encode_device_attributes, ColourScheme, Dialect,
     EncodeEventError, Event, KeyEventKind, KeyReport, KittyModifiers, MouseKind, MouseReport,
-    Reading, ReportedKey, StringKind,
+    Reading, ReportedKey, SequenceBytes, StringKind,
 };
 
 const USUAL: Reading = Reading::new(Dialect::Extended);
@@ -57,7 +57,7 @@ fn long_texts_are_written() {
     assert_eq!(written.as_deref(), Ok(wanted.as_bytes()));
     assert_eq!(read_one(wanted.as_bytes(), USUAL, true), event);
     for (introducer, opening, event) in [
-        ("\x1b]", "52;c;", Event::Osc as fn(Vec<u8>) -> _),
+        ("\x1b]", "52;c;", Event::Osc as fn(SequenceBytes) -> _),
         ("\x1bP", ">|", Event::Dcs),
         ("\x1b_", "Gi=", Event::Apc),
     ] {
@@ -65,9 +65,9 @@ fn long_texts_are_written() {
         for len in [65_000, 65_532] {
             let text = text(opening, len);
             let wanted = [introducer.as_bytes(), &text, b"\x1b\\"].concat();
-            is_written(&event(text), USUAL, &wanted);
+            is_written(&event(text.into()), USUAL, &wanted);
         }
-        let long = event(text(opening, 65_533));
+        let long = event(text(opening, 65_533).into());
         refuses(&long, USUAL, EncodeEventError::TooLong);
     }
 }
@@ -114,7 +114,7 @@ fn what_no_bytes_are_read_as() {
     use KeyEventKind::{Press, Release};
     let named = ReportedKey::Named;
     let private = named(KeyCode::Char('\u{e000}'));
-    let (kind, bytes) = (StringKind::Osc, b"11;a".to_vec());
+    let (kind, bytes) = (StringKind::Osc, SequenceBytes::from(b"11;a"));
     let both = MouseButtons::LEFT | MouseButtons::RIGHT;
     for event in [
         key(KeyCode::Copy, KittyModifiers::NONE),
@@ -138,12 +138,12 @@ fn what_no_bytes_are_read_as() {
         report(ReportedKey::Functional(u32::MAX), Press, ""),
         Event::CursorPosition { row: 0, column: 5 },
         Event::CursorPosition { row: 5, column: 0 },
-        Event::Csi(b"I".to_vec()),
-        Event::Csi(Vec::new()),
-        Event::Osc(b"ab".to_vec()),
-        Event::Osc(b"11;a\x07b".to_vec()),
-        Event::Dcs(b"1$r0m\x1b".to_vec()),
-        Event::Apc(Vec::new()),
+        Event::Csi(b"I".into()),
+        Event::Csi(SequenceBytes::default()),
+        Event::Osc(b"ab".into()),
+        Event::Osc(b"11;a\x07b".into()),
+        Event::Dcs(b"1$r0m\x1b".into()),
+        Event::Apc(SequenceBytes::default()),
         Event::StringPart {
             kind,
             bytes: bytes.clone(),
@@ -159,7 +159,7 @@ fn what_no_bytes_are_read_as() {
     refuses(&enter, USUAL, EncodeEventError::NoText);
     for event in [
         Event::FocusGained,
-        Event::Csi(b"?62;22c".to_vec()),
+        Event::Csi(b"?62;22c".into()),
         key(KeyCode::Char('a'), KittyModifiers::SUPER),
     ] {
         refuses(&event, TERMWIZ, EncodeEventError::NoText);
@@ -169,7 +169,7 @@ fn what_no_bytes_are_read_as() {
 #[test]
 fn what_is_too_long() {
     let sequence = |len: usize| format!("\x1b[?{}c", "1".repeat(len)).into_bytes();
-    let event = |len| Event::Csi(sequence(len)[2..].to_vec());
+    let event = |len| Event::Csi(SequenceBytes::from(&sequence(len)[2..]));
     is_written(&event(252), USUAL, &sequence(252));
     refuses(&event(253), USUAL, EncodeEventError::TooLong);
     let key = ReportedKey::Named(KeyCode::Char('a'));
@@ -240,19 +240,19 @@ fn replies_are_read_back() {
         encode_cursor_position(5, 0, false),
     ] {
         let event = read_one(&bytes, USUAL, true);
-        assert_eq!(event, Event::Csi(bytes[2..].to_vec()));
+        assert_eq!(event, Event::Csi(SequenceBytes::from(&bytes[2..])));
     }
     for (scheme, text) in [
         (ColourScheme::Dark, &b"?997;1n"[..]),
         (ColourScheme::Light, b"?997;2n"),
     ] {
         let event = read_one(&encode_colour_scheme(scheme), USUAL, true);
-        assert_eq!(event, Event::Csi(text.to_vec()));
+        assert_eq!(event, Event::Csi(text.into()));
     }
     for (numbers, text) in [(&[62, 4, 22][..], &b"?62;4;22c"[..]), (&[], b"?c")] {
         let bytes = encode_device_attributes(numbers).unwrap();
         let event = read_one(&bytes, USUAL, true);
-        assert_eq!(event, Event::Csi(text.to_vec()));
+        assert_eq!(event, Event::Csi(text.into()));
     }
     let longest = encode_device_attributes(&[65535; 42]);
     assert_eq!(longest.map(|it| it.len()), Ok(255));

@@ -390,7 +390,7 @@ fn event_of_control(t: &[u8], is_asked: bool) -> Event {
         .or_else(|| console_key(t))
         .or_else(|| back_tab(t))
         .or_else(|| short_key(t))
-        .unwrap_or_else(|| Event::Csi(t.to_vec()))
+        .unwrap_or_else(|| Event::Csi(t.into()))
 }
 
 // The key behind ESC `O` and a number.

@@ -1,6 +1,6 @@
 // 5 to 7: strings, and what comes of them.
 use crate::port::plain::ESC;
-use hedrugal::{Event, StringKind};
+use hedrugal::{Event, SequenceBytes, StringKind};
 
 const ST: &[u8] = b"\x1b\\";
 
@@ -75,7 +75,7 @@ fn kind_of(opening: &[u8]) -> StringKind {
 
 // The event of a string that has its end.
 pub fn event_of_string(string: &[u8]) -> Event {
-    let bytes = string[2..].to_vec();
+    let bytes = SequenceBytes::from(&string[2..]);
     match kind_of(string) {
         StringKind::Osc => Event::Osc(bytes),
         StringKind::Dcs => Event::Dcs(bytes),
@@ -90,7 +90,7 @@ pub fn string_at(opening: &[u8], text: &[u8], more: bool) -> Option<(Event, Vec<
     let data = &text[opening.len()..];
     let len = opening.len() + data.iter().position(is_end).unwrap_or(data.len());
     if len >= PART {
-        let bytes = text[2..PART].to_vec();
+        let bytes = SequenceBytes::from(&text[2..PART]);
         let left = [opening, &text[PART..]].concat();
         return Some((Event::StringPart { kind, bytes }, left));
     }
@@ -98,7 +98,7 @@ pub fn string_at(opening: &[u8], text: &[u8], more: bool) -> Option<(Event, Vec<
     if let Some(left) = after.strip_prefix(ST).or_else(|| after.strip_prefix(BEL)) {
         return Some((event_of_string(string), left.to_vec()));
     }
-    let bytes = string[2..].to_vec();
+    let bytes = SequenceBytes::from(&string[2..]);
     let cut = Event::StringCut { kind, bytes };
     match after {
         [0x1b, 0x1b, ..] => Some((cut, after[1..].to_vec())),
