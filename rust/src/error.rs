@@ -17,12 +17,12 @@ macro_rules! numbered {
                 }
             }
 
-            // What the library's number stands for.
+            // What the library's number stands for, if it has such a number.
             #[inline]
-            pub(crate) fn of(number: $number) -> $name {
+            pub(crate) fn of(number: $number) -> Option<$name> {
                 match number {
-                    $(crate::raw::$raw => $name::$variant,)*
-                    _ => unreachable!("{}", crate::error::FAULT),
+                    $(crate::raw::$raw => Some($name::$variant),)*
+                    _ => None,
                 }
             }
         }

@@ -215,10 +215,15 @@ impl Event {
         self.key().and_then(KeyPress::second)
     }
 
-    // A key of the library whose text wasn't reported.
+    // A key of the library whose text wasn't reported, and `None` for another event. In an event that
+    // is no key nothing happened to a key.
     #[inline]
-    pub(crate) fn of_key(event: &raw::Event) -> Event {
-        Event::Key(KeyReport::of(event, String::new()))
+    pub(crate) fn of_plain_key(event: &raw::Event) -> Option<Event> {
+        let kind = KeyEventKind::of(event.key_event_kind)?;
+        if event.text_len > 0 {
+            return None;
+        }
+        KeyReport::of(event, kind, String::new()).map(Event::Key)
     }
 
     // An event of the library that brings neither text nor bytes, and `None` for another one, as for
@@ -249,7 +254,10 @@ impl Event {
     // A key or a paste of the library, and its text.
     pub(crate) fn of_text(event: &raw::Event, text: String) -> Event {
         match event.kind {
-            raw::KIND_KEY => Event::Key(KeyReport::of(event, text)),
+            raw::KIND_KEY => {
+                let kind = KeyEventKind::of(event.key_event_kind).expect(FAULT);
+                Event::Key(KeyReport::of(event, kind, text).expect(FAULT))
+            }
             raw::KIND_PASTE => Event::Paste(text),
             raw::KIND_PASTE_PART => Event::PastePart(text),
             _ => unreachable!("{FAULT}"),
@@ -265,11 +273,11 @@ impl Event {
             raw::KIND_DCS => Event::Dcs(bytes),
             raw::KIND_APC => Event::Apc(bytes),
             raw::KIND_STRING_PART => Event::StringPart {
-                kind: StringKind::of(event.string_kind),
+                kind: StringKind::of(event.string_kind).expect(FAULT),
                 bytes,
             },
             raw::KIND_STRING_CUT => Event::StringCut {
-                kind: StringKind::of(event.string_kind),
+                kind: StringKind::of(event.string_kind).expect(FAULT),
                 bytes,
             },
             _ => unreachable!("{FAULT}"),
@@ -360,12 +368,6 @@ fn of_kind(kind: u8) -> raw::Event {
 }
 
 impl raw::Event {
-    // Whether this is a key whose text wasn't reported.
-    #[inline]
-    pub(crate) fn is_plain_key(&self) -> bool {
-        self.kind == raw::KIND_KEY && self.text_len == 0
-    }
-
     // Whether what the event brings is text, and not bytes.
     #[inline]
     pub(crate) fn brings_text(&self) -> bool {
@@ -393,7 +395,7 @@ impl MouseReport {
             y: report.y,
             modifiers: Modifiers::of_kitty(report.modifiers),
             buttons: MouseButtons::from_bits(report.buttons).expect(FAULT),
-            kind: MouseKind::of(report.mouse_kind),
+            kind: MouseKind::of(report.mouse_kind).expect(FAULT),
             button: (report.button != 0).then_some(report.button),
         }
     }
@@ -422,12 +424,12 @@ numbered!(KeyEventKind u8:
 );
 
 impl ReportedKey {
-    // The key of a number of the library and what it carries.
+    // The key of a number of the library and what it carries, if there is such a key.
     #[inline]
-    pub(crate) fn of(number: u16, detail: u32) -> ReportedKey {
+    pub(crate) fn of(number: u16, detail: u32) -> Option<ReportedKey> {
         match number {
-            0 => ReportedKey::Functional(detail),
-            key => ReportedKey::Named(KeyCode::of(key, detail).expect(FAULT)),
+            0 => Some(functional(detail)),
+            key => KeyCode::of(key, detail).map(ReportedKey::Named),
         }
     }
 
@@ -440,18 +442,26 @@ impl ReportedKey {
     }
 }
 
+// A key without a name. Since this is said to be rare, the program tests for other keys first.
+#[cold]
+#[inline(never)]
+fn functional(number: u32) -> ReportedKey {
+    ReportedKey::Functional(number)
+}
+
 impl KeyReport {
-    // A report of the library, and the text that the key types.
+    // A report of the library, what happened to the key, and the text that it types. `None` if there
+    // is no such key.
     #[inline]
-    fn of(report: &raw::Event, text: String) -> KeyReport {
-        KeyReport {
-            key: ReportedKey::of(report.key, report.detail),
-            modifiers: KittyModifiers::from_bits(report.modifiers).expect(FAULT),
-            kind: KeyEventKind::of(report.key_event_kind),
+    fn of(event: &raw::Event, kind: KeyEventKind, text: String) -> Option<KeyReport> {
+        Some(KeyReport {
+            kind,
+            key: ReportedKey::of(event.key, event.detail)?,
+            modifiers: KittyModifiers::from_bits(event.modifiers)?,
             // NO_CODE is no character.
-            shifted: char::from_u32(report.shifted),
-            base: char::from_u32(report.base),
+            shifted: char::from_u32(event.shifted),
+            base: char::from_u32(event.base),
             text,
-        }
+        })
     }
 }

@@ -143,8 +143,10 @@ impl Parser {
     pub fn try_next(&mut self) -> Result<Option<Event>, AllocError> {
         let status = self.pull();
         // Most events are such keys. One is made where the program takes it, so it isn't copied.
-        if status == raw::STATUS_OK && self.last.0.is_plain_key() {
-            return Ok(Some(Event::of_key(&self.last.0)));
+        if status == raw::STATUS_OK {
+            if let Some(key) = Event::of_plain_key(&self.last.0) {
+                return Ok(Some(key));
+            }
         }
         self.told(status)
     }

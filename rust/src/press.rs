@@ -181,7 +181,7 @@ impl KeyPress {
     // A press of the library.
     pub(crate) fn of_raw(press: raw::KeyPress) -> KeyPress {
         KeyPress {
-            key: ReportedKey::of(press.key, press.detail),
+            key: ReportedKey::of(press.key, press.detail).expect(FAULT),
             held: KittyModifiers::from_bits(press.held).expect(FAULT),
         }
     }

@@ -1,5 +1,5 @@
 // How a parser reads.
-use crate::error::numbered;
+use crate::error::{numbered, FAULT};
 use crate::raw;
 
 /// By which grammar a [`Parser`](crate::Parser) reads.
@@ -98,11 +98,11 @@ impl Reading {
     // The reading that the library has.
     pub(crate) fn of(raw: &raw::Reading) -> Reading {
         Reading {
-            dialect: Dialect::of(raw.dialect),
+            dialect: Dialect::of(raw.dialect).expect(FAULT),
             x10_mouse: raw.x10_mouse,
             questions: raw.questions,
-            erase: EraseByte::of(raw.erase),
-            newline: NewlineByte::of(raw.newline),
+            erase: EraseByte::of(raw.erase).expect(FAULT),
+            newline: NewlineByte::of(raw.newline).expect(FAULT),
         }
     }
 }
