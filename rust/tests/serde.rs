@@ -133,6 +133,9 @@ fn writes_and_reads_extended_events() {
     let flags = Event::KeyboardFlags(KittyKeyboardFlags::REPORT_EVENT_TYPES);
     check(flags, r#"{"KeyboardFlags":"REPORT_EVENT_TYPES"}"#);
     check(Event::Osc(b"1;".into()), r#"{"Osc":[49,59]}"#);
+    let many = vec![7; 4096];
+    let json = serde_json::to_string(&many).expect("JSON is written");
+    check(Event::Apc(many.into()), &format!("{{\"Apc\":{json}}}"));
     let (kind, bytes) = (StringKind::Dcs, SequenceBytes::from(b">|"));
     let cut = Event::StringCut {
         kind,
