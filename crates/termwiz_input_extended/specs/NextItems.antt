@@ -1,8 +1,9 @@
 -- What is at the front of a text, as far as extra sequences and strings go.
 use Rattle.std.specs.Prelude.{◌≡◌, ◌⊎◌, ◌++◌, ℕ, ◌<◌, ◌≤◌, ◌-◌, Bool, true, false, List, [], ◌∷◌, length, take, slice_index, codes, Option, None, Result, Ok, IfOk, OnErr, if◌then◌else◌, unwrap_or, ◌==◌}
 use Rattle.termwiz_keymap.specs.Bytes.{Begins}
-use Rattle.termwiz_keys.specs.Introducers.{ESC, CSI, START}
+use Rattle.termwiz_keys.specs.Introducers.{ESC, CSI, SS3, START}
 use Rattle.termwiz_keys.specs.Keys.{escape, plain, with_alt}
+use Rattle.termwiz_keys.specs.declared.types.KeyEvent.{KeyEvent}
 use Rattle.termwiz_keys.specs.declared.types.MouseEvent.{MouseEvent}
 use Rattle.termwiz_keys.specs.declared.types.InputEvent.{InputEvent}
 use Rattle.termwiz_keys.specs.declared.types.InputEvent.TheVariants as port
@@ -124,6 +125,10 @@ pub record IsPlainCharacter (reading : Reading) (u : List ℕ) (more : Bool) (c 
   pub own : IsPortsOwn reading u more
   pub item : IsItemAt u more (port.Key (plain c)) len
   pub undecided : front_key reading.dialect reading u ≡ None
+
+-- the text begins with ESC O, and with this key of the port's, of three bytes, whatever follows it
+abbrev pub IsSs3Key : List ℕ → KeyEvent → Type 0
+IsSs3Key u key = Begins SS3 u × ((more : Bool) → IsItemAt u more (port.Key key) 3)
 
 -- a control character, but ESC, that is a row of the sequence table
 abbrev pub IsControlKey : ℕ → Type 0

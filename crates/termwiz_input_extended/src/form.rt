@@ -3,7 +3,7 @@
 ghost use Rattle.std.specs.Prelude.{◌≡◌, ◌≢◌, ◌+◌, ◌<◌, ◌≤◌, ◌↔◌, [], ◌∷◌, ◌++◌, length, take, slice_index, Bool, true, false, IfSome, IfNone, IsTrue, ℕ};
 ghost use Rattle.std.specs.List.{AllByRecursion};
 ghost use Rattle.termwiz_keys.specs.Introducers.{ESC, CSI, SS3};
-ghost use Rattle.termwiz_extended_grammar.specs.Forms.{introducer, IsInner, IsFinal, IsConsoleLetter, IsKeypadLetter, IsModifierDigit, IsModifiedFront, IsLetterBehind, IsRxvtDigit, IsRxvtPair, IsTitleLetter, IsUnfinishedForm};
+ghost use Rattle.termwiz_extended_grammar.specs.Forms.{introducer, IsInner, IsFinal, IsKeypadLetter, IsModifierDigit, IsModifiedFront, IsLetterBehind, IsRxvtDigit, IsRxvtPair, IsTitleLetter, IsUnfinishedForm};
 ghost use Rattle.termwiz_input_extended.specs.FormAnswers.{HasForm, IsPartedFirst, IsScanned, IsRow, StartsShifted, front_of};
 
 use crate::string::{EndAt, TYPED_TITLE, data_end, end_at};
@@ -42,13 +42,6 @@ pub(crate) fn is_final(byte: u8) -> bool
     matches!(byte, 0x40..=0x7e)
 }
 
-// Whether a byte is the letter of a function key of the Linux console.
-fn is_console_letter(byte: u8) -> bool
-    ensures { IsTrue result ↔ IsConsoleLetter byte }
-{
-    matches!(byte, b'A'..=b'E')
-}
-
 // Whether a byte is the letter of a key of the application keypad.
 pub(crate) fn is_keypad_letter(byte: u8) -> bool
     ensures { IsTrue result ↔ IsKeypadLetter byte }
@@ -61,13 +54,6 @@ pub(crate) fn is_title_letter(byte: u8) -> bool
     ensures { IsTrue result ↔ IsTitleLetter byte }
 {
     matches!(byte, b'l' | b'L')
-}
-
-// Whether a byte is the digit of a key with modifiers: one more than their bits.
-fn is_modifier_digit(byte: u8) -> bool
-    ensures { IsTrue result ↔ IsModifierDigit byte }
-{
-    matches!(byte, b'2'..=b'8')
 }
 
 // Whether a digit alone is a number by which rxvt-unicode tells a key.
@@ -156,7 +142,7 @@ fn console_key_at(rest: &[u8]) -> FormAt
 {
     match rest {
         [] => FormAt::Unfinished,
-        [letter, ..] if is_console_letter(*letter) => FormAt::Whole(4),
+        [b'A'..=b'E', ..] => FormAt::Whole(4),
         _ => FormAt::Absent,
     }
 }
@@ -192,7 +178,7 @@ fn parted_key_at(first: u8, rest: &[u8]) -> FormAt
 {
     match rest {
         [] => FormAt::Unfinished,
-        [digit, rest @ ..] if is_modifier_digit(*digit) => modified_key_at(Some(first), rest),
+        [b'2'..=b'8', rest @ ..] => modified_key_at(Some(first), rest),
         _ => FormAt::Absent,
     }
 }
@@ -216,7 +202,7 @@ fn keypad_key_at(rest: &[u8]) -> FormAt
     match rest {
         [] => FormAt::Unfinished,
         [letter, ..] if is_keypad_letter(*letter) => FormAt::Whole(3),
-        [digit, rest @ ..] if is_modifier_digit(*digit) => modified_key_at(None, rest),
+        [b'2'..=b'8', rest @ ..] => modified_key_at(None, rest),
         [first @ (b'0' | b'1'), rest @ ..] => begun_key_at(*first, rest),
         _ => FormAt::Absent,
     }

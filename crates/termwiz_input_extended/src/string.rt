@@ -5,7 +5,7 @@ ghost use Rattle.std.specs.Prelude.{◌≡◌, ◌≢◌, ◌<◌, ◌≤◌, �
 ghost use Rattle.std.specs.List.{AllByRecursion};
 ghost use Rattle.termwiz_grammar.specs.MouseReports.{IsDigit};
 ghost use Rattle.termwiz_extended_grammar.specs.Forms.{introducer, IsData, IsTitleLetter};
-ghost use Rattle.termwiz_extended_grammar.specs.Strings.{IsHead, IsLetter, IsReplySign};
+ghost use Rattle.termwiz_extended_grammar.specs.Strings.{IsHead, IsReplySign};
 ghost use Rattle.termwiz_input_extended.specs.FormAnswers.{IsScanned};
 ghost use Rattle.termwiz_input_extended.specs.StringAnswers.{HasEnd, HasOpening, IsLiteralStart, IsOnlyHead, IsOpeningOf, IsStringAt};
 
@@ -88,13 +88,6 @@ fn is_reply_sign(byte: u8) -> bool
     ensures { IsTrue result ↔ IsReplySign byte }
 {
     matches!(byte, b'$' | b'+' | b'!')
-}
-
-// Whether a byte is an ASCII letter.
-fn is_letter(byte: u8) -> bool
-    ensures { IsTrue result ↔ IsLetter byte }
-{
-    matches!(byte, b'A'..=b'Z' | b'a'..=b'z')
 }
 
 // How many digits begin a text, as far as the number in an opening goes.
@@ -232,7 +225,7 @@ fn graphics_at(rest: &[u8]) -> OpeningAt
 {
     match rest {
         [] | [b'G'] => OpeningAt::Unfinished,
-        [b'G', letter, ..] if !is_letter(*letter) => OpeningAt::Absent,
+        [b'G', letter, ..] if !letter.is_ascii_alphabetic() => OpeningAt::Absent,
         [b'G', _] => OpeningAt::Unfinished,
         [b'G', _, b'=', ..] => OpeningAt::Opening(StringKind::Apc, INTRODUCED + GRAPHICS),
         _ => OpeningAt::Absent,

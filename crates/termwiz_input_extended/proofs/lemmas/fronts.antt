@@ -10,6 +10,7 @@ pub mod LeftBounded
 pub mod MouseForms
 pub mod OpeningFronts
 pub mod ScannedPlaces
+pub mod Ss3Keys
 pub mod StoredItems
 pub mod StringSteps
 pub mod ToldByFront

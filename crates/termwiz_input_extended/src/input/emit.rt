@@ -12,7 +12,7 @@ ghost use Rattle.termwiz_input_extended.specs.NextItems.{Emits, IsEmitted, IsEmi
 ghost use Rattle.termwiz_input_extended.specs.StringAnswers.{IsOpeningOf};
 
 use super::{ExtendedParser, key_event, told_event, with_alt};
-use crate::characters::{control_key, match_character};
+use crate::characters::{control_key, match_character, ss3_key};
 use crate::form::INTRODUCED;
 use crate::next_item::{
     NextItem, decided_at, is_extra_at, meaning_in, plain_report_at, string_meaning,
@@ -93,6 +93,11 @@ impl ExtendedParser {
         let text = self.waiting_text();
         if let FrontReport::Whole(event, len) = mouse_report_at(text) {
             return self.emit_report(sink, event, len);
+        }
+        if let Some(key) = ss3_key(text) {
+            self.consume(3);
+            sink.emit(key_event(self.alloc, key, None));
+            return Ok(true);
         }
         let decided = decided_at(self.reading, text);
         match self.parser.next_event(maybe_more)? {

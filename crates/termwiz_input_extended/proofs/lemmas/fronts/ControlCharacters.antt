@@ -23,7 +23,7 @@ use Rattle.termwiz_input.specs.Matches.{IsItemAt}
 use Rattle.termwiz_input.proofs.lemmas.items.ItemByHead.{row_stands}
 
 -- a row that a search by its bytes finds is in the table
-row_by_bytes : (text : List ℕ) (key : KeyEvent) → lookup (bytes_eq text) rows ≡ Some key → Contains rows (text, key)
+pub row_by_bytes : (text : List ℕ) (key : KeyEvent) → lookup (bytes_eq text) rows ≡ Some key → Contains rows (text, key)
 row_by_bytes text key found =
     Contains-from_lookup (λ (s t : List ℕ) (e : bytes_eq s t ≡ true). (bytes_eq-Decides s t).0 e) text key rows found
 
