@@ -10,7 +10,7 @@ void want(bool is_so) {
   exit(1);
 }
 
-cost counted(void (*task)(void *), void *it) {
+cost count_task(void (*task)(void *), void *it) {
   size_t before = heap();
   double start = now();
   task(it);
