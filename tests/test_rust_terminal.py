@@ -170,12 +170,13 @@ def test_panic(start_program, word):
     assert is_last == (word == "hook")
 
 
-@pytest.mark.parametrize("number", range(2, 12))
+@pytest.mark.parametrize("number", range(2, 11))
 def test_question_and_refused_memory(start_program, number):
-    """The replies and the other events then come in their order."""
-    program, keys = start_program("", str(number)), b"w" * 50
-    steps = [b"m", QUESTION, keys + POSITION + b"\033[?1;2$yy" + ATTRIBUTES, "OutOfMemory\r\n"]
-    steps += [*[key("w")] * len(keys), "position 1 5", 'csi "?1;2$y"', key("y"), ATTRIBUTES_TOLD]
+    """The replies and the other events then come in their order. The bytes of one need memory."""
+    program, keys, many = start_program("", str(number)), b"w" * 50, "?1;2;3;4;5;6;7;8;9;10;11$y"
+    sent = keys + POSITION + f"\033[{many}y".encode() + ATTRIBUTES
+    steps = [b"m", QUESTION, sent, "OutOfMemory\r\n"]
+    steps += [*[key("w")] * len(keys), "position 1 5", f'csi "{many}"', key("y"), ATTRIBUTES_TOLD]
     program.play(steps)
     end_by_q(program)
 
