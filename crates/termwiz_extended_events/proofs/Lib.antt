@@ -1,5 +1,6 @@
 pub mod Examples
 pub mod FieldLemmas
+pub mod FirstNumbers
 pub mod MouseCodes
 pub mod NumberLemmas
 pub mod OneFields

@@ -1,5 +1,5 @@
 -- A number is one field and one part, and so are the modifiers and the kind of a key one field.
-use Rattle.std.proofs.Common.{◌≡◌, inl, inr, ◌⊎◌, ℕ, ◌==◌, ◌<◌, ◌≤◌, ◌-◌, Bool, true, false, not, List, [], ◌∷◌, ◌++◌, length, take, drop, get_or, refl, sym, ap, ◌∙◌, subst, arith, codes, Option, Some, None, ⊎_elim}
+use Rattle.std.proofs.Common.{◌≡◌, inl, inr, ◌⊎◌, ℕ, ◌==◌, ◌<◌, ◌-◌, Bool, true, false, not, List, [], ◌∷◌, ◌++◌, length, take, drop, get_or, refl, sym, subst, arith, codes, Option, Some, None, ⊎_elim}
 use Rattle.std.specs.Prelude.{option_map}
 use Rattle.std.specs.List.{list_all, slice_split, join_with_byte}
 use Rattle.std.specs.Char.{is_ascii_digit}
@@ -7,14 +7,13 @@ use Rattle.std.proofs.lemmas.Bool.{and_parts}
 use Rattle.std.proofs.lemmas.Bool.Decides.{nat_tests}
 use Rattle.std.proofs.lemmas.List.{take_all}
 use Rattle.std.proofs.lemmas.List.Splits.{join_with_byte-slice_split}
-use Rattle.termwiz_extended_events.specs.declared.types.KeyReport.{KeyReport}
 use Rattle.termwiz_extended_events.specs.declared.types.KeyEventKind.{KeyEventKind}
 use Rattle.termwiz_extended_events.specs.declared.types.KeyEventKind.TheVariants.{Press}
 use Rattle.termwiz_extended_events.specs.declared.types.Manner.{Manner}
 use Rattle.termwiz_extended_events.specs.declared.types.ReportedKey.{ReportedKey}
 use Rattle.termwiz_extended_events.specs.declared.types.ReportedKey.TheVariants.{Named}
 use Rattle.termwiz_keys.specs.declared.types.KeyCode.{KeyCode}
-use Rattle.termwiz_extended_events.specs.Numbers.{fields, parts, number, scalar}
+use Rattle.termwiz_extended_events.specs.Numbers.{fields, parts, number, number_within, scalar}
 use Rattle.termwiz_extended_events.specs.KeyReports.{kind_of, lettered_of_fields, manner_of, manner_of_parts, manner_with, modifiers_of, other_of_fields, other_pair, report_behind, report_of}
 use Rattle.termwiz_extended_events.proofs.NumberLemmas.{are_digits}
 
@@ -48,20 +47,20 @@ colon_apart (x ∷ xs) ys a b =
     rw (other, colon_apart xs ys both.1 b) refl
 
 -- no separator above the digits is in a number
-pub number_unparted : (s : ℕ) → 57 < s → (least limit : ℕ) (text : List ℕ) (n : ℕ) → number least limit text ≡ Some n
+pub number_unparted : (s : ℕ) → 57 < s → (most least limit : ℕ) (text : List ℕ) (n : ℕ) → number_within most least limit text ≡ Some n
     → slice_split (λ b. b == s) text ≡ text ∷ []
-number_unparted s after least limit text n e =
-    apart_unparted s text (digits_apart s after text (are_digits 7 least limit text n e))
+number_unparted s after most least limit text n e =
+    apart_unparted s text (digits_apart s after text (are_digits most least limit text n e))
 
-none_of : {A : Type 0} (found : Option A) → ((it : A) → found ≡ Some it → ⊥) → found ≡ None
+pub none_of : {A : Type 0} (found : Option A) → ((it : A) → found ≡ Some it → ⊥) → found ≡ None
 none_of None never = refl
 none_of (Some it) never = absurd (never it refl)
 
 -- a text of two parts or more is no number
-parted_no_number : (s : ℕ) → 57 < s → (least limit : ℕ) (text a b : List ℕ) (more : List (List ℕ))
-    → slice_split (λ b. b == s) text ≡ a ∷ b ∷ more → number least limit text ≡ None
-parted_no_number s after least limit text a b more split =
-    none_of (number least limit text) (λ n e. cc (split, number_unparted s after least limit text n e))
+pub parted_no_number : (s : ℕ) → 57 < s → (most least limit : ℕ) (text a b : List ℕ) (more : List (List ℕ))
+    → slice_split (λ b. b == s) text ≡ a ∷ b ∷ more → number_within most least limit text ≡ None
+parted_no_number s after most least limit text a b more split =
+    none_of (number_within most least limit text) (λ n e. cc (split, number_unparted s after most least limit text n e))
 
 -- a text is one part, or has two or more
 by_first : (p : ℕ → Bool) (x : ℕ) (xs : List ℕ) (test : Bool) → p x ≡ test
@@ -72,7 +71,7 @@ by_first p x xs true is (inr more) = inr ([], more.0, more.1 ∷ more.2, rw (is,
 by_first p x xs false is (inl one) = inl (rw (is, one) refl)
 by_first p x xs false is (inr more) = inr (x ∷ more.0, more.1, more.2, rw (is, more.3) refl)
 
-one_or_more : (p : ℕ → Bool) (text : List ℕ)
+pub one_or_more : (p : ℕ → Bool) (text : List ℕ)
     → (slice_split p text ≡ text ∷ []) ⊎ ((a b : List ℕ) × (more : List (List ℕ)) × (slice_split p text ≡ a ∷ b ∷ more))
 one_or_more p [] = inl refl
 one_or_more p (x ∷ xs) = by_first p x xs (p x) refl (one_or_more p xs)
@@ -127,7 +126,7 @@ behind_is_manner key rest = ⊎_elim
 
 no_kind : (rest a b : List ℕ) (more : List (List ℕ)) → parts rest ≡ a ∷ b ∷ more → kind_of rest ≡ None
 unfolding kind_of
-no_kind rest a b more e = rw (parted_no_number 58 (omega arith) 1 3 rest a b more e) refl
+no_kind rest a b more e = rw (parted_no_number 58 (omega arith) 7 1 3 rest a b more e) refl
 
 pub with_no_kind : (modifiers : Option ℕ) → None ≡ manner_with modifiers None
 with_no_kind None = refl
@@ -145,7 +144,7 @@ behind_is_kind field modifiers rest split = ⊎_elim
 
 no_scalar : (rest a b : List ℕ) (more : List (List ℕ)) → fields rest ≡ a ∷ b ∷ more → scalar rest ≡ None
 unfolding scalar
-no_scalar rest a b more e = rw (parted_no_number 59 (omega arith) 0 0x10ffff rest a b more e) refl
+no_scalar rest a b more e = rw (parted_no_number 59 (omega arith) 7 0 0x10ffff rest a b more e) refl
 
 pub with_no_scalar : (m : Option ℕ) → None ≡ other_pair m None
 with_no_scalar None = refl
@@ -160,7 +159,7 @@ behind_is_scalar text m rest split = ⊎_elim
     rw (split, many.3, no_scalar rest many.0 many.1 many.2 many.3) (with_no_scalar (number 1 256 m)))
     (one_or_more (λ b. b == 59) rest)
 
-rest_after : (a : ℕ) (t : List ℕ) → take (length (a ∷ t) - 1) (drop 1 (a ∷ t)) ≡ t
+pub rest_after : (a : ℕ) (t : List ℕ) → take (length (a ∷ t) - 1) (drop 1 (a ∷ t)) ≡ t
 rest_after a t = take_all (length (a ∷ t) - 1) t (omega arith)
 
 -- a letter's manner behind a semicolon alone, and behind 1 and a semicolon

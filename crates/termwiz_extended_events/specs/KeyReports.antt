@@ -24,6 +24,11 @@ unfoldable pub modifiers_of : List ℕ → Option ℕ
 modifiers_of [] = Some 0
 modifiers_of digits = option_map (λ n. n - 1) (number 1 256 digits)
 
+-- the modifiers that the first of some parts says, and the other parts
+abbrev pub first_modifiers : List (List ℕ) → Option (ℕ × List (List ℕ))
+first_modifiers [] = None
+first_modifiers (digits ∷ more) = option_map (λ m. (m, more)) (modifiers_of digits)
+
 -- what happened to the key, by the number of the event
 abbrev pub kind_at : ℕ → KeyEventKind
 kind_at n = if n == 1 then Press else (if n == 2 then Repeat else Release)

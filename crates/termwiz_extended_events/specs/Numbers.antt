@@ -1,5 +1,5 @@
 -- The parts of control sequences: fields, decimal numbers, and what stands before a given end.
-use Rattle.std.specs.Prelude.{ℕ, ◌-◌, ◌==◌, ◌&&◌, ◌||◌, List, [], ◌∷◌, length, take, drop, nat_eq, nat_le, nat_lt, Option, Some, None, if◌then◌else◌, Bool, option_and_then}
+use Rattle.std.specs.Prelude.{◌≡◌, ℕ, ◌-◌, ◌==◌, ◌&&◌, ◌||◌, ◌<◌, ◌≤◌, List, [], ◌∷◌, length, take, drop, nat_eq, nat_le, nat_lt, slice_index, true, false, Option, Some, None, if◌then◌else◌, Bool, option_and_then, option_map}
 use Rattle.std.specs.List.{list_all, slice_split}
 use Rattle.std.specs.Cmp.Lexicographic.{pointwise}
 use Rattle.std.specs.Char.{is_ascii_digit}
@@ -36,6 +36,19 @@ unfoldable pub number_within : ℕ → ℕ → ℕ → List ℕ → Option ℕ
 number_within most least limit digits =
     if is_digits most digits && nat_le least (value_of digits) && nat_le (value_of digits) limit then Some (value_of digits)
     else None
+
+-- the number that the first of some fields writes, and the other fields
+abbrev pub first_number : ℕ → ℕ → ℕ → List (List ℕ) → Option (ℕ × List (List ℕ))
+first_number most least limit [] = None
+first_number most least limit (field ∷ more) = option_map (λ n. (n, more)) (number_within most least limit field)
+
+-- So many digits are at the front of a text, at most `most`, and they write this value: no further one follows, if there may be more.
+pub record ReadsDigits (most : ℕ) (text : List ℕ) (value count : ℕ) : Type 0 where
+  pub few : count ≤ most
+  pub inside : count ≤ length text
+  pub digits : list_all is_ascii_digit (take count text) ≡ true
+  pub value_is : value ≡ value_of (take count text)
+  pub last : count < most → count < length text → is_ascii_digit (slice_index text count) ≡ false
 
 -- how many digits a number may have in the reports of keys
 abbrev pub most_digits : ℕ

@@ -47,7 +47,7 @@ fn place_of(text: &[u8], byte: u8) -> Option<usize>
 }
 
 // The first field of a text, and what follows the separator behind it.
-pub(crate) fn cut(text: &[u8], separator: u8) -> (&[u8], Option<&[u8]>)
+fn cut(text: &[u8], separator: u8) -> (&[u8], Option<&[u8]>)
     ensures { slice_split (λ b. b == separator) text.now ≡ result.0.now ∷ fields_in separator result.1 }
 {
     match place_of(text, separator) {

@@ -1,9 +1,11 @@
 // The fields of a key report.
-ghost use Rattle.std.specs.Prelude.{◌≡◌, ◌≢◌, [], IfOk, IfSome, IsSome, OnErr, Some, is_some};
-ghost use Rattle.termwiz_extended_events.specs.KeyReports.{modifiers_of, kind_of, manner_of, optional_scalar, codes_of, text_of};
+ghost use Rattle.std.specs.Prelude.{◌≡◌, ◌≢◌, [], IfOk, IfSome, IsSome, OnErr, Some, is_some, option_map};
+ghost use Rattle.termwiz_extended_events.specs.FieldsLeft.{fields_in};
+ghost use Rattle.termwiz_extended_events.specs.Numbers.{colon, parts};
+ghost use Rattle.termwiz_extended_events.specs.KeyReports.{first_modifiers, kind_of, manner_of, optional_scalar, codes_of, text_of};
 
-use crate::fields::{Fields, cut};
-use crate::numbers::{number, scalar};
+use crate::fields::Fields;
+use crate::numbers::{MOST_DIGITS, first_number, number, scalar};
 use crate::types::{KeyEventKind, KeyText, Manner};
 use std::alloc::{AllocError, Global};
 
@@ -15,16 +17,21 @@ pub(crate) struct Codes {
     pub base: Option<char>,
 }
 
-// The bits of the modifiers: their number is one more, and 1 where it is missing.
+// The bits of the modifiers, which the first part of a field says: their number is one more, and 1 where it is missing. Beside them is what
+// follows that part.
 #[tactic(auto, unfolding(crate::specs::KeyReports::modifiers_of))]
-fn modifiers_of(digits: &[u8]) -> Option<u8>
-    ensures { result ≡ modifiers_of digits.now }
+#[inline(always)]
+fn first_modifiers(field: &[u8]) -> Option<(u8, Option<&[u8]>)>
+    ensures { option_map (λ found. (found.0, fields_in colon found.1)) result ≡ first_modifiers (parts field.now) }
 {
-    if digits.is_empty() {
-        return Some(0);
+    match field {
+        [] => Some((0, None)),
+        [b':', rest @ ..] => Some((0, Some(rest))),
+        _ => {
+            let (one_more, rest) = first_number(field, b':', MOST_DIGITS, 1, 256)?;
+            Some(((one_more - 1) as u8, rest))
+        }
     }
-    let one_more = number(digits, 1, 256)?;
-    Some((one_more - 1) as u8)
 }
 
 // What happened to the key.
@@ -45,8 +52,7 @@ fn kind_of(digits: &[u8]) -> Option<KeyEventKind>
 pub(crate) fn manner_of(field: &[u8]) -> Option<Manner>
     ensures { result ≡ manner_of field.now }
 {
-    let (modifiers, kind) = cut(field, b':');
-    let modifiers = modifiers_of(modifiers)?;
+    let (modifiers, kind) = first_modifiers(field)?;
     let kind = match kind {
         Some(digits) => kind_of(digits)?,
         None => KeyEventKind::Press,

@@ -11,9 +11,9 @@ ghost use Rattle.termwiz_grammar.specs.MouseReports.{semicolon};
 ghost use Rattle.termwiz_grammar.specs.Table.{key_of_code};
 ghost use Rattle.termwiz_extended_events.specs.FieldsLeft.{fields_in};
 
-use crate::fields::{Fields, before_end, cut};
+use crate::fields::{Fields, before_end};
 use crate::key_fields::{codes_of, is_text, manner_of, text_of};
-use crate::numbers::{number, number_within, scalar};
+use crate::numbers::{MOST_DIGITS, character_at, first_number, number_within, scalar};
 use crate::reported_keys;
 use crate::reported_keys::{LAST_FUNCTIONAL, NO_KEY};
 use crate::types::{KeyEventKind, KeyReport, Manner, PlainReport, ReportedKey};
@@ -126,9 +126,8 @@ fn manner_behind(rest: Option<&[u8]>) -> Option<Manner>
     }
 }
 
-// 1 ; modifiers : kind, of which nothing must be there: the manner of a key that the last byte tells. It isn't inlined, so that it stays in
-// registers.
-#[inline(never)]
+// 1 ; modifiers : kind, of which nothing must be there: the manner of a key that the last byte tells.
+#[inline(always)]
 fn manner_behind_one(t: &[u8]) -> Option<Manner>
     ensures { (code : Code) → option_map (rules.report_of (Named code)) result ≡ lettered_of_fields code (fields t.now) }
 {
@@ -146,17 +145,24 @@ fn manner_behind_one(t: &[u8]) -> Option<Manner>
 fn lettered_key(t: &[u8]) -> Option<PlainReport>
     ensures { option_map plain_report result ≡ rules.lettered_key t.now }
 {
-    let key = reported_keys::lettered_key(*t.last()?)?;
+    let last = *t.last()?;
+    // It ends positions of the cursor, and no key of these.
+    if last == b'R' {
+        return None;
+    }
+    // The table of letters is read last, so that it is read without a branch for each letter.
     let manner = manner_behind_one(&t[..t.len() - 1])?;
+    let key = reported_keys::lettered_key(last)?;
     Some(PlainReport::new(ReportedKey::Named(key), manner))
 }
 
-// n ; modifiers : kind ~, of which only n must be there: a key by its number, which is the first field.
+// n ; modifiers : kind, of which only n must be there: a key by its number.
 #[inline(always)]
-fn numbered_report(n: &[u8], rest: Option<&[u8]>) -> Option<PlainReport>
-    ensures { option_map plain_report result ≡ numbered_of_fields (n.now ∷ fields_in semicolon rest.entry) }
+fn numbered_report(body: &[u8]) -> Option<PlainReport>
+    ensures { option_map plain_report result ≡ numbered_of_fields (fields body.now) }
 {
-    let key = reported_keys::tilde_key(number(n, 0, LAST_FUNCTIONAL)?)?;
+    let (n, rest) = first_number(body, b';', MOST_DIGITS, 0, LAST_FUNCTIONAL)?;
+    let key = reported_keys::tilde_key(n)?;
     let manner = manner_behind(rest)?;
     Some(PlainReport::new(key, manner))
 }
@@ -174,12 +180,11 @@ fn key_of_code(c: char) -> KeyCode
     }
 }
 
-// 27 ; m ; c ~: the bits of the modifiers, and c, of what follows the first field.
-fn other_held(rest: Option<&[u8]>) -> Option<(u8, char)>
-    ensures { result ≡ other_of_fields (codes "27" ∷ fields_in semicolon rest.entry) }
+// m ; c behind 27 ;: the bits of the modifiers, and c.
+fn other_held(held: &[u8]) -> Option<(u8, char)>
+    ensures { result ≡ other_of_fields (codes "27" ∷ fields held.now) }
 {
-    let (m, c) = cut(rest?, b';');
-    let one_more = number(m, 1, 256)?;
+    let (one_more, c) = first_number(held, b';', MOST_DIGITS, 1, 256)?;
     Some(((one_more - 1) as u8, scalar(c?)?))
 }
 
@@ -225,13 +230,13 @@ fn other_report(modifiers: u8, c: char) -> PlainReport
 fn tilde_report(t: &[u8]) -> Option<PlainReport>
     ensures { option_map plain_report result ≡ first_some (rules.numbered_key t.now ∷ rules.other_key t.now ∷ []) }
 {
-    let (n, rest) = cut(before_end(t, b"~")?, b';');
-    match n {
-        [b'2', b'7'] => {
-            let (modifiers, c) = other_held(rest)?;
+    let body = before_end(t, b"~")?;
+    match body {
+        [b'2', b'7', b';', held @ ..] => {
+            let (modifiers, c) = other_held(held)?;
             Some(other_report(modifiers, c))
         }
-        _ => numbered_report(n, rest),
+        _ => numbered_report(body),
     }
 }
 
@@ -241,8 +246,8 @@ fn tilde_report(t: &[u8]) -> Option<PlainReport>
 fn plain_character_key(t: &[u8]) -> Option<PlainReport>
     ensures { IfSome result (λ report. rules.character_key t.now ≡ Some (plain_report report)) }
 {
-    let (own, rest) = cut(before_end(t, b"u")?, b';');
-    let own = scalar(own)?;
+    let (n, rest) = first_number(before_end(t, b"u")?, b';', MOST_DIGITS, 0, 0x10ffff)?;
+    let own = character_at(n)?;
     let manner = manner_behind(rest)?;
     Some(PlainReport::new(reported_keys::key_of(own), manner))
 }
@@ -288,6 +293,7 @@ pub(crate) fn key_report(t: &[u8]) -> Option<SpelledReport<'_>>
 
 // 1 ; modifiers : kind R, of which only R must be there: F3, where no position of the cursor can be meant.
 #[tactic(auto, unfolding(crate::specs::KeyReports::third_function_key))]
+#[inline(always)]
 pub(crate) fn third_function_key(t: &[u8]) -> Option<PlainReport>
     ensures { option_map plain_report result ≡ rules.third_function_key t.now }
 {

@@ -12,7 +12,7 @@ ghost use Rattle.termwiz_extended_events.specs.Replies.{position_of_fields, mark
 use crate::fields::{Fields, after_start, before_end};
 use crate::meanings::Meaning;
 use crate::mouse_reports::{byte_kind_of, named_button};
-use crate::numbers::{FEW_DIGITS, number_within, place_number, short_number};
+use crate::numbers::{FEW_DIGITS, first_number, number_within, place_number, short_number};
 use crate::types::{MouseKind, MouseReport};
 use termwiz_base::{MouseReport as Decoded, sgr_mouse};
 use termwiz_keys::types::MouseButtons;
@@ -36,13 +36,12 @@ pub(crate) fn focus(t: &[u8]) -> Option<Meaning<'static>>
 fn position(body: &[u8]) -> Option<Meaning<'static>>
     ensures { IsMeant result (position_of_fields (fields body.now)) }
 {
-    let mut fields = Fields::new(body, b';');
-    let row = place_number(fields.next()?)?;
-    let column = place_number(fields.next()?)?;
-    match fields.next() {
-        Some(_) => None,
-        None => Some(Meaning::CursorPosition { row, column }),
-    }
+    let (row, rest) = first_number(body, b';', FEW_DIGITS, 1, 65535)?;
+    let column = place_number(rest?)?;
+    Some(Meaning::CursorPosition {
+        row: row as u16,
+        column,
+    })
 }
 
 // row ; column ; page, of which the page may be missing.

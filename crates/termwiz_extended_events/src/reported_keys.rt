@@ -249,16 +249,16 @@ fn function_key(codes: &[(u8, u8)], number: u32) -> Option<KeyCode>
     None
 }
 
-// The key of a number that isn't functional.
+// The key of a number that isn't functional. Each table has numbers of its own, and is read without a branch for each number.
 fn key_with_number(number: u32) -> Option<KeyCode>
     ensures { result ≡ key_with_number number }
 {
-    if 35 <= number && number <= 38 {
-        return Some(KeyCode::Function((number - 14) as u8));
+    match number {
+        0..=10 => entry_at(EDIT_KEYS, number),
+        11..=34 => function_key(FUNCTION_CODES, number),
+        35..=38 => Some(KeyCode::Function((number - 14) as u8)),
+        _ => function_key(HIGH_FUNCTION_CODES, number),
     }
-    entry_at(EDIT_KEYS, number)
-        .or(function_key(FUNCTION_CODES, number))
-        .or(function_key(HIGH_FUNCTION_CODES, number))
 }
 
 // The key of a number with a tilde at the end.
