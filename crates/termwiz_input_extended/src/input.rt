@@ -205,18 +205,13 @@ impl ExtendedParser {
         self.parser.waiting_len()
     }
 
-    // What is at the front of the buffer.
+    // What is at the front of the buffered bytes.
     #[inline(always)]
-    fn next_item(&self, maybe_more: bool) -> NextItem
+    fn next_item(&self, text: &[u8], maybe_more: bool) -> NextItem
+        requires { text.now ≡ self.now.text }
         ensures { IsNextItem self.now.reading self.now.text maybe_more result }
     {
-        next_item(
-            &self.parser,
-            self.reading,
-            self.parser.waiting_text(),
-            self.scanned,
-            maybe_more,
-        )
+        next_item(&self.parser, self.reading, text, self.scanned, maybe_more)
     }
 
     /// Forgets what stays buffered and which positions are expected, and returns how many bytes were buffered. It asks for no memory and frees
@@ -462,7 +457,7 @@ impl ExtendedParser {
     {
         let reading = self.reading;
         let text = self.waiting_text();
-        match self.next_item(maybe_more) {
+        match self.next_item(text, maybe_more) {
             NextItem::Form(len)
                 if is_extra_at(
                     &self.parser,

@@ -165,7 +165,8 @@ impl ExtendedParser {
     fn emit_item<S: EventSink>(&mut self, sink: &mut S, maybe_more: bool) -> Emitted
         ensures { Emits S.takes self.old sink.old maybe_more self.new sink.new result }
     {
-        match self.next_item(maybe_more) {
+        let text = self.waiting_text();
+        match self.next_item(text, maybe_more) {
             NextItem::Control(byte) => {
                 let decided = decided_key(self.reading, byte);
                 self.consume(1);
@@ -174,7 +175,7 @@ impl ExtendedParser {
             }
             NextItem::Form(len) => {
                 // The frame of `emit_form` is large.
-                if let Some(report) = plain_report_at(self.waiting_text(), len) {
+                if let Some(report) = plain_report_at(text, len) {
                     self.consume(len);
                     sink.emit(Event::Key(report.whole(self.alloc)));
                     return Ok(true);

@@ -55,8 +55,8 @@ returns-in-Some g c =
     let reading = c.args.self.now.reading in
     let u = c.args.self.now.text in
     let len = c.in-Form.len in
-    let found = subst (λ t. IsExtraAt reading t len × (event_in reading (take len t) ≡ Key (plain_report c.in-Some.report))) c.waiting_text.ensures
-    (c.in-Some.ensures reading (subst (λ t. IsFormAt reading t len) (sym c.waiting_text.ensures) c.in-Form.ensures)) in
+    let found = subst (λ t. IsExtraAt reading t len × (event_in reading (take len t) ≡ Key (plain_report c.in-Some.report))) c.waiting_text-text.ensures
+    (c.in-Some.ensures reading (subst (λ t. IsFormAt reading t len) (sym c.waiting_text-text.ensures) c.in-Form.ensures)) in
     emits_event g.S.EventSink.takes c.args.self.now _ c.args.sink.now _ c.args.maybe_more (Key c.whole.result)
     (subst (λ t. Steps reading u c.args.maybe_more (Key c.whole.result ∷ []) t)
     (sym (ap (λ (b : Buffered). b.text) c.consume-in-Some.ensures))

@@ -7,5 +7,4 @@ use Rattle.termwiz_input_extended.proofs.input.ExtendedParser.next_item.Goals as
 pub returns : goal.returns
 returns c =
     subst (λ (r : Reading). IsNextItem r c.args.self.now.text c.args.maybe_more c.next_item.result) (ap (λ (b : Buffered). b.reading) c.self.view_is)
-    (subst (λ t. IsNextItem c.self.inside.reading t c.args.maybe_more c.next_item.result) (ap (λ (b : Buffered). b.text) c.self.view_is)
-    (subst (λ t. IsNextItem c.self.inside.reading t c.args.maybe_more c.next_item.result) c.waiting_text.ensures c.next_item.ensures))
+    (subst (λ t. IsNextItem c.self.inside.reading t c.args.maybe_more c.next_item.result) c.requires c.next_item.ensures)
