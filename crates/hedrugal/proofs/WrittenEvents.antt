@@ -288,6 +288,14 @@ module _ (before : ParserAndText) (array : List CEvent) (room : List ℕ) where
             one_more_whole events count used array array' room room' event c _ _ whole written is few,
           )
 
+      -- the same of an event that brings no bytes
+      pub one_more_empty : c.text_len ≤ 0
+          → WroteWhole before array room (count + 1) used (slice_set array' count c) (put_mid used (length room' - used) room' part) next
+      one_more_empty none =
+          let len : used + c.text_len ≡ used = omega (arith, none) in
+          subst (λ n. WroteWhole before array room (count + 1) n (slice_set array' count c) (put_mid used (length room' - used) room' part) next)
+          len (one_more_wrote (omega (arith, none)))
+
       -- the last event, whose bytes are cut off
       pub last_wrote : length room' - used < c.text_len
           → WroteEvents before array (slice_set array' count c) room (put_mid used (length room' - used) room' part) (count + 1) 0 next
@@ -308,11 +316,9 @@ pub one_more_bare : (here next : ParserAndText) (count : ℕ) (array' : List CEv
 one_more_bare here next count array' c inside took none = λ before array room room' used wrote.
     let part = mid_of used (length room' - used) room' in
     let within : count < length array = omega (arith, inside, array_len wrote.0 count used array array' room room' wrote.2) in
-    let more = one_more_wrote before array room count used array' room' here wrote c next part within
+    let more = one_more_empty before array room count used array' room' here wrote c next part within
     (no_bytes_copied here next c part took (omega (arith, none))) (omega (arith, none)) in
-    let len : used + c.text_len ≡ used = omega (arith, none) in
-    subst (λ n. WroteWhole before array room (count + 1) n (slice_set array' count c) room' next) len
-    (subst (λ r. WroteWhole before array room (count + 1) (used + c.text_len) (slice_set array' count c) r next) (put_back used room') more)
+    subst (λ r. WroteWhole before array room (count + 1) used (slice_set array' count c) r next) (put_back used room') more
 
 -- no event more
 pub none_more : (here next : ParserAndText) (count : ℕ) (array' : List CEvent) (c d : CEvent) → next ≡ here → c ≡ get_or array' count d

@@ -66,10 +66,12 @@ fn write_events(
         match tell(held, shown, &mut room[used..]) {
             Ok(true) => {
                 *count += 1;
-                if shown.text_len > left {
-                    return OK;
+                if shown.text_len > 0 {
+                    if shown.text_len > left {
+                        return OK;
+                    }
+                    used += shown.text_len;
                 }
-                used += shown.text_len;
                 // Text is typed in runs.
                 if shown.key == KEY_CHAR {
                     write_characters(held, events, count);

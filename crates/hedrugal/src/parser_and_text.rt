@@ -43,8 +43,9 @@ impl EventSink for ShownEvent<'_> {
     fn emit(&mut self, event: Event) {
         show(&event, self.event);
         match own_bytes(event) {
-            Some(bytes) => *self.text = bytes,
-            None => self.text.clear(),
+            Some(bytes) if !bytes.is_empty() || self.text.capacity() > KEPT_ROOM => *self.text =
+                bytes,
+            _ => self.text.clear(),
         }
     }
 
