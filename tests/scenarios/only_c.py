@@ -5,7 +5,7 @@ import signal
 from terminal import CONTINUE, END, START
 
 from scenarios.program import Program, check, expect
-from scenarios.questions import ASK, ASKED, ATTRIBUTES, ATTRIBUTES_TOLD, LAST, OVER, POSITION
+from scenarios.questions import ASK, ASKED, ATTRIBUTES_TOLD, LAST, OVER, POSITION
 from scenarios.questions import POSITION_TOLD, QUESTION, REPLY, TOLD
 from scenarios.row import BACK, CTRL_F3, CTRL_UP, UP, Row, key, press
 
@@ -16,9 +16,15 @@ def owed(count):
     return [*press("O"), f"owed {count}"]
 
 
+# Longer than the place of a short paste's bytes.
+LONG = "?62;22;28;29;30;31;32;33;34;35;36c"
+
+
 def refused_reply(which):
-    """The request of that key is refused. The failure is told once, and the reply is counted."""
-    return [*ASK, *press(which), ATTRIBUTES, "failed", ATTRIBUTES_TOLD, *owed(0)]
+    """The request of that key is refused. The failure is told once, and the reply is counted. The
+    place of the last reply's bytes is kept for the next, but a paste has one of its own."""
+    paste, reply = [START + b"a" + END, 'paste "a"'], f"\033[{LONG}".encode()
+    return [*ASK, *paste, *press(which), reply, "failed", f'csi "{LONG}"', *owed(0)]
 
 
 ROWS = {
